@@ -1,0 +1,101 @@
+#!/usr/bin/env python3
+"""Runs each command of guppy-run on large inputs of three sizes, n, 2n and 4n.
+
+Prints time, peak memory and the exponent of growth between two sizes: 1 is linear.
+usage: bench.py [PACKAGES]     4n packages, 200000 if left out
+"""
+
+import math
+import os
+import random
+import subprocess
+import sys
+import tempfile
+import time
+
+ROOT = os.path.dirname(os.path.dirname(os.path.abspath(__file__)))
+WRAPPER = os.path.join(ROOT, "guppy-run")
+PROGRAM = os.path.join(ROOT, "crates", "guppy_run", "out", "guppy_run")
+
+
+def chain(count):
+    return count, [(i, i + 1) for i in range(count - 1)]
+
+
+def scattered(count):
+    """Five links a package, between packages picked at random."""
+    picks = random.Random(count)
+    links = set()
+    while len(links) < 5 * count:
+        links.add((picks.randrange(count), picks.randrange(count)))
+    return count, sorted(links, key=lambda _: picks.random())
+
+
+def star(count):
+    """Half of the packages depend on the first one, and it depends on the other half."""
+    half = count // 2
+    return count, [(0, i) for i in range(1, half)] + [(i, 0) for i in range(half, count)]
+
+
+GRAPHS = [("chain", chain), ("scattered", scattered), ("star", star)]
+
+
+def commands(count):
+    last = f"p{count - 1}"
+    return [["reach", "forward", "p0"], ["depends", "p0", last], ["depends", last, "p0"]]
+
+
+def write_input(path, graph):
+    count, links = graph
+    sections = ["normal", "build", "dev"]
+    with open(path, "w", encoding="ascii") as file:
+        file.writelines(f"package p{i}\n" for i in range(count))
+        file.writelines(f"link p{a} p{b} {sections[k % 3]}\n" for k, (a, b) in enumerate(links))
+
+
+def make_input(name, count, path):
+    """The number of links of the graph that another process wrote: this one stays small, so that the
+    peak memory that the system tells of a run is the run's own."""
+    done = subprocess.run([sys.executable, os.path.abspath(__file__), "--write", name, str(count), path],
+                          stdout=subprocess.PIPE, check=True)
+    return int(done.stdout)
+
+
+def measure(words, path):
+    """Seconds and peak mebibytes of one run."""
+    with open(path, "rb") as source:
+        begun = time.perf_counter()
+        process = subprocess.Popen([PROGRAM] + words, stdin=source, stdout=subprocess.DEVNULL)
+        _, status, usage = os.wait4(process.pid, 0)
+        seconds = time.perf_counter() - begun
+    process.returncode = os.waitstatus_to_exitcode(status)
+    if process.returncode != 0:
+        sys.exit(f"bench: {' '.join(words)} ended with status {process.returncode}")
+    return seconds, usage.ru_maxrss / 1024
+
+
+def main():
+    if sys.argv[1:2] == ["--write"]:
+        graph = dict(GRAPHS)[sys.argv[2]](int(sys.argv[3]))
+        write_input(sys.argv[4], graph)
+        print(len(graph[1]))
+        return
+    largest = int(sys.argv[1]) if len(sys.argv) > 1 else 200_000
+    subprocess.run([WRAPPER, "depends", "a", "a"], input=b"package a\n", stdout=subprocess.DEVNULL, check=True)
+    print(f"{'graph':10} {'command':16} {'packages':>9} {'links':>9} {'seconds':>8} {'MiB':>7} {'growth':>7}")
+    with tempfile.TemporaryDirectory() as folder:
+        path = os.path.join(folder, "input")
+        for name, _ in GRAPHS:
+            before = {}
+            for count in (largest // 4, largest // 2, largest):
+                links = make_input(name, count, path)
+                for place, words in enumerate(commands(count)):
+                    seconds, memory = min(measure(words, path) for _ in range(3))
+                    growth = f"{math.log2(seconds / before[place]):7.2f}" if place in before else ""
+                    before[place] = seconds
+                    label = " ".join(words[:2]) if words[0] == "reach" else "depends" + (" back" if words[2] == "p0" else "")
+                    print(f"{name:10} {label:16} {count:9} {links:9} {seconds:8.3f} {memory:7.1f} {growth:>7}", flush=True)
+
+
+if __name__ == "__main__":
+    main()

@@ -1,0 +1,9 @@
+pub mod Ids
+pub mod Links
+pub mod Accepted
+pub mod Parts
+pub mod Graph
+pub mod Refused
+pub mod Depends
+pub mod Query
+pub mod Iterators

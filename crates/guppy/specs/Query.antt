@@ -1,0 +1,35 @@
+-- Sets of packages and queries as values.
+use Rattle.std.specs.Prelude.{◌≡◌, ◌↔◌, ℕ, Bool, List, length, All}
+use Rattle.std.specs.List.{Contains}
+use Rattle.guppy_core.specs.declared.ix.direction.DependencyDirection.{DependencyDirection}
+use Rattle.guppy_core.specs.IxSet.{IsIn}
+use Rattle.guppy_data.specs.declared.records.PackageRecord.{PackageRecord}
+use Rattle.guppy.specs.Ids.{HasId, IsKnown}
+use Rattle.guppy.specs.Graph.{GraphData}
+
+-- a set of packages of a graph, as the set of their positions
+pub record SetData : Type 0 where
+  pub graph : GraphData
+  pub included : List Bool
+
+-- where a query starts, and the direction in which it follows links
+pub record QueryData : Type 0 where
+  pub graph : GraphData
+  pub initials : List Bool
+  pub direction : DependencyDirection
+
+-- each ID is a package's, and the positions are those of these packages
+pub record AreNamed (packages : List PackageRecord) (ids : List (List ℕ)) (positions : List ℕ) : Type 0 where
+  pub known : All (IsKnown packages) ids
+  pub there : (p : ℕ) (id : List ℕ) → Contains ids id → HasId packages id p → Contains positions p
+  pub named : (p : ℕ) → Contains positions p → (id : List ℕ) × Contains ids id × HasId packages id p
+
+-- each ID is a package's, and the set has exactly these packages
+pub record IsNamedSet (packages : List PackageRecord) (ids : List (List ℕ)) (set : List Bool) : Type 0 where
+  pub count_is : length set ≡ length packages
+  pub known : All (IsKnown packages) ids
+  pub members : (p : ℕ) → IsIn set p ↔ ((id : List ℕ) × Contains ids id × HasId packages id p)
+
+-- the package with the ID is in the set
+abbrev pub IncludesId : SetData → List ℕ → Type 0
+IncludesId s id = (p : ℕ) × HasId s.graph.packages id p × IsIn s.included p

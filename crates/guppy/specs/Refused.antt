@@ -1,0 +1,55 @@
+-- What an error tells.
+use Rattle.std.specs.Prelude.{◌≡◌, ℕ, List, ◌∷◌, ◌++◌, All}
+use Rattle.guppy_core.specs.declared.graph_core.graph.GraphFault.{GraphFault}
+use Rattle.guppy_core.specs.declared.graph_core.graph.GraphFault.TheVariants.{TooManyNodes, TooManyLinks, UnknownEnd, RepeatedLink, OutOfMemory as GraphMemory}
+use Rattle.guppy_data.specs.declared.texts.fault.ConstructFault.{ConstructFault}
+use Rattle.guppy_data.specs.declared.texts.fault.ConstructFault.TheVariants.{TooManyPackages, UnknownLinkEnd, TooManyLinks as TooManyLinkRecords, RepeatedLink as RepeatedLinkRecord}
+use Rattle.guppy_data.specs.declared.texts.error.Error.{Error}
+use Rattle.guppy_data.specs.declared.texts.error.Error.TheVariants.{PackageGraphConstructError, UnknownPackageId, UnknownFeatureId, UnknownWorkspacePath, UnknownWorkspaceName, PackageGraphInternalError, FeatureGraphInternalError, OutOfMemory}
+use Rattle.guppy_data.specs.declared.records.PackageRecord.{PackageRecord}
+use Rattle.guppy_data.specs.declared.records.LinkRecord.{LinkRecord}
+use Rattle.guppy_data.specs.declared.records.WorkspaceRecord.{WorkspaceRecord}
+use Rattle.guppy.specs.Ids.{IsKnown}
+use Rattle.guppy.specs.Accepted.{IsFirstFault}
+
+-- the error tells a fault of which P holds, or that memory ran out
+abbrev pub TellsFault : (ConstructFault → Type 0) → Error → Type 0
+TellsFault P (PackageGraphConstructError f) = P f
+TellsFault P (UnknownPackageId id) = ⊥
+TellsFault P (UnknownFeatureId id feature) = ⊥
+TellsFault P (UnknownWorkspacePath path) = ⊥
+TellsFault P (UnknownWorkspaceName name) = ⊥
+TellsFault P (PackageGraphInternalError f) = ⊥
+TellsFault P (FeatureGraphInternalError text) = ⊥
+TellsFault P OutOfMemory = Unit {0}
+
+-- the error tells the first fault of the records, or that memory ran out
+abbrev pub IsRefusal : List PackageRecord → List LinkRecord → WorkspaceRecord → Error → Type 0
+IsRefusal packages links workspace = TellsFault (IsFirstFault packages links workspace)
+
+-- the error names an ID of which P holds, or tells that memory ran out
+abbrev pub NamesId : (List ℕ → Type 0) → Error → Type 0
+NamesId P (PackageGraphConstructError f) = ⊥
+NamesId P (UnknownPackageId id) = P id
+NamesId P (UnknownFeatureId id feature) = ⊥
+NamesId P (UnknownWorkspacePath path) = ⊥
+NamesId P (UnknownWorkspaceName name) = ⊥
+NamesId P (PackageGraphInternalError f) = ⊥
+NamesId P (FeatureGraphInternalError text) = ⊥
+NamesId P OutOfMemory = Unit {0}
+
+-- the ID is the first of the list that is no package's
+pub record IsFirstUnknown (packages : List PackageRecord) (ids : List (List ℕ)) (id : List ℕ) : Type 0 where
+  pub before : List (List ℕ)
+  pub after : List (List ℕ)
+  pub place : ids ≡ before ++ id ∷ after
+  pub known : All (IsKnown packages) before
+  pub unknown : IsKnown packages id → ⊥
+
+-- the error of a fault of a graph's parts
+abbrev pub error_of : GraphFault → Error
+error_of (RepeatedLink l) = PackageGraphConstructError (RepeatedLinkRecord l)
+error_of (UnknownEnd l) = PackageGraphConstructError (UnknownLinkEnd l)
+error_of TooManyNodes = PackageGraphConstructError TooManyPackages
+error_of TooManyLinks = PackageGraphConstructError TooManyLinkRecords
+error_of GraphMemory = OutOfMemory

@@ -1,0 +1,11 @@
+pub mod Lists
+pub mod Members
+pub mod Marks
+pub mod Positions
+pub mod Along
+pub mod Numbers
+pub mod Rows
+pub mod Finding
+pub mod Repeats
+pub mod Searching
+pub mod Reached

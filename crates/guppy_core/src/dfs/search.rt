@@ -1,0 +1,85 @@
+ghost use Rattle.std.specs.Prelude.{◌≡◌, ◌↔◌, ◌⊎◌, ℕ, ◌+◌, ◌<◌, ◌≤◌, ◌^◌, Bool, true, List, [], ◌∷◌, ◌++◌, length, IfOk, OnErr, slice_set, vec_len, vec_capacity};
+ghost use Rattle.guppy_core.specs.IxSet.{IsIn};
+ghost use Rattle.guppy_core.specs.Reach.{LinkStep, ReachedFrom};
+ghost use Rattle.guppy_core.specs.Resolve.{JudgesResolve, AcceptsAll, Visits};
+
+use crate::dfs::visitor::{AcceptAll, LinkVisitor};
+use crate::graph_core::Graph;
+use crate::ix::{DependencyDirection, GraphSpec, IndexType, IxSet};
+use std::alloc::AllocError;
+
+/// The positions that the initial ones lead to over links in the direction, the initial ones among
+/// them. The set is one of the graph's positions.
+///
+/// Time grows with the nodes and the links that leave the result. Takes memory for the set and a
+/// number a node, and fails only where there is none.
+pub fn reachable<G: GraphSpec>(
+    graph: &Graph<G>,
+    initials: &IxSet<G>,
+    direction: DependencyDirection,
+) -> Result<IxSet<G>, AllocError>
+    requires { length initials.now ≡ length graph.now.nodes }
+    ensures count { IfOk result (λ set. length set ≡ length graph.now.nodes) }
+    ensures judged { IfOk result (λ set. (trace : List (ℕ × Bool))
+        × JudgesResolve direction graph.now.links initials.now trace set × AcceptsAll trace) }
+    ensures reached { IfOk result (λ set. (p : ℕ)
+        → IsIn set p ↔ ReachedFrom (LinkStep direction graph.now.links) (IsIn initials.now) p) }
+{
+    let mut visitor = AcceptAll;
+    let set = reachable_with(graph, initials, direction, &mut visitor)?;
+    Ok(set)
+}
+
+/// The positions that the initial ones lead to over the links that the visitor accepts, the initial
+/// ones among them. The visitor is shown each link that leaves one of these positions exactly once,
+/// after that position was included, and no other link.
+///
+/// Time grows with the nodes and the links that leave the result. Takes memory for the set and a
+/// number a node, all of it before the first link is shown: where there is none, the visitor is as
+/// it was.
+pub fn reachable_with<G: GraphSpec, V: LinkVisitor>(
+    graph: &Graph<G>,
+    initials: &IxSet<G>,
+    direction: DependencyDirection,
+    visitor: &mut V,
+) -> Result<IxSet<G>, AllocError>
+    requires count { length initials.now ≡ length graph.now.nodes }
+    requires ready { (n : ℕ) → n < length graph.now.links → V.can_visit visitor.old n }
+    ensures count { IfOk result (λ set. length set ≡ length graph.now.nodes) }
+    ensures judged { IfOk result (λ set. (trace : List (ℕ × Bool))
+        × JudgesResolve direction graph.now.links initials.now trace set
+        × Visits V.visits visitor.old trace visitor.new) }
+    ensures ready { (n : ℕ) → n < length graph.now.links → V.can_visit visitor.new n }
+    ensures same_place { V.place visitor.new ≡ V.place visitor.old }
+    ensures not_begun { OnErr result (visitor.new ≡ visitor.old) }
+{
+    let mut set = IxSet::empty(graph.alloc(), graph.node_count())?;
+    let mut waiting = Vec::with_capacity(graph.alloc(), graph.node_count())?;
+    'initials: for ix in initials.ones() {
+        include(&mut set, &mut waiting, ix.index());
+    }
+    'positions: while let Some(position) = waiting.pop() {
+        'links: for number in graph.links_at(position, direction) {
+            if !visitor.visit(*number) {
+                continue;
+            }
+            let far_end = graph.link(*number).far_end(direction);
+            include(&mut set, &mut waiting, far_end);
+        }
+    }
+    Ok(set)
+}
+
+// Puts the position into the set and among those that wait, unless the set has it.
+fn include<G: GraphSpec>(set: &mut IxSet<G>, waiting: &mut Vec<usize>, position: usize)
+    requires in_range { position < length set.old }
+    requires small { position < 2 ^ 32 }
+    requires room { ¬ IsIn set.old position → vec_len waiting.old < vec_capacity waiting.old }
+    ensures cases { (IsIn set.old position × (set.new ≡ set.old) × (waiting.new.items ≡ waiting.old.items))
+        ⊎ (¬ IsIn set.old position × (set.new ≡ slice_set set.old position true) × (waiting.new.items ≡ waiting.old.items ++ position ∷ [])) }
+    ensures capacity { vec_capacity waiting.new ≡ vec_capacity waiting.old }
+{
+    if set.insert(position) {
+        waiting.push_reserved(position);
+    }
+}

@@ -1,0 +1,7 @@
+//! Graphs: nodes, links with their data, and the links that leave each node.
+mod build;
+mod graph;
+mod link;
+
+pub use graph::{Graph, GraphFault};
+pub use link::Link;

@@ -1,0 +1,8 @@
+//! Directions, index types and sets of positions.
+mod direction;
+mod index_type;
+mod ix_set;
+
+pub use direction::DependencyDirection;
+pub use index_type::{GraphSpec, IndexType, PackageIx};
+pub use ix_set::{IxOnes, IxSet};

@@ -1,0 +1,5 @@
+pub mod Cuts
+pub mod Searched
+pub mod Sources
+pub mod Statuses
+pub mod Ternaries

@@ -1,0 +1,9 @@
+pub mod Component
+pub mod ExternalSource
+pub mod Path
+pub mod Platform
+pub mod SamePath
+pub mod Sorted
+pub mod Ternary
+pub mod Texts
+pub mod Utf8Path

@@ -1,0 +1,10 @@
+pub mod Device
+pub mod Text
+pub mod Command
+pub mod Shown
+pub mod Fault
+pub mod Records
+pub mod Reading
+pub mod Loaded
+pub mod Answer
+pub mod Run

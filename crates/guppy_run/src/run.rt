@@ -1,0 +1,74 @@
+//! The program, over any source and sink.
+ghost use Rattle.std.specs.Prelude.{◌≡◌, ◌↔◌, ℕ, false, map, string_bytes, Err, OnOk, IsNone, IsErrOf};
+ghost use Rattle.std.specs.Io.KnownBytes.{Appends};
+ghost use Rattle.guppy_data.specs.declared.texts.error.Error.{Error};
+ghost use Rattle.guppy_run.specs.Command.{command_of};
+ghost use Rattle.guppy_run.specs.Text.{IsFirstBadLine};
+ghost use Rattle.guppy_run.specs.Reading.{is_input_fault, is_output_fault};
+ghost use Rattle.guppy_run.specs.Run.{IsAnswered, IsBegun, IsLibraryRefusal, OfWholeInput, WritesNothing};
+
+use crate::answer::answer;
+use crate::command::command_of;
+use crate::device::{Sink, Source};
+use crate::fault::RunFault;
+use crate::load::load;
+use crate::transfer::{read_all, write_all};
+use std::alloc::Global;
+
+/// Reads the whole input, and writes what the command that `args` give prints of its package graph.
+///
+/// `args` are the arguments without the program's own name. They are judged first: where they are no
+/// command, `BadArguments` comes, and nothing is read and no memory taken. Then all input is read, and
+/// kept; then its lines are judged, then its records, then the IDs that the command names, and the first
+/// fault is given. Want of memory may come at any growth, in place of every fault not yet found. The
+/// answer is whole before its first byte is written, so a refusal writes nothing, and `OutputFailed`
+/// leaves a beginning of the answer.
+///
+/// Neither device may have failed before. Time grows with the input's length, and with the packages and
+/// links times the logarithm of the packages.
+pub fn run<R: Source, W: Sink>(
+    alloc: Global,
+    args: &[String],
+    reader: &mut R,
+    writer: &mut W,
+) -> Result<(), RunFault>
+    requires input_works { R.has_failed reader.old ≡ false }
+    requires output_works { W.has_failed writer.old ≡ false }
+
+    // All input was read, and what was written is an answer to it.
+    ensures ok { OnOk result (OfWholeInput (R.left reader.old) (R.left reader.new) (λ input.
+        IsAnswered (map string_bytes args.now) input (Appends (W.written writer.old) (W.written writer.new)))) }
+
+    // The arguments are no command, and nothing was read.
+    ensures arguments { IsErrOf result RunFault.BadArguments ↔ IsNone (command_of (map string_bytes args.now)) }
+    ensures arguments_read { IsErrOf result RunFault.BadArguments → reader.new ≡ reader.old }
+
+    // All input was read, and this is its first bad line.
+    ensures bad_line { (n : ℕ) → result ≡ Err (RunFault.BadLine n) →
+        OfWholeInput (R.left reader.old) (R.left reader.new) (λ input. IsFirstBadLine input n) }
+
+    // All input was read and every line of it is good, and the error is the first fault of the records,
+    // or where they have none, the first unknown ID of the command; or memory ran out.
+    ensures library { (error : Error) → result ≡ Err (RunFault.Library error) →
+        IsLibraryRefusal (map string_bytes args.now) (R.left reader.old) (R.left reader.new) error }
+
+    // The devices are blamed exactly where they failed.
+    ensures input_failed { R.has_failed reader.new ≡ is_input_fault result }
+    ensures output_failed { W.has_failed writer.new ≡ is_output_fault result }
+
+    // A refusal writes nothing, and a write that fails leaves a beginning of an answer.
+    ensures refused { WritesNothing writer.old writer.new result }
+    ensures begun { IsErrOf result RunFault.OutputFailed → OfWholeInput (R.left reader.old) (R.left reader.new) (λ input.
+        IsBegun (map string_bytes args.now) input (Appends (W.written writer.old) (W.written writer.new))) }
+{
+    let Some(command) = command_of(args) else {
+        return Err(RunFault::BadArguments);
+    };
+    let input = read_all(alloc, reader)?;
+    let graph = load(alloc, input.as_slice())?;
+    let text = answer(alloc, &graph, &command)?;
+    match write_all(writer, text.as_bytes()) {
+        Ok(()) => Ok(()),
+        Err(_) => Err(RunFault::OutputFailed),
+    }
+}
