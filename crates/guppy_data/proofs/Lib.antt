@@ -1,4 +1,6 @@
+pub mod Ascending
 pub mod Cuts
+pub mod Listed
 pub mod Searched
 pub mod Sources
 pub mod Statuses

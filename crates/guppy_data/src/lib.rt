@@ -19,7 +19,10 @@ pub use platform::spec::PlatformSpec;
 pub use platform::status::{PlatformEval, PlatformStatus, PlatformStatusImpl};
 pub use platform::target::{TargetEval, TargetSpec};
 pub use platform::ternary::EnabledTernary;
-pub use records::{LinkRecord, PackageRecord, WorkspaceRecord};
+pub use records::{
+    BuildTargetKindRecord, BuildTargetRecord, DepRequiredOrOptional, DependencyReqImpl, LinkRecord,
+    OwnedBuildTargetId, PackagePublishRecord, PackageRecord, PackageSourceRecord, WorkspaceRecord,
+};
 pub use texts::component::{Component, Components};
 pub use texts::dependency_kind::DependencyKind;
 pub use texts::error::Error;
@@ -30,4 +33,11 @@ pub use texts::path::Utf8Path;
 pub use texts::path_buf::Utf8PathBuf;
 pub use texts::sorted_set::SortedSet;
 pub use texts::warning::{FeatureBuildStage, FeatureGraphWarning};
+pub use views::build_target::BuildTarget;
+pub use views::build_target_id::BuildTargetId;
+pub use views::build_target_kind::BuildTargetKind;
+pub use views::dependency_req::{DependencyReq, Features};
+pub use views::enabled_status::EnabledStatus;
 pub use views::external_source::{ExternalSource, GitReq};
+pub use views::publish::PackagePublish;
+pub use views::source::PackageSource;

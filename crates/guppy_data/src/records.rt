@@ -1,12 +1,137 @@
-//! The records that a package graph is made of.
+//! The records that a package graph is made of: plain data, handed in by value.
 
+use crate::platform::status::PlatformStatusImpl;
+use crate::texts::named_feature::NamedFeatureDep;
 use crate::texts::package_id::PackageId;
+use crate::texts::path_buf::Utf8PathBuf;
+use crate::texts::sorted_set::SortedSet;
+use indexmap::{IndexMap, IndexSet};
+use semver::{Version, VersionReq};
+use serde_json::Value;
+use std::collections::BTreeMap;
 
 /// What is known of one package.
 #[derive(Debug, Drop)]
 pub struct PackageRecord {
     /// The ID of the package, which no other package of the graph has.
     pub id: PackageId,
+    /// The name, which only members of one workspace may not share.
+    pub name: String,
+    /// The version.
+    pub version: Version,
+    /// The authors.
+    pub authors: Vec<String>,
+    /// A description.
+    pub description: Option<String>,
+    /// The license, as an SPDX expression.
+    pub license: Option<String>,
+    /// The path of the license's text, from the manifest.
+    pub license_file: Option<Utf8PathBuf>,
+    /// Where the package comes from.
+    pub source: PackageSourceRecord,
+    /// The path of the package's `Cargo.toml`.
+    pub manifest_path: Utf8PathBuf,
+    /// The categories.
+    pub categories: Vec<String>,
+    /// The keywords.
+    pub keywords: Vec<String>,
+    /// The path of the readme, from the manifest.
+    pub readme: Option<Utf8PathBuf>,
+    /// The URL of the repository.
+    pub repository: Option<String>,
+    /// The URL of the homepage.
+    pub homepage: Option<String>,
+    /// The URL of the documentation.
+    pub documentation: Option<String>,
+    /// The Rust edition.
+    pub edition: String,
+    /// The manifest's free table `package.metadata`.
+    pub metadata_table: Value,
+    /// The native library that the package links to.
+    pub links: Option<String>,
+    /// Where the package may be published.
+    pub publish: PackagePublishRecord,
+    /// The binary that `cargo run` runs.
+    pub default_run: Option<String>,
+    /// The oldest Rust that builds the package.
+    pub rust_version: Option<Version>,
+    /// The named features and what each switches on, in the order of the manifest.
+    pub named_features: IndexMap<String, Vec<NamedFeatureDep>>,
+    /// The names of the optional dependencies, in the order of the manifest.
+    pub optional_deps: IndexSet<String>,
+    /// The build targets, no two of one ID.
+    pub build_targets: Vec<BuildTargetRecord>,
+}
+
+/// Where a package comes from.
+#[derive(Debug, Drop)]
+pub enum PackageSourceRecord {
+    /// The package is a member of the workspace, at this path from its root.
+    Workspace(Utf8PathBuf),
+    /// The package lies at this path from the workspace's root, and is no member.
+    Path(Utf8PathBuf),
+    /// The package comes from elsewhere: a registry or a repository.
+    External(String),
+}
+
+/// Where a package may be published.
+#[derive(Debug, Drop)]
+pub enum PackagePublishRecord {
+    /// Everywhere.
+    Unrestricted,
+    /// To these registries alone.
+    Registries(Vec<String>),
+}
+
+/// One target that is built of a package.
+#[derive(Debug, Drop)]
+pub struct BuildTargetRecord {
+    /// What the target is, and its name where it is no library or build script.
+    pub id: OwnedBuildTargetId,
+    /// What is made of the target.
+    pub kind: BuildTargetKindRecord,
+    /// The name of a library or build script, which has one. No other target uses it.
+    pub lib_name: Option<String>,
+    /// The features without which the target isn't built.
+    pub required_features: Vec<String>,
+    /// The path of the target's source.
+    pub path: Utf8PathBuf,
+    /// The Rust edition.
+    pub edition: String,
+    /// Whether the target is documented by default.
+    pub doc_by_default: bool,
+    /// Whether the target's documentation is tested by default.
+    pub doctest_by_default: bool,
+    /// Whether the target is tested by default.
+    pub test_by_default: bool,
+}
+
+/// What a build target is, and its name where it has one of its own.
+#[derive(Debug, Drop)]
+pub enum OwnedBuildTargetId {
+    /// The library.
+    Library,
+    /// The build script.
+    BuildScript,
+    /// A binary of this name.
+    Binary(String),
+    /// An example of this name.
+    Example(String),
+    /// A test of this name.
+    Test(String),
+    /// A benchmark of this name.
+    Benchmark(String),
+}
+
+/// What is made of a build target.
+#[derive(Debug, Drop)]
+pub enum BuildTargetKindRecord {
+    /// A library, or an example made as one, of these crate types.
+    LibraryOrExample(SortedSet<String>),
+    /// A procedural macro.
+    ProcMacro,
+    /// A binary.
+    Binary,
 }
 
 /// That one package depends on another.
@@ -16,8 +141,57 @@ pub struct LinkRecord {
     pub from: PackageId,
     /// The package depended on.
     pub to: PackageId,
+    /// The dependency's name in the manifest.
+    pub dep_name: String,
+    /// The dependency's name in the code.
+    pub resolved_name: String,
+    /// The versions that are asked for.
+    pub version_req: VersionReq,
+    /// The registry that is asked for.
+    pub registry: Option<String>,
+    /// The path that is asked for.
+    pub path: Option<Utf8PathBuf>,
+    /// The dependency as a normal one.
+    pub normal: DependencyReqImpl,
+    /// The dependency as a build dependency.
+    pub build: DependencyReqImpl,
+    /// The dependency as a dev-dependency.
+    pub dev: DependencyReqImpl,
+}
+
+/// On which platforms a dependency of one kind is there, required or optional.
+#[derive(Debug, Drop)]
+pub struct DependencyReqImpl {
+    /// The dependency where it is required.
+    pub required: DepRequiredOrOptional,
+    /// The dependency where it is optional.
+    pub optional: DepRequiredOrOptional,
+}
+
+/// On which platforms a dependency is built, and with which features.
+#[derive(Debug, Drop)]
+pub struct DepRequiredOrOptional {
+    /// Where it is built.
+    pub build_if: PlatformStatusImpl,
+    /// Where it is built with its default features.
+    pub default_features_if: PlatformStatusImpl,
+    /// Where it is built without its default features.
+    pub no_default_features_if: PlatformStatusImpl,
+    /// Where it is built with each of these features.
+    pub feature_targets: BTreeMap<String, PlatformStatusImpl>,
 }
 
 /// What is known of the workspace as a whole.
 #[derive(Debug, Drop)]
-pub struct WorkspaceRecord {}
+pub struct WorkspaceRecord {
+    /// The path of the workspace's root.
+    pub root: Utf8PathBuf,
+    /// The path that Cargo builds into.
+    pub target_directory: Utf8PathBuf,
+    /// The path of what Cargo makes on its way, where it is another one.
+    pub build_directory: Option<Utf8PathBuf>,
+    /// The manifest's free table `workspace.metadata`.
+    pub metadata_table: Value,
+    /// The packages that Cargo's commands act on where none is named. Each is a package of the graph.
+    pub default_members: Vec<PackageId>,
+}

@@ -1,6 +1,20 @@
-use crate::{ExternalSource, GitReq};
+mod dependency;
+mod filled;
+mod package;
+mod target;
+
+use crate::{ExternalSource, GitReq, Utf8PathBuf};
+use std::alloc::{AllocError, Global};
 use std::process::Abort;
 use std::test::Fail;
+
+fn text(alloc: Global, text: &str) -> Result<String, AllocError> {
+    String::from_str(alloc, text)
+}
+
+fn path(alloc: Global, path: &str) -> Result<Utf8PathBuf, AllocError> {
+    Ok(Utf8PathBuf::new(text(alloc, path)?))
+}
 
 fn assert_git(rt: &impl Abort, text: &str, repository: &str, req: GitReq<'_>, resolved: &str) {
     let source = ExternalSource::new(text).expect(rt, "a Git source");
