@@ -1,7 +1,7 @@
 -- How many positions a set has, and which.
-use Rattle.std.proofs.Common.{◌≡◌, ◌⊎◌, ⊎_elim, ℕ, suc, zero, ◌+◌, ◌<◌, ◌≤◌, ◌^◌, Bool, true, false, List, [], ◌∷◌, ◌++◌, length, replicate, refl, sym, ◌∙◌, subst, arith, inl, inr}
+use Rattle.std.proofs.Common.{◌≡◌, ◌⊎◌, ⊎_elim, ℕ, suc, zero, ◌+◌, ◌<◌, ◌≤◌, ◌^◌, Bool, true, false, List, [], ◌∷◌, ◌++◌, length, replicate, refl, sym, ap, ◌∙◌, subst, arith, inl, inr}
 use Rattle.std.specs.Prelude.{◌↔◌, Contains}
-use Rattle.std.proofs.Math.ListN.{set}
+use Rattle.std.proofs.Math.ListN.{set, length-replicate}
 use Rattle.std.proofs.lemmas.Bool.{cases_eq}
 use Rattle.std.proofs.lemmas.List.{get_or-set_same, get_or-set_other}
 use Rattle.std.proofs.lemmas.List.Elements.{Contains-push, Contains-push_cases, Contains-append_left}
@@ -84,3 +84,21 @@ pub IsIn-below : (s : List Bool) (p : ℕ) → IsIn s p → p < length s
 IsIn-below [] p h = absurd (cc)
 IsIn-below (x ∷ s) zero h = omega arith
 IsIn-below (x ∷ s) (suc p) h = omega (arith, IsIn-below s p h)
+
+-- a set that has each position
+pub all_members : (s : List Bool) → ((p : ℕ) → p < length s → IsIn s p) → s ≡ replicate (length s) true
+all_members [] all = refl
+all_members (x ∷ s) all =
+    let first : x ≡ true = all 0 (omega arith) in
+    let later = all_members s (λ p h. all (suc p) (omega arith)) in
+    ap (λ b. b ∷ s) first ∙ ap (λ t. true ∷ t) later
+
+-- of the set that has one position alone
+pub only_member : (n p q : ℕ) → IsIn (set (replicate n false) p true) q → p ≡ q
+only_member n p q h = elim (member-set_cases (replicate n false) p q h) [
+  | inl i ↦ absurd (let e : true ≡ false = sym i ∙ has-replicate n q in cc)
+  | inr e ↦ e
+]
+
+pub one_member : (n p : ℕ) → p < n → IsIn (set (replicate n false) p true) p
+one_member n p within = get_or-set_same (replicate n false) p true false (rw (length-replicate n false) within)

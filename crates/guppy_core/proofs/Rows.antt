@@ -37,14 +37,14 @@ module _ {E : Type 0} (d : DependencyDirection) (links : List (Link E)) (x : ℕ
       let at = row_links k h in
       rw (get_or_default _ k d 0 h) (slice_get_within links _ at.link at.found))
 
-slice_get-set_other : {A : Type 0} (xs : List A) (i p : ℕ) (v : A) → (p ≡ i → ⊥) → slice_get (set xs i v) p ≡ slice_get xs p
+pub slice_get-set_other : {A : Type 0} (xs : List A) (i p : ℕ) (v : A) → (p ≡ i → ⊥) → slice_get (set xs i v) p ≡ slice_get xs p
 slice_get-set_other [] i p v differs = refl
 slice_get-set_other (x ∷ xs) zero zero v differs = absurd (differs refl)
 slice_get-set_other (x ∷ xs) zero (suc p) v differs = refl
 slice_get-set_other (x ∷ xs) (suc i) zero v differs = refl
 slice_get-set_other (x ∷ xs) (suc i) (suc p) v differs = slice_get-set_other xs i p v (λ e. differs (ap suc e))
 
-slice_get-set_same : {A : Type 0} (xs : List A) (i : ℕ) (v : A) → i < length xs → slice_get (set xs i v) i ≡ Some v
+pub slice_get-set_same : {A : Type 0} (xs : List A) (i : ℕ) (v : A) → i < length xs → slice_get (set xs i v) i ≡ Some v
 slice_get-set_same xs i v h =
     let h' : i < length (set xs i v) = rw length-set h in
     slice_get-get_or (set xs i v) i v h' ∙ ap Some (get_or-set_same xs i v v h)

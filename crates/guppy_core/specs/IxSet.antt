@@ -1,5 +1,5 @@
 -- Sets of positions.
-use Rattle.std.specs.Prelude.{◌≡◌, ℕ, ◌+◌, ◌*◌, ◌/◌, ◌%◌, ◌<◌, ◌≤◌, ◌^◌, ◌==◌, Bool, true, false, List, [], ◌∷◌, length, map, drop, slice_index, slice_index_or, if◌then◌else◌}
+use Rattle.std.specs.Prelude.{◌≡◌, ◌⊎◌, ◌↔◌, ℕ, ◌+◌, ◌*◌, ◌/◌, ◌%◌, ◌<◌, ◌≤◌, ◌^◌, ◌==◌, Bool, true, false, List, [], ◌∷◌, length, map, drop, slice_index, slice_index_or, if◌then◌else◌}
 use Rattle.std.specs.Int.{bit_at}
 use Rattle.std.specs.List.{range_with_len}
 
@@ -12,6 +12,14 @@ has s p = slice_index_or s p false
 -- the position is in the set
 abbrev pub IsIn : List Bool → ℕ → Type 0
 IsIn s p = has s p ≡ true
+
+-- each position of the first set is in the second
+abbrev pub IsSubset : List Bool → List Bool → Type 0
+IsSubset s t = (p : ℕ) → IsIn s p → IsIn t p
+
+-- the positions of the set are those of the two
+abbrev pub IsUnion : List Bool → List Bool → List Bool → Type 0
+IsUnion s t both = (p : ℕ) → IsIn both p ↔ (IsIn s p ⊎ IsIn t p)
 
 -- how many positions are in the set
 abbrev pub member_count : List Bool → ℕ

@@ -6,3 +6,14 @@ pub mod Fault
 pub mod Stored
 pub mod Reach
 pub mod Resolve
+pub mod Counted
+pub mod Listing
+pub mod Finish
+pub mod Cost
+pub mod Topo
+pub mod Mark
+pub mod Claim
+pub mod Components
+pub mod Held
+pub mod Sccs
+pub mod Order

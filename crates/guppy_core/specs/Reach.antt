@@ -1,8 +1,9 @@
 -- Walks over links.
-use Rattle.std.specs.Prelude.{◌≡◌, ℕ, Bool, true, List, Some, slice_get}
+use Rattle.std.specs.Prelude.{◌≡◌, ◌↔◌, ℕ, Bool, true, List, Some, slice_get}
 use Rattle.guppy_core.specs.declared.ix.direction.DependencyDirection.{DependencyDirection}
 use Rattle.guppy_core.specs.declared.graph_core.link.Link.{Link}
 use Rattle.guppy_core.specs.Links.{near_end, far_end}
+use Rattle.guppy_core.specs.IxSet.{IsIn}
 
 -- a kept link leads from a to b in this direction
 pub record Step {E : Type 0} (d : DependencyDirection) (keep : E → Bool) (links : List (Link E)) (a b : ℕ) : Type 0 where
@@ -29,6 +30,10 @@ Reach d keep links = Walk (Step d keep links)
 -- a walk leads from one of the starts to b
 abbrev pub ReachedFrom : (ℕ → ℕ → Type 0) → (ℕ → Type 0) → ℕ → Type 0
 ReachedFrom R IsStart b = (a : ℕ) × IsStart a × Walk R a b
+
+-- the set is what a plain resolve includes: what walks over links reach from the initial positions
+abbrev pub IsPlainResolve : {E : Type 0} → DependencyDirection → List (Link E) → List Bool → List Bool → Type 0
+IsPlainResolve d links initials set = (p : ℕ) → IsIn set p ↔ ReachedFrom (LinkStep d links) (IsIn initials) p
 
 -- each leads to the other
 abbrev pub MutualReach : {E : Type 0} → DependencyDirection → (E → Bool) → List (Link E) → ℕ → ℕ → Type 0

@@ -1,5 +1,5 @@
 -- What a resolve shows to a visitor, and which positions it includes.
-use Rattle.std.specs.Prelude.{◌≡◌, ◌⊎◌, ◌↔◌, ℕ, Bool, true, List, ◌∷◌, ◌++◌, Some, slice_get}
+use Rattle.std.specs.Prelude.{◌≡◌, ◌⊎◌, ◌↔◌, ℕ, ◌<◌, Bool, true, List, ◌∷◌, ◌++◌, Some, slice_get}
 use Rattle.std.specs.List.{Contains, FoldsTo}
 use Rattle.guppy_core.specs.declared.ix.direction.DependencyDirection.{DependencyDirection}
 use Rattle.guppy_core.specs.declared.graph_core.link.Link.{Link}
@@ -43,3 +43,7 @@ AcceptsAll trace = (n : ℕ) (answer : Bool) → Contains trace (n, answer) → 
 -- the visitor's states over the trace: each step is one that it may take
 abbrev pub Visits : {V : Type 0} → (V → ℕ → Bool → V → Type 0) → V → List (ℕ × Bool) → V → Type 0
 Visits visits = FoldsTo (λ state entry next. visits state entry.0 entry.1 next)
+
+-- a filter may be called with each number below the count, also after any such calls
+pub record IsCallableBelow {F : Type 0} (may_call : F → ℕ → Type 0) (calls : F → ℕ → Bool → F → Type 0) (count : ℕ) (filter : F) : Type 0 where
+  pub at : (earlier : List (ℕ × Bool)) (now : F) (n : ℕ) → ((m : ℕ) → IsShown earlier m → m < count) → Visits calls filter earlier now → n < count → may_call now n

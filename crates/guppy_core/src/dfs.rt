@@ -1,8 +1,15 @@
 //! Searches that show a visitor each link that leaves an included position.
+mod cache;
+mod filtered;
+pub mod laws;
+mod recorder;
 mod search;
 #[cfg(test)]
-mod tests;
+pub(crate) mod tests;
 mod visitor;
 
+pub use cache::ReachCache;
+pub use filtered::{reachable_filtered, reachable_with_fn};
+pub use recorder::{Recorder, reachable_recorded};
 pub use search::{reachable, reachable_with};
 pub use visitor::LinkVisitor;

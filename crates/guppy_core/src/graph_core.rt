@@ -1,7 +1,9 @@
 //! Graphs: nodes, links with their data, and the links that leave each node.
 mod build;
+mod counted;
 mod graph;
 mod link;
 
+pub use counted::CountedGraph;
 pub use graph::{Graph, GraphFault};
 pub use link::Link;

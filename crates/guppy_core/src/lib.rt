@@ -5,15 +5,27 @@
 //!
 //! - `ix`: directions, index types and sets of positions;
 //! - `graph_core`: the graph itself;
-//! - `dfs`: searches that show each leaving link to a visitor.
+//! - `dfs`: searches that show each leaving link to a visitor;
+//! - `topo`: the topological index;
+//! - `scc`: the components;
+//! - `resolve_core`: the positions that a resolve included.
 #![tactic(auto)]
 
 pub mod dfs;
 pub mod graph_core;
 pub mod ix;
+pub mod resolve_core;
+pub mod scc;
 #[cfg(test)]
 mod tests;
+pub mod topo;
 
-pub use dfs::{LinkVisitor, reachable, reachable_with};
-pub use graph_core::{Graph, GraphFault, Link};
+pub use dfs::{
+    LinkVisitor, ReachCache, Recorder, reachable, reachable_filtered, reachable_recorded,
+    reachable_with, reachable_with_fn,
+};
+pub use graph_core::{CountedGraph, Graph, GraphFault, Link};
 pub use ix::{DependencyDirection, GraphSpec, IndexType, IxOnes, IxSet, PackageIx};
+pub use resolve_core::{ResolveCore, Topo};
+pub use scc::{AllSccs, NodeIter, Sccs};
+pub use topo::TopoWithCycles;

@@ -1,6 +1,6 @@
-ghost use Rattle.std.specs.Prelude.{◌≡◌, ◌↔◌, ◌⊎◌, ℕ, ◌+◌, ◌<◌, ◌≤◌, ◌^◌, Bool, true, List, [], ◌∷◌, ◌++◌, length, IfOk, OnErr, slice_set, vec_len, vec_capacity};
+ghost use Rattle.std.specs.Prelude.{◌≡◌, ◌⊎◌, ℕ, ◌+◌, ◌<◌, ◌≤◌, ◌^◌, Bool, true, false, List, [], ◌∷◌, ◌++◌, length, IfOk, OnErr, replicate, slice_set, vec_len, vec_capacity};
 ghost use Rattle.guppy_core.specs.IxSet.{IsIn};
-ghost use Rattle.guppy_core.specs.Reach.{LinkStep, ReachedFrom};
+ghost use Rattle.guppy_core.specs.Reach.{IsPlainResolve};
 ghost use Rattle.guppy_core.specs.Resolve.{JudgesResolve, AcceptsAll, Visits};
 
 use crate::dfs::visitor::{AcceptAll, LinkVisitor};
@@ -22,8 +22,7 @@ pub fn reachable<G: GraphSpec>(
     ensures count { IfOk result (λ set. length set ≡ length graph.now.nodes) }
     ensures judged { IfOk result (λ set. (trace : List (ℕ × Bool))
         × JudgesResolve direction graph.now.links initials.now trace set × AcceptsAll trace) }
-    ensures reached { IfOk result (λ set. (p : ℕ)
-        → IsIn set p ↔ ReachedFrom (LinkStep direction graph.now.links) (IsIn initials.now) p) }
+    ensures reached { IfOk result (IsPlainResolve direction graph.now.links initials.now) }
 {
     let mut visitor = AcceptAll;
     let set = reachable_with(graph, initials, direction, &mut visitor)?;
@@ -55,8 +54,36 @@ pub fn reachable_with<G: GraphSpec, V: LinkVisitor>(
 {
     let mut set = IxSet::empty(graph.alloc(), graph.node_count())?;
     let mut waiting = Vec::with_capacity(graph.alloc(), graph.node_count())?;
+    search(graph, initials, direction, &mut set, &mut waiting, visitor);
+    Ok(set)
+}
+
+/// The search itself, in room that was made before: an empty set, and an empty list with room for
+/// every position. The list is empty again at the end.
+pub(crate) fn search<G: GraphSpec, V: LinkVisitor>(
+    graph: &Graph<G>,
+    initials: &IxSet<G>,
+    direction: DependencyDirection,
+    set: &mut IxSet<G>,
+    waiting: &mut Vec<usize>,
+    visitor: &mut V,
+)
+    requires count { length initials.now ≡ length graph.now.nodes }
+    requires ready { (n : ℕ) → n < length graph.now.links → V.can_visit visitor.old n }
+    requires set { set.old ≡ replicate (length graph.now.nodes) false }
+    requires waiting { waiting.old.items ≡ [] }
+    requires room { length graph.now.nodes ≤ vec_capacity waiting.old }
+    ensures count { length set.new ≡ length graph.now.nodes }
+    ensures judged { (trace : List (ℕ × Bool))
+        × JudgesResolve direction graph.now.links initials.now trace set.new
+        × Visits V.visits visitor.old trace visitor.new }
+    ensures ready { (n : ℕ) → n < length graph.now.links → V.can_visit visitor.new n }
+    ensures same_place { V.place visitor.new ≡ V.place visitor.old }
+    ensures waiting { waiting.new.items ≡ [] }
+    ensures room { length graph.now.nodes ≤ vec_capacity waiting.new }
+{
     'initials: for ix in initials.ones() {
-        include(&mut set, &mut waiting, ix.index());
+        include(set, waiting, ix.index());
     }
     'positions: while let Some(position) = waiting.pop() {
         'links: for number in graph.links_at(position, direction) {
@@ -64,10 +91,9 @@ pub fn reachable_with<G: GraphSpec, V: LinkVisitor>(
                 continue;
             }
             let far_end = graph.link(*number).far_end(direction);
-            include(&mut set, &mut waiting, far_end);
+            include(set, waiting, far_end);
         }
     }
-    Ok(set)
 }
 
 // Puts the position into the set and among those that wait, unless the set has it.

@@ -107,7 +107,8 @@ impl<G: GraphSpec> Graph<G> {
 
     /// How many nodes there are.
     pub fn node_count(&self) -> usize
-        ensures { result ≡ length self.now.nodes }
+        ensures count { result ≡ length self.now.nodes }
+        ensures graph { IsGraph self.now }
     {
         self.nodes.len()
     }

@@ -145,6 +145,29 @@ impl<G: GraphSpec> IxSet<G> {
         self.len += 1;
         true
     }
+
+    /// Takes every position out.
+    pub(crate) fn clear(&mut self)
+        ensures { self.new ≡ replicate (length self.old) false }
+    {
+        self.words.fill(0);
+        self.len = 0;
+    }
+}
+
+impl<G: GraphSpec> Clone for IxSet<G> {
+    ghost is_clone = { λ s t. t ≡ s };
+
+    /// The same set. Takes memory: one bit a node. Fails only where there is none.
+    fn clone(&self) -> Result<Self, AllocError> {
+        let words = self.words.clone()?;
+        Ok(IxSet {
+            words,
+            count: self.count,
+            len: self.len,
+            spec: PhantomData,
+        })
+    }
 }
 
 /// The positions of a set that are still to come, ascending. Its `len` and its `size_hint` are

@@ -2,7 +2,7 @@ use Rattle.std.proofs.Common.{◌≡◌, ℕ, ◌+◌, ◌-◌, ◌<◌, ◌≤�
 use Rattle.guppy_core.specs.IxSet.{member_count}
 use Rattle.guppy_core.specs.Resolve.{Visits}
 use Rattle.guppy_core.proofs.Searching.{Seeded, Searching}
-use Rattle.guppy_core.proofs.dfs.search.reachable_with.Given as goal
+use Rattle.guppy_core.proofs.dfs.search.search.Given as goal
 
 abbrev pub invariant-initials : goal.invariant-initials
 invariant-initials g l = record {

@@ -1,4 +1,4 @@
-use Rattle.std.proofs.Common.{◌≡◌, ℕ, ◌+◌, ◌<◌, true, false, inl, inr, [], ◌∷◌, ◌++◌, length, replicate, refl, sym, ap, ◌∙◌, get_or, arith}
+use Rattle.std.proofs.Common.{◌≡◌, ℕ, ◌+◌, ◌<◌, true, false, inl, inr, [], ◌∷◌, ◌++◌, length, refl, sym, ap, ◌∙◌, get_or, arith}
 use Rattle.std.proofs.Math.ListN.{length-set, length-replicate}
 use Rattle.std.proofs.lemmas.Fn.{FoldsTo-push}
 use Rattle.guppy_core.specs.Links.{far_end}
@@ -6,17 +6,15 @@ use Rattle.guppy_core.specs.IxSet.{member_count, positions_in}
 use Rattle.guppy_core.proofs.Lists.{no_items, drop_next}
 use Rattle.guppy_core.proofs.Members.{IsIn-below, has-replicate, member_count-le-length}
 use Rattle.guppy_core.proofs.Searching.{Seeded-begin, Seeded-below, Seeded-known, Seeded-new, Searching-begin, Searching-pop, Searching-end, Searching-number, Searching-refused, Searching-known, Searching-new, Waits-room, Waits-pop, balance-added, far_end_below}
-use Rattle.guppy_core.proofs.dfs.search.reachable_with.Goals as goal
+use Rattle.guppy_core.proofs.dfs.search.search.Goals as goal
 
 pub initials-init : goal.initials-init
 initials-init g c =
-    let set_is : c.in_ok-set.set ≡ replicate c.node_count.result false = c.in_ok-set.ensures in
     let all : c.into_iter-ix-iterator.result ≡ positions_in c.args.initials.now = c.into_iter-ix-iterator.ensures.into_iter_gives ∙ c.ones-ix-items.ensures.positions in
-    let none = c.in_ok-waiting.ensures.items in
     record {
-      size = rw set_is (length-replicate c.node_count.result false ∙ c.node_count.ensures);
-      room = omega (arith, c.in_ok-waiting.ensures.capacity);
-      seeded = rw (none, all, set_is) (Seeded-begin c.args.initials.now _ (λ p h. let lacks = has-replicate c.node_count.result p in cc));
+      size = rw c.requires.set (length-replicate (length c.args.graph.now.nodes) false);
+      room = c.requires.room;
+      seeded = rw (c.requires.waiting, all, c.requires.set) (Seeded-begin c.args.initials.now _ (λ p h. let lacks = has-replicate (length c.args.graph.now.nodes) p in cc));
     }
 
 pub include-requires-clause-in_range : goal.include-requires-clause-in_range

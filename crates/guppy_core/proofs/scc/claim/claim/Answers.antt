@@ -1,0 +1,117 @@
+use Rattle.std.proofs.Common.{arith, ◌≡◌, ◌<◌, true, length, [], refl}
+use Rattle.guppy_core.specs.Reach.{Step}
+use Rattle.guppy_core.specs.declared.ix.direction.DependencyDirection.TheVariants.{Reverse}
+use Rattle.guppy_core.proofs.Costs.{degree, owed-mark, owed-pop, row_paid, row_room, fits_below, one_more}
+use Rattle.guppy_core.proofs.Closing.{popped_below, within_first, within_more, between_again}
+use Rattle.guppy_core.proofs.Searching.{far_end_below}
+use Rattle.guppy_core.proofs.Claiming.{From, numbering_first, numbering_more, between_first, claimed}
+use Rattle.guppy_core.proofs.scc.claim.claim.Goals as goal
+
+pub loop-position-init : goal.loop-position-init
+loop-position-init g c =
+    let graph = c.args.graph.now.graph in
+    let R = Step {E = g.row.G-Edge.Denot} Reverse (λ _. true) graph.links in
+    let marks = rw c.new-stack.ensures.items at c.in_ok-claim_one.ensures.marks in
+    let limit = c.requires.limit in
+    let below : c.args.start < length c.args.seen.now = let s = c.requires.start in omega arith in
+    let kept = owed-mark (degree {E = g.row.G-Edge.Denot} Reverse graph.links) c.args.start c.args.seen.now [] c.claim_one.new.seen c.claim_one.new.stack.items below marks in
+    record {
+      between = between_first R (length graph.nodes) c.args.seen.now c.args.start limit c.requires.closed c.requires.start c.claim_one.new.seen c.claim_one.new.stack.items marks;
+      numbering = numbering_more (length graph.nodes) c.args.number c.args.seen.now c.args.numbers.now.items c.args.seen.now c.args.numbers.now.items (numbering_first (length graph.nodes) c.args.number c.args.seen.now c.args.numbers.now.items limit c.requires.count) c.args.start c.requires.start _ _ _ _ marks c.in_ok-claim_one.ensures.numbers;
+      graph = refl;
+      paid = omega arith;
+    }
+
+pub leaving_at-k-end-requires : goal.leaving_at-k-end-requires
+leaving_at-k-end-requires g c = rw c.loop-position.invariant.graph (popped_below _ _ _ _ _ _ _ c.loop-position.invariant.between c.in-Some.ensures.items)
+
+pub loop-k-init : goal.loop-k-init
+loop-k-init g c = record {
+  inside = within_first Reverse c.args.graph.now.graph (From c.args.seen.now c.args.start) c.in-Some.position _ _ _ _ c.loop-position.invariant.between c.in-Some.ensures.items refl;
+  numbering = c.loop-position.invariant.numbering;
+  graph = c.loop-position.invariant.graph;
+  looked = omega arith;
+  paid = omega arith;
+}
+
+pub loop-position-preserved : goal.loop-position-preserved
+loop-position-preserved g c =
+    let len : c.leaving_at-k-end.result ≡ degree {E = g.row.G-Edge.Denot} Reverse c.args.graph.now.graph.links c.in-Some.position = rw (← c.loop-position.invariant.graph) c.leaving_at-k-end.ensures.count in
+    record {
+      between = between_again Reverse c.args.graph.now.graph (From c.args.seen.now c.args.start) c.in-Some.position _ _ _ _ _ c.loop-k.invariant.inside (rw (← len) c.loop-k-test.false);
+      numbering = c.loop-k.invariant.numbering;
+      graph = c.loop-k.invariant.graph;
+      paid = row_paid _ _ _ _ _ _ _ _ (owed-pop (degree {E = g.row.G-Edge.Denot} Reverse c.args.graph.now.graph.links) c.loop-position.seen _ _ c.in-Some.position c.in-Some.ensures.items) c.loop-position.invariant.paid c.loop-k.invariant.paid c.loop-k.invariant.looked (rw (← len) c.loop-k.auto.k-end);
+    }
+
+pub look_at-number-requires-clause-room : goal.look_at-number-requires-clause-room
+look_at-number-requires-clause-room g c =
+    let len : c.leaving_at-k-end.result ≡ degree {E = g.row.G-Edge.Denot} Reverse c.args.graph.now.graph.links c.in-Some.position = rw (← c.loop-position.invariant.graph) c.leaving_at-k-end.ensures.count in
+    let one = row_room _ _ _ _ _ _ _ _ (owed-pop (degree {E = g.row.G-Edge.Denot} Reverse c.args.graph.now.graph.links) c.loop-position.seen _ _ c.in-Some.position c.in-Some.ensures.items) c.loop-position.invariant.paid c.loop-k.invariant.paid c.loop-k.invariant.looked (rw (← len) c.loop-k-test.true) in
+    let room = c.requires.room in
+    fits_below _ _ one room
+
+pub claim_one-requires-in-loop-k-clause-seen : goal.claim_one-requires-in-loop-k-clause-seen
+claim_one-requires-in-loop-k-clause-seen g c =
+    let graph = c.args.graph.now.graph in
+    let l = c.look_at-number.ensures.link in
+    let is_graph = rw c.loop-position.invariant.graph at c.leaving_at-k-end.ensures.graph in
+    let found = rw c.loop-k.invariant.graph at l.1 in
+    let below = far_end_below Reverse graph.links (length graph.nodes) _ l.0 found is_graph.ends in
+    let same = c.loop-k.invariant.inside.searching.limit_is in
+    rw (← l.3, same) below
+
+pub claim_one-requires-in-loop-k-clause-numbers : goal.claim_one-requires-in-loop-k-clause-numbers
+claim_one-requires-in-loop-k-clause-numbers g c =
+    let graph = c.args.graph.now.graph in
+    let l = c.look_at-number.ensures.link in
+    let is_graph = rw c.loop-position.invariant.graph at c.leaving_at-k-end.ensures.graph in
+    let found = rw c.loop-k.invariant.graph at l.1 in
+    let below = far_end_below Reverse graph.links (length graph.nodes) _ l.0 found is_graph.ends in
+    let same = c.loop-k.invariant.numbering.count in
+    rw (← l.3, same) below
+
+pub claim_one-requires-in-loop-k-clause-small : goal.claim_one-requires-in-loop-k-clause-small
+claim_one-requires-in-loop-k-clause-small g c =
+    let graph = c.args.graph.now.graph in
+    let l = c.look_at-number.ensures.link in
+    let is_graph = rw c.loop-position.invariant.graph at c.leaving_at-k-end.ensures.graph in
+    let found = rw c.loop-k.invariant.graph at l.1 in
+    let below = far_end_below Reverse graph.links (length graph.nodes) _ l.0 found is_graph.ends in
+    let few = is_graph.few_nodes in
+    rw (← l.3) (omega arith)
+
+pub returns-in_err-claim_one-2-clause-looks : goal.returns-in_err-claim_one-2-clause-looks
+returns-in_err-claim_one-2-clause-looks g c =
+    let len : c.leaving_at-k-end.result ≡ degree {E = g.row.G-Edge.Denot} Reverse c.args.graph.now.graph.links c.in-Some.position = rw (← c.loop-position.invariant.graph) c.leaving_at-k-end.ensures.count in
+    rw c.look_at-number.ensures.counted (row_room _ _ _ _ _ _ _ _ (owed-pop (degree {E = g.row.G-Edge.Denot} Reverse c.args.graph.now.graph.links) c.loop-position.seen _ _ c.in-Some.position c.in-Some.ensures.items) c.loop-position.invariant.paid c.loop-k.invariant.paid c.loop-k.invariant.looked (rw (← len) c.loop-k-test.true))
+
+pub loop-k-preserved : goal.loop-k-preserved
+loop-k-preserved g c =
+    let graph = c.args.graph.now.graph in
+    let l = c.look_at-number.ensures.link in
+    let is_graph = rw c.loop-position.invariant.graph at c.leaving_at-k-end.ensures.graph in
+    let found = rw c.loop-k.invariant.graph at l.1 in
+    let below = far_end_below Reverse graph.links (length graph.nodes) _ l.0 found is_graph.ends in
+    let len : c.leaving_at-k-end.result ≡ degree {E = g.row.G-Edge.Denot} Reverse c.args.graph.now.graph.links c.in-Some.position = rw (← c.loop-position.invariant.graph) c.leaving_at-k-end.ensures.count in
+    let number = rw c.loop-k.invariant.graph at c.look_at-number.ensures.number in
+    let marks = rw (← l.3) at c.in_ok-claim_one-2.ensures.marks in
+    let same = c.loop-k.invariant.inside.searching.limit_is in
+    let below' : c.look_at-number.result.1 < length graph.nodes = rw (← l.3) below in
+    let below'' : c.look_at-number.result.1 < length c.loop-k.seen = rw (← l.3, same) below in
+    let kept = owed-mark (degree {E = g.row.G-Edge.Denot} Reverse graph.links) c.look_at-number.result.1 c.loop-k.seen c.loop-k.stack.items c.claim_one-in-loop-k.new.seen c.claim_one-in-loop-k.new.stack.items below'' c.in_ok-claim_one-2.ensures.marks in
+    record {
+      inside = within_more Reverse graph (From c.args.seen.now c.args.start) c.in-Some.position _ c.loop-k.k _ c.loop-k.seen c.loop-k.stack.items c.loop-k.invariant.inside (rw (← len) c.loop-k-test.true) l.0 (rw number at found) below c.claim_one-in-loop-k.new.seen c.claim_one-in-loop-k.new.stack.items marks;
+      numbering = numbering_more (length graph.nodes) c.args.number c.args.seen.now c.args.numbers.now.items c.loop-k.seen c.loop-k.numbers.items c.loop-k.invariant.numbering c.look_at-number.result.1 below' _ _ _ _ c.in_ok-claim_one-2.ensures.marks c.in_ok-claim_one-2.ensures.numbers;
+      graph = rw c.look_at-number.ensures.counted c.loop-k.invariant.graph;
+      looked = rw (c.look_at-number.ensures.counted, c.loop-k.invariant.looked) (one_more _ _);
+      paid = rw kept c.loop-k.invariant.paid;
+    }
+
+pub returns-clause-seen : goal.returns-clause-seen
+returns-clause-seen g c =
+    let graph = c.args.graph.now.graph in
+    let R = Step {E = g.row.G-Edge.Denot} Reverse (λ _. true) graph.links in
+    let none = c.in_default.ensures.cases.0 in
+    let empty : length c.loop-position.stack.items ≡ 0 = let ok = c.loop-position.stack.ok in omega arith in
+    claimed R (length graph.nodes) c.args.seen.now c.args.start c.requires.limit c.requires.closed c.loop-position.seen c.loop-position.stack.items empty c.loop-position.invariant.between

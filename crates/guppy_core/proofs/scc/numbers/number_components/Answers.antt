@@ -1,0 +1,131 @@
+use Rattle.std.proofs.Common.{arith, ◌≡◌, ◌<◌, true, false, length, get_or, replicate, reverse, sym, ◌∙◌}
+use Rattle.std.proofs.Math.ListN.{length-replicate}
+use Rattle.std.proofs.lemmas.Option.{slice_get-get_or}
+use Rattle.guppy_core.specs.Reach.{Step}
+use Rattle.guppy_core.specs.declared.ix.direction.DependencyDirection.TheVariants.{Forward, Reverse}
+use Rattle.guppy_core.proofs.Walks.{step_back, step_forth}
+use Rattle.guppy_core.proofs.Costs.{owed_first, fits_below}
+use Rattle.guppy_core.proofs.Members.{has-replicate}
+use Rattle.guppy_core.proofs.Indexing.{reversed_below}
+use Rattle.guppy_core.proofs.Numbering.{second_none, second_skipped, second_more, second_all, all_finished}
+use Rattle.guppy_core.proofs.scc.numbers.number_components.Goals.{then-not-has_position+in_ok-claim, else-not-has_position}
+use Rattle.guppy_core.proofs.scc.numbers.number_components.Goals as goal
+
+pub loop-root-init : goal.loop-root-init
+loop-root-init g c =
+    let graph = c.args.graph.now.graph in
+    let n = length graph.nodes in
+    let F = c.in_ok-order.order.items in
+    let dq : c.deref-root-items.result.now ≡ reverse F = c.deref-root-items.ensures.value ∙ c.reverse.ensures.items in
+    let R = Step {E = g.row.G-Edge.Denot} Forward (λ _. true) graph.links in
+    let B = Step {E = g.row.G-Edge.Denot} Reverse (λ _. true) graph.links in
+    let back = step_back {E = g.row.G-Edge.Denot} (λ _. true) graph.links in
+    let forth = step_forth {E = g.row.G-Edge.Denot} (λ _. true) graph.links in
+    let count : c.node_count-limit.result ≡ length graph.nodes = c.node_count-limit.ensures.count in
+    let zeros = c.in_ok-numbers.ensures.items_if_clones_equal (λ y h. h) in
+    let first = owed_first {E = g.row.G-Edge.Denot} Reverse graph.links c.node_count-limit.result in
+    let looked = c.in_ok-order.ensures.looks in
+    rw (c.in_ok-seen.ensures, zeros) (record {
+      numbering = second_none R B back forth n c.deref-root-items.result.now (replicate c.node_count-limit.result false) (replicate c.node_count-limit.result 0) (length-replicate c.node_count-limit.result false ∙ count) (length-replicate c.node_count-limit.result 0 ∙ count) (has-replicate c.node_count-limit.result);
+      graph = c.in_ok-order.ensures.graph;
+      paid = omega arith;
+    })
+
+pub has_position-requires : goal.has_position-requires
+has_position-requires g c =
+    let graph = c.args.graph.now.graph in
+    let n = length graph.nodes in
+    let F = c.in_ok-order.order.items in
+    let dq : c.deref-root-items.result.now ≡ reverse F = c.deref-root-items.ensures.value ∙ c.reverse.ensures.items in
+    let test : c.loop-root.root-index < length (reverse F) = rw (← dq) c.loop-root-test.true in
+    let low : get_or c.deref-root-items.result.now c.loop-root.root-index 0 < n = rw dq (reversed_below n F c.in_ok-order.ensures.positions c.loop-root.root-index 0 test) in
+    rw c.loop-root.invariant.numbering.limit_is low
+
+pub claim-requires-clause-limit : goal.claim-requires-clause-limit
+claim-requires-clause-limit g c = rw c.loop-root.invariant.graph c.loop-root.invariant.numbering.limit_is
+
+pub claim-requires-clause-count : goal.claim-requires-clause-count
+claim-requires-clause-count g c = rw c.loop-root.invariant.graph c.loop-root.invariant.numbering.length_is
+
+pub claim-requires-clause-start : goal.claim-requires-clause-start
+claim-requires-clause-start g c =
+    let graph = c.args.graph.now.graph in
+    let n = length graph.nodes in
+    let F = c.in_ok-order.order.items in
+    let dq : c.deref-root-items.result.now ≡ reverse F = c.deref-root-items.ensures.value ∙ c.reverse.ensures.items in
+    let test : c.loop-root.root-index < length (reverse F) = rw (← dq) c.loop-root-test.true in
+    let low : get_or c.deref-root-items.result.now c.loop-root.root-index 0 < n = rw dq (reversed_below n F c.in_ok-order.ensures.positions c.loop-root.root-index 0 test) in
+    rw c.loop-root.invariant.graph low
+
+pub claim-requires-clause-closed : goal.claim-requires-clause-closed
+claim-requires-clause-closed g c = rw c.loop-root.invariant.graph c.loop-root.invariant.numbering.closed
+
+pub claim-requires-clause-room : goal.claim-requires-clause-room
+claim-requires-clause-room g c = rw c.loop-root.invariant.graph (fits_below _ _ c.loop-root.invariant.paid c.requires.room)
+
+pub returns-in_err-claim-clause-looks : goal.returns-in_err-claim-clause-looks
+returns-in_err-claim-clause-looks g c =
+    let looked = rw c.loop-root.invariant.graph at c.in_err-claim.ensures.looks in
+    let paid = c.loop-root.invariant.paid in
+    omega arith
+
+pub overflow_add-count : goal.overflow_add-count
+overflow_add-count g c =
+    let few = c.loop-root.invariant.numbering.few in
+    let test = c.loop-root-test.true in
+    let len = c.deref-root-items.ensures.len in
+    omega arith
+
+pub loop-root-preserved : goal.loop-root-preserved
+loop-root-preserved g c =
+    let graph = c.args.graph.now.graph in
+    let n = length graph.nodes in
+    let F = c.in_ok-order.order.items in
+    let dq : c.deref-root-items.result.now ≡ reverse F = c.deref-root-items.ensures.value ∙ c.reverse.ensures.items in
+    let R = Step {E = g.row.G-Edge.Denot} Forward (λ _. true) graph.links in
+    let B = Step {E = g.row.G-Edge.Denot} Reverse (λ _. true) graph.links in
+    let back = step_back {E = g.row.G-Edge.Denot} (λ _. true) graph.links in
+    let forth = step_forth {E = g.row.G-Edge.Denot} (λ _. true) graph.links in
+    let all = all_finished R n c.args.starts.now F c.in_ok-order.ensures.order c.requires.all in
+    let s = rw dq at c.loop-root.invariant.numbering in
+    let i = c.loop-root.root-index in
+    let test : c.loop-root.root-index < length (reverse F) = rw (← dq) c.loop-root-test.true in
+    let at = slice_get-get_or (reverse F) c.loop-root.root-index 0 test in
+    elim c.if-not-has_position.branch [
+      | then-not-has_position+in_ok-claim w ↦
+          let lacks = rw dq at (sym c.has_position.ensures.value ∙ w.if-not-has_position.true) in
+          let limit = rw c.loop-root.invariant.graph at w.in_ok-claim.ensures.limit in
+          let count = rw c.loop-root.invariant.graph at w.in_ok-claim.ensures.count in
+          let adds = rw (c.loop-root.invariant.graph, dq) at w.in_ok-claim.ensures.seen in
+          let cost = rw c.loop-root.invariant.graph at w.in_ok-claim.ensures.paid in
+          let paid = c.loop-root.invariant.paid in
+          rw (w.seen-is, w.numbers-is, w.count-is, w.graph-is, dq) (record {
+            numbering = second_more R B back forth n _ F c.in_ok-order.ensures.order all c.loop-root.root-index c.loop-root.seen c.loop-root.numbers.items c.loop-root.count s (get_or (reverse F) c.loop-root.root-index 0) at lacks w.claim.new.seen w.claim.new.numbers.items limit count adds w.in_ok-claim.ensures.numbers;
+            graph = w.in_ok-claim.ensures.graph ∙ c.loop-root.invariant.graph;
+            paid = omega arith;
+          })
+      | else-not-has_position w ↦
+          let here = rw dq at (sym c.has_position.ensures.value ∙ w.if-not-has_position.false) in
+          rw (w.seen-is, w.numbers-is, w.count-is, w.graph-is, dq) (record {
+            numbering = second_skipped R B back forth n _ F c.in_ok-order.ensures.order all c.loop-root.root-index c.loop-root.seen c.loop-root.numbers.items c.loop-root.count s (get_or (reverse F) c.loop-root.root-index 0) at here;
+            graph = c.loop-root.invariant.graph;
+            paid = c.loop-root.invariant.paid;
+          })
+    ]
+
+pub returns-clause-numbers : goal.returns-clause-numbers
+returns-clause-numbers g c =
+    let graph = c.args.graph.now.graph in
+    let n = length graph.nodes in
+    let F = c.in_ok-order.order.items in
+    let dq : c.deref-root-items.result.now ≡ reverse F = c.deref-root-items.ensures.value ∙ c.reverse.ensures.items in
+    let R = Step {E = g.row.G-Edge.Denot} Forward (λ _. true) graph.links in
+    let B = Step {E = g.row.G-Edge.Denot} Reverse (λ _. true) graph.links in
+    let back = step_back {E = g.row.G-Edge.Denot} (λ _. true) graph.links in
+    let forth = step_forth {E = g.row.G-Edge.Denot} (λ _. true) graph.links in
+    let all = all_finished R n c.args.starts.now F c.in_ok-order.ensures.order c.requires.all in
+    let s = rw dq at c.loop-root.invariant.numbering in
+    second_all R B back forth n _ F c.in_ok-order.ensures.order all c.loop-root.root-index c.loop-root.seen c.loop-root.numbers.items c.loop-root.count s (rw dq at c.loop-root-test.false)
+
+pub returns-clause-looks : goal.returns-clause-looks
+returns-clause-looks g c = let paid = c.loop-root.invariant.paid in omega arith

@@ -1,0 +1,33 @@
+use Rattle.std.proofs.Common.{◌<◌, ◌++◌, reverse, subst, ◌≡◌, ◌∙◌, length}
+use Rattle.guppy_core.specs.Reach.{Step}
+use Rattle.guppy_core.specs.declared.ix.direction.DependencyDirection.TheVariants.{Forward, Reverse}
+use Rattle.guppy_core.proofs.Indexing.{topo_from}
+use Rattle.guppy_core.proofs.Searching.{far_end_below}
+use Rattle.guppy_core.proofs.Acyclic.{entered_or_not, topo_leads_on}
+use Rattle.guppy_core.proofs.topo.index.order_of.Goals as goal
+
+pub returns-clause-topo : goal.returns-clause-topo
+returns-clause-topo g c =
+    let graph = c.args.graph.now.graph in
+    let R = Step {E = g.row.G-Edge.Denot} Forward g.kept graph.links in
+    let count : c.node_count-count.result ≡ length graph.nodes = c.node_count-count.ensures.count in
+    let finish = rw (c.in_ok-starts.ensures.graph, c.as_slice.ensures.value) at c.in_ok-order.ensures.order in
+    let below = rw c.in_ok-starts.ensures.graph at c.in_ok-order.ensures.positions in
+    let members = rw (c.as_slice-2.ensures.value, c.reverse.ensures.items) at c.in_ok-reached.ensures.members in
+    rw (c.in_ok-extend_from_slice.ensures.items, c.reverse.ensures.items, c.as_slice-3.ensures.value)
+    (topo_from R (length graph.nodes) c.in_ok-starts.starts.items c.in_ok-order.order.items c.in_ok-rest.rest.items c.in_ok-reached.reached c.in_ok-starts.ensures.roots finish below (c.in_ok-reached.ensures.count ∙ count) members c.in_ok-rest.ensures)
+
+pub returns-clause-acyclic : goal.returns-clause-acyclic
+returns-clause-acyclic g c =
+    let graph = c.args.graph.now.graph in
+    let R = Step {E = g.row.G-Edge.Denot} Forward g.kept graph.links in
+    let count : c.node_count-count.result ≡ length graph.nodes = c.node_count-count.ensures.count in
+    let finish = rw (c.in_ok-starts.ensures.graph, c.as_slice.ensures.value) at c.in_ok-order.ensures.order in
+    let below = rw c.in_ok-starts.ensures.graph at c.in_ok-order.ensures.positions in
+    let members = rw (c.as_slice-2.ensures.value, c.reverse.ensures.items) at c.in_ok-reached.ensures.members in
+    let topo = topo_from R (length graph.nodes) c.in_ok-starts.starts.items c.in_ok-order.order.items c.in_ok-rest.rest.items c.in_ok-reached.reached c.in_ok-starts.ensures.roots finish below (c.in_ok-reached.ensures.count ∙ count) members c.in_ok-rest.ensures in
+    let ends = c.node_count-count.ensures.graph.ends in
+    rw (c.in_ok-extend_from_slice.ensures.items, c.reverse.ensures.items, c.as_slice-3.ensures.value) (λ none.
+    topo_leads_on R (length graph.nodes) (entered_or_not g.kept graph.links)
+    (λ a x t. subst (λ z. z < length graph.nodes) t.near (far_end_below Reverse graph.links (length graph.nodes) t.number t.link t.found ends))
+    none (reverse c.in_ok-order.order.items ++ c.in_ok-rest.rest.items) topo)

@@ -1,0 +1,42 @@
+use Rattle.std.proofs.Common.{◌<◌, ◌≤◌, ◌-◌, length, refl, subst, arith}
+use Rattle.guppy_core.specs.declared.ix.direction.DependencyDirection.TheVariants.{Forward, Reverse}
+use Rattle.guppy_core.proofs.Costs.{degree, degrees_few, cost_from-next}
+use Rattle.guppy_core.proofs.Searching.{far_end_below}
+use Rattle.guppy_core.proofs.Entering.{entering_none, entering_more, entering_all}
+use Rattle.guppy_core.proofs.topo.roots.entered.Goals as goal
+
+pub loop-position-init : goal.loop-position-init
+loop-position-init g c =
+    let graph = c.args.graph.now.graph in
+    rw c.in_ok-set.ensures (record {
+      entering = entering_none g.kept graph.links (length graph.nodes) c.node_count.result c.node_count.ensures.count;
+      graph = refl;
+      paid = let few = degrees_few {E = g.row.G-Edge.Denot} Forward graph.links (length graph.nodes - 0) in omega arith;
+    })
+
+pub loop-position-preserved : goal.loop-position-preserved
+loop-position-preserved g c =
+    let graph = c.args.graph.now.graph in
+    let n = length graph.nodes in
+    let i = c.loop-position.position in
+    let e = rw c.loop-position.invariant.graph at c.enter_from.ensures in
+    let count = c.node_count-position-end.ensures.count in
+    let below : c.loop-position.position < length graph.nodes = let t = c.loop-position-test.true in omega arith in
+    record {
+      entering = entering_more g.kept graph.links n i c.loop-position.set c.enter_from.new.set c.loop-position.invariant.entering e.count e.members;
+      graph = e.graph;
+      paid =
+          let next = cost_from-next (degree {E = g.row.G-Edge.Denot} Forward graph.links) i n below in
+          let before = c.loop-position.invariant.paid in
+          let looks = e.looks in
+          omega arith;
+    }
+
+pub returns-clause-members : goal.returns-clause-members
+returns-clause-members g c =
+    let graph = c.args.graph.now.graph in
+    let count = c.node_count-position-end.ensures.count in
+    let all : length graph.nodes ≤ c.loop-position.position = let t = c.loop-position-test.false in omega arith in
+    entering_all g.kept graph.links (length graph.nodes) c.loop-position.position c.loop-position.set c.loop-position.invariant.entering
+    (λ a p t. subst (λ z. z < length graph.nodes) t.near (far_end_below Reverse graph.links (length graph.nodes) t.number t.link t.found c.node_count-position-end.ensures.graph.ends))
+    all

@@ -1,0 +1,15 @@
+-- What it costs to follow the links of positions.
+use Rattle.std.specs.Prelude.{ℕ, ◌+◌, Bool, true, false, List, [], ◌∷◌, length}
+use Rattle.guppy_core.specs.declared.ix.direction.DependencyDirection.{DependencyDirection}
+use Rattle.guppy_core.specs.declared.graph_core.link.Link.{Link}
+use Rattle.guppy_core.specs.Links.{links_at}
+
+-- what the positions cost that are not in the set, where the list begins at the position i
+abbrev pub missing_cost : (ℕ → ℕ) → ℕ → List Bool → ℕ
+missing_cost cost i [] = 0
+missing_cost cost i (true ∷ s) = missing_cost cost (i + 1) s
+missing_cost cost i (false ∷ s) = cost i + missing_cost cost (i + 1) s
+
+-- how many links leave the positions that are not in the set
+abbrev pub links_left : {E : Type 0} → DependencyDirection → List (Link E) → List Bool → ℕ
+links_left d links s = missing_cost (λ p. length (links_at d links p)) 0 s

@@ -1,0 +1,81 @@
+-- The components as lists, and how they are laid out.
+use Rattle.std.specs.Prelude.{◌≡◌, ◌↔◌, ℕ, ◌+◌, ◌-◌, ◌<◌, ◌≤◌, List, [], ◌∷◌, length, reverse, Some, slice_get, slice_index}
+use Rattle.std.specs.List.{slice_range, concat}
+use Rattle.guppy_core.specs.declared.ix.direction.DependencyDirection.{DependencyDirection}
+use Rattle.guppy_core.specs.declared.ix.direction.DependencyDirection.TheVariants.{Forward, Reverse}
+use Rattle.guppy_core.specs.Reach.{Walk}
+use Rattle.guppy_core.specs.Listing.{Stands, StandsBefore}
+
+-- who stands first in the block stands first in the order
+abbrev pub KeepsOrder : List ℕ → List ℕ → Type 0
+KeepsOrder order block = (i j k l x y : ℕ) → slice_get block i ≡ Some x → slice_get block j ≡ Some y → i < j → slice_get order k ≡ Some x → slice_get order l ≡ Some y → k < l
+
+-- the block with the number c: those before the place m of the order that have the number, in that order
+pub record IsGroup (order numbers : List ℕ) (m c : ℕ) (block : List ℕ) : Type 0 where
+  pub members : (x : ℕ) → Stands block x ↔ (StandsBefore order m x × (slice_index numbers x ≡ c))
+  pub keeps : KeepsOrder order block
+
+-- a block for each number below the count
+pub record AreGroups (order numbers : List ℕ) (count m : ℕ) (blocks : List (List ℕ)) : Type 0 where
+  pub count_is : length blocks ≡ count
+  pub group : (c : ℕ) (b : List ℕ) → slice_get blocks c ≡ Some b → IsGroup order numbers m c b
+
+-- the blocks are the components of the positions below n, dependents first, each in the given order
+pub record AreSccs (R : ℕ → ℕ → Type 0) (n : ℕ) (order : List ℕ) (blocks : List (List ℕ)) : Type 0 where
+  -- who is in mutual reach with one of a block stands there, and no other
+  pub classes : (c : ℕ) (b : List ℕ) (x y : ℕ) → slice_get blocks c ≡ Some b → Stands b x → Stands b y ↔ ((y < n) × Walk R x y × Walk R y x)
+  pub below : (c : ℕ) (b : List ℕ) (x : ℕ) → slice_get blocks c ≡ Some b → Stands b x → x < n
+  -- each position stands in a block, and in one alone
+  pub covers : (x : ℕ) → x < n → (c : ℕ) × (b : List ℕ) × (slice_get blocks c ≡ Some b) × Stands b x
+  pub apart : (c d : ℕ) (a b : List ℕ) (x : ℕ) → slice_get blocks c ≡ Some a → slice_get blocks d ≡ Some b → Stands a x → Stands b x → c ≡ d
+  -- no block is empty
+  pub some : (c : ℕ) (b : List ℕ) → slice_get blocks c ≡ Some b → (x : ℕ) × Stands b x
+  -- a step between different blocks leads to a later one
+  pub steps : (c d : ℕ) (a b : List ℕ) (x y : ℕ) → slice_get blocks c ≡ Some a → slice_get blocks d ≡ Some b → Stands a x → Stands b y → R x y → (c ≡ d → ⊥) → c < d
+  -- in a block each stands once, in the given order
+  pub once : (c : ℕ) (b : List ℕ) (i j x : ℕ) → slice_get blocks c ≡ Some b → slice_get b i ≡ Some x → slice_get b j ≡ Some x → i ≡ j
+  pub keeps : (c : ℕ) (b : List ℕ) → slice_get blocks c ≡ Some b → KeepsOrder order b
+
+-- both stand in one block
+abbrev pub InOneBlock : List (List ℕ) → ℕ → ℕ → Type 0
+InOneBlock blocks x y = (c : ℕ) × (b : List ℕ) × (slice_get blocks c ≡ Some b) × Stands b x × Stands b y
+
+-- x stands in a block with another
+abbrev pub InLargeBlock : List (List ℕ) → ℕ → Type 0
+InLargeBlock blocks x = (c : ℕ) × (b : List ℕ) × (slice_get blocks c ≡ Some b) × Stands b x × (1 < length b)
+
+-- the parts of a list from a on, between one bound and the next
+abbrev pub parts_from : {X : Type 0} → ℕ → List ℕ → List X → List (List X)
+parts_from a [] xs = []
+parts_from a (b ∷ bounds) xs = slice_range xs a b ∷ parts_from b bounds xs
+
+-- the parts of a list between one bound and the next
+abbrev pub parts : {X : Type 0} → List ℕ → List X → List (List X)
+parts [] xs = []
+parts (a ∷ bounds) xs = parts_from a bounds xs
+
+-- no bound is below the one before it, and none but perhaps the first is above n
+abbrev pub AreBounds : List ℕ → ℕ → Type 0
+AreBounds bounds n = (c : ℕ) → c + 1 < length bounds → (slice_index bounds c ≤ slice_index bounds (c + 1)) × (slice_index bounds (c + 1) ≤ n)
+
+-- the list is cut into parts that have all of it
+pub record IsCut {X : Type 0} (xs : List X) (bounds : List ℕ) : Type 0 where
+  pub climb : AreBounds bounds (length xs)
+  pub last : slice_index bounds (length bounds - 1) ≡ length xs
+  pub some : 0 < length bounds
+
+-- each number below the length has its place in the blocks, where number says which block it is
+pub record AreNumbered (blocks : List (List ℕ)) (numbers : List ℕ) : Type 0 where
+  pub count : length numbers ≡ length (concat blocks)
+  pub stands : (x : ℕ) → x < length numbers → (b : List ℕ) × (slice_get blocks (slice_index numbers x) ≡ Some b) × Stands b x
+  pub only : (c : ℕ) (b : List ℕ) (x : ℕ) → slice_get blocks c ≡ Some b → Stands b x → slice_index numbers x ≡ c
+
+-- the positions that are still to come, in the order in which they come, and the direction
+pub record NodesLeft : Type 0 where
+  pub direction : DependencyDirection
+  pub left : List ℕ
+
+-- the list as it comes in a direction
+abbrev pub listed : DependencyDirection → List ℕ → List ℕ
+listed Forward xs = xs
+listed Reverse xs = reverse xs

@@ -1,0 +1,12 @@
+//! The components of a graph, and the order of its positions by them.
+mod claim;
+mod components;
+mod group;
+mod iter;
+mod layout;
+mod numbers;
+#[cfg(test)]
+mod tests;
+
+pub use components::Sccs;
+pub use iter::{AllSccs, NodeIter};

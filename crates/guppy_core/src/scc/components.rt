@@ -1,0 +1,113 @@
+ghost use Rattle.std.specs.Prelude.{◌≡◌, ◌↔◌, ℕ, ◌+◌, ◌*◌, ◌<◌, ◌≤◌, ◌^◌, Bool, true, length, IfOk};
+ghost use Rattle.std.specs.List.{concat};
+ghost use Rattle.guppy_core.specs.declared.ix.direction.DependencyDirection.TheVariants.{Forward};
+ghost use Rattle.guppy_core.specs.Reach.{LinkStep, Step};
+ghost use Rattle.guppy_core.specs.Topo.{LeadsOn};
+ghost use Rattle.guppy_core.specs.Sccs.{AreSccs, InOneBlock, InLargeBlock, listed};
+ghost use Rattle.guppy_core.specs.Order.{IsOrder};
+
+use crate::graph_core::CountedGraph;
+use crate::ix::{DependencyDirection, GraphSpec, IndexType};
+use crate::scc::group::group;
+use crate::scc::iter::{AllSccs, NodeIter};
+use crate::scc::layout::{Layout, lay_out};
+use crate::scc::numbers::number_components;
+use crate::topo::TopoWithCycles;
+use std::alloc::AllocError;
+use std::marker::Model;
+
+/// The components of a graph, the classes of positions that lead to one another over all links,
+/// in a list: a link between two components has its `from` in the earlier one, and in a component
+/// the positions ascend by the index. So links that lead to greater indexes lead on in the list.
+#[derive(Drop)]
+pub struct Sccs<Ix: IndexType> {
+    positions: Vec<Ix>,
+    bounds: Vec<usize>,
+    numbers: Vec<usize>,
+}
+
+impl<Ix: IndexType> Model for Sccs<Ix> {
+    ghost use Rattle.std.specs.Prelude.{List, ℕ, ◌≡◌, map};
+    ghost use Rattle.std.specs.List.{concat};
+    ghost use Rattle.guppy_core.specs.Sccs.{parts, IsCut, AreNumbered};
+
+    ghost Value = { List (List ℕ) };
+
+    ghost view = { λ s. parts s.bounds.items (map Ix.index_of s.positions.items) };
+
+    ghost invariant = { λ s. (concat (parts s.bounds.items (map Ix.index_of s.positions.items)) ≡ map Ix.index_of s.positions.items)
+        × IsCut (map Ix.index_of s.positions.items) s.bounds.items
+        × AreNumbered (parts s.bounds.items (map Ix.index_of s.positions.items)) s.numbers.items };
+}
+
+impl<Ix: IndexType> Sccs<Ix> {
+    /// The components of the graph, each ordered by the index, which is of as many nodes as the
+    /// graph. `looks` plus twice the link count fits u64.
+    ///
+    /// Looks at each link at most twice, also where it fails. Takes memory for some numbers a node,
+    /// and fails only where there is none.
+    pub fn new<G: GraphSpec<Ix = Ix>>(
+        graph: &mut CountedGraph<'_, G>,
+        topo: &TopoWithCycles<Ix>,
+    ) -> Result<Self, AllocError>
+        requires count { length topo.now ≡ length graph.old.graph.nodes }
+        requires room { graph.old.looks + 2 * length graph.old.graph.links < 2 ^ 64 }
+        ensures sccs { IfOk result (λ blocks. AreSccs (LinkStep Forward graph.old.graph.links) (length graph.old.graph.nodes) topo.now blocks) }
+        ensures order { IfOk result (λ blocks. IsOrder (LinkStep Forward graph.old.graph.links) (length graph.old.graph.nodes) topo.now (concat blocks)) }
+        ensures leads_on { IfOk result (λ blocks. (keep : G.Edge → Bool) → LeadsOn (Step Forward keep graph.old.graph.links) topo.now
+            → LeadsOn (Step Forward keep graph.old.graph.links) (concat blocks)) }
+        ensures looks { graph.new.looks ≤ graph.old.looks + 2 * length graph.old.graph.links }
+        ensures graph { graph.new.graph ≡ graph.old.graph }
+    {
+        let alloc = graph.alloc();
+        let numbered = number_components(graph, topo.order())?;
+        let numbers = numbered.numbers;
+        let blocks = group(alloc, topo.order(), numbers.as_slice(), numbered.count)?;
+        let Layout { positions, bounds } = lay_out(alloc, blocks.as_slice())?;
+        Ok(Sccs {
+            positions,
+            bounds,
+            numbers,
+        })
+    }
+
+    /// Whether the positions, which are below the node count, are in one component. A position is
+    /// in one with itself.
+    pub fn is_same_scc(&self, a: Ix, b: Ix) -> bool
+        requires first { Ix.index_of a < length (concat self.now) }
+        requires second { Ix.index_of b < length (concat self.now) }
+        ensures { (result ≡ true) ↔ InOneBlock self.now (Ix.index_of a) (Ix.index_of b) }
+    {
+        self.numbers[a.index()] == self.numbers[b.index()]
+    }
+
+    /// Whether the position, which is below the node count, is in a component with another one.
+    pub fn in_multi_scc(&self, position: Ix) -> bool
+        requires { Ix.index_of position < length (concat self.now) }
+        ensures { (result ≡ true) ↔ InLargeBlock self.now (Ix.index_of position) }
+    {
+        let number = self.numbers[position.index()];
+        self.bounds[number + 1] - self.bounds[number] > 1
+    }
+
+    /// All components, as slices of positions.
+    pub fn all_sccs(&self) -> AllSccs<'_, Ix>
+        ensures { result ≡ self.now }
+    {
+        AllSccs {
+            positions: self.positions.as_slice(),
+            bounds: self.bounds.as_slice(),
+        }
+    }
+
+    /// All positions: Forward component after component, Reverse that list from its end.
+    pub fn node_iter(&self, direction: DependencyDirection) -> NodeIter<'_, Ix>
+        ensures direction { result.direction ≡ direction }
+        ensures left { result.left ≡ listed direction (concat self.now) }
+    {
+        NodeIter {
+            left: self.positions.as_slice(),
+            direction,
+        }
+    }
+}

@@ -1,0 +1,275 @@
+//! Indexes and components of small graphs and of large ones.
+ghost use Rattle.std.specs.Prelude.{◌≡◌, length, IfOk};
+ghost use Rattle.std.specs.List.{concat};
+
+use crate::graph_core::{CountedGraph, Graph, Link};
+use crate::ix::{DependencyDirection, GraphSpec, IndexType, PackageIx};
+use crate::scc::Sccs;
+use crate::topo::TopoWithCycles;
+use std::alloc::{AllocError, Global};
+use std::test::Fail;
+
+/// A graph whose links say whether they are dev-only.
+enum DevLinks {}
+
+impl GraphSpec for DevLinks {
+    type Node = ();
+
+    type Edge = bool;
+
+    type Ix = PackageIx;
+}
+
+#[derive(Drop)]
+struct Ordered {
+    topo: TopoWithCycles<PackageIx>,
+    sccs: Sccs<PackageIx>,
+    topo_looks: u64,
+    looks: u64,
+}
+
+/// The index by the links that aren't dev-only, the components, and the looks for the first and
+/// for both.
+fn make_ordered(graph: &Graph<DevLinks>) -> Result<Ordered, AllocError> {
+    let mut counted = CountedGraph::new(graph);
+    let _node_count = counted.node_count();
+    let topo = TopoWithCycles::new(&mut counted, |is_dev_only: &bool| !*is_dev_only)?;
+    let topo_looks = counted.looks();
+    let sccs = Sccs::new(&mut counted, &topo)?;
+    Ok(Ordered {
+        topo,
+        sccs,
+        topo_looks,
+        looks: counted.looks(),
+    })
+}
+
+fn graph_of(
+    alloc: Global,
+    node_count: usize,
+    ends: &[(usize, usize, bool)],
+) -> Result<Graph<DevLinks>, Fail> {
+    let nodes = vec![in alloc; (); node_count]?;
+    let links = ends
+        .iter()
+        .map(|(from, to, is_dev_only)| Link {
+            from: *from,
+            to: *to,
+            edge: *is_dev_only,
+        })
+        .collect(alloc)?;
+    Ok(Graph::from_parts(nodes, links)?)
+}
+
+/// The graph whose node at each position but the last has a link to the next one, with as many
+/// more links as are given.
+fn chain_of(
+    alloc: Global,
+    node_count: usize,
+    more: &[(usize, usize)],
+) -> Result<Graph<DevLinks>, Fail> {
+    let nodes = vec![in alloc; (); node_count]?;
+    let mut links = Vec::new(alloc);
+    for to in 1..node_count {
+        links.push(Link {
+            from: to - 1,
+            to,
+            edge: false,
+        })?;
+    }
+    for (from, to) in more {
+        links.push(Link {
+            from: *from,
+            to: *to,
+            edge: false,
+        })?;
+    }
+    Ok(Graph::from_parts(nodes, links)?)
+}
+
+fn complete_of(alloc: Global, node_count: usize) -> Result<Graph<DevLinks>, Fail> {
+    let nodes = vec![in alloc; (); node_count]?;
+    let mut links = Vec::new(alloc);
+    for from in 0..node_count {
+        for to in 0..node_count {
+            links.push(Link {
+                from,
+                to,
+                edge: false,
+            })?;
+        }
+    }
+    Ok(Graph::from_parts(nodes, links)?)
+}
+
+/// The position at each index.
+fn by_index(alloc: Global, topo: &TopoWithCycles<PackageIx>) -> Result<Vec<usize>, AllocError> {
+    let count = topo.order().len();
+    let mut positions = vec![in alloc; 0; count]?;
+    for position in 0..count.min(4_294_967_295) {
+        let index = topo.topo_ix(PackageIx::new(position));
+        if let Some(place) = positions.get_mut(index) {
+            *place = position;
+        }
+    }
+    Ok(positions)
+}
+
+fn listed(
+    alloc: Global,
+    sccs: &Sccs<PackageIx>,
+    direction: DependencyDirection,
+) -> Result<Vec<usize>, AllocError> {
+    let nodes = sccs.node_iter(direction);
+    nodes.map(|ix| ix.index()).collect(alloc)
+}
+
+fn lengths(alloc: Global, sccs: &Sccs<PackageIx>) -> Result<Vec<usize>, AllocError> {
+    let components = sccs.all_sccs();
+    components.map(|component| component.len()).collect(alloc)
+}
+
+fn counts_up(list: &[usize]) -> bool {
+    for (place, position) in list.iter().enumerate() {
+        if *position != place {
+            return false;
+        }
+    }
+    true
+}
+
+fn same(sccs: &Sccs<PackageIx>, a: usize, b: usize) -> Option<bool> {
+    let count = sccs.node_iter(DependencyDirection::Forward).len();
+    if count < 4_294_967_295 && a < count && b < count {
+        Some(sccs.is_same_scc(PackageIx::new(a), PackageIx::new(b)))
+    } else {
+        None
+    }
+}
+
+fn is_multi(sccs: &Sccs<PackageIx>, position: usize) -> Option<bool> {
+    let count = sccs.node_iter(DependencyDirection::Forward).len();
+    if count < 4_294_967_295 && position < count {
+        Some(sccs.in_multi_scc(PackageIx::new(position)))
+    } else {
+        None
+    }
+}
+
+#[test]
+fn unreached_last(rt: HostRuntime) -> Result<(), Fail> {
+    let graph = graph_of(rt.alloc(), 3, &[(0, 1, false), (1, 0, false)])?;
+    let ordered = make_ordered(&graph)?;
+    assert_eq!(rt;
+        by_index(rt.alloc(), &ordered.topo)?.as_slice(),
+        [2, 0, 1].as_slice()
+    );
+    assert!(rt; ordered.looks <= 8);
+    Ok(())
+}
+
+#[test]
+fn self_link_is_no_root_loss(rt: HostRuntime) -> Result<(), Fail> {
+    let graph = graph_of(rt.alloc(), 2, &[(1, 0, false), (1, 1, false)])?;
+    let ordered = make_ordered(&graph)?;
+    assert_eq!(rt;
+        by_index(rt.alloc(), &ordered.topo)?.as_slice(),
+        [1, 0].as_slice()
+    );
+    Ok(())
+}
+
+const BACKS: [(usize, usize, bool); 5] = [
+    (3, 2, false),
+    (2, 3, true),
+    (2, 1, false),
+    (1, 0, false),
+    (0, 1, true),
+];
+
+#[test]
+fn four_with_dev_backs(rt: HostRuntime) -> Result<(), Fail> {
+    let graph = graph_of(rt.alloc(), 4, BACKS.as_slice())?;
+    let ordered = make_ordered(&graph)?;
+    let forward = listed(rt.alloc(), &ordered.sccs, DependencyDirection::Forward)?;
+    assert_eq!(rt; forward.as_slice(), [3, 2, 1, 0].as_slice());
+    let reverse = listed(rt.alloc(), &ordered.sccs, DependencyDirection::Reverse)?;
+    assert_eq!(rt; reverse.as_slice(), [0, 1, 2, 3].as_slice());
+    assert_eq!(rt;
+        lengths(rt.alloc(), &ordered.sccs)?.as_slice(),
+        [2, 2].as_slice()
+    );
+    assert!(rt; ordered.looks <= 20);
+    Ok(())
+}
+
+#[test]
+fn components_of_a_chain_with_a_ring(rt: HostRuntime) -> Result<(), Fail> {
+    let graph = chain_of(rt.alloc(), 4, &[(2, 1)])?;
+    let ordered = make_ordered(&graph)?;
+    assert_eq!(rt; same(&ordered.sccs, 1, 2), Some(true));
+    assert_eq!(rt; same(&ordered.sccs, 1, 3), Some(false));
+    assert_eq!(rt; is_multi(&ordered.sccs, 2), Some(true));
+    assert_eq!(rt; is_multi(&ordered.sccs, 3), Some(false));
+    let mut components = ordered.sccs.all_sccs();
+    assert_eq!(rt; components.len(), 3);
+    assert_eq!(rt; components.next_back().map(|last| last.len()), Some(1));
+    assert_eq!(rt; components.next_back().map(|middle| middle.len()), Some(2));
+    assert_eq!(rt; components.len(), 1);
+    let nodes = ordered.sccs.node_iter(DependencyDirection::Reverse);
+    assert_eq!(rt; nodes.direction(), DependencyDirection::Reverse);
+    Ok(())
+}
+
+#[test]
+fn sorts_by_the_index(rt: HostRuntime) -> Result<(), Fail> {
+    let graph = graph_of(rt.alloc(), 3, &[(2, 0, false), (0, 1, false)])?;
+    let ordered = make_ordered(&graph)?;
+    let mut nodes = [PackageIx::new(0), PackageIx::new(1), PackageIx::new(2)];
+    ordered.topo.sort_nodes(nodes.as_mut_slice());
+    assert_eq!(rt;
+        nodes.as_slice(),
+        [PackageIx::new(2), PackageIx::new(0), PackageIx::new(1)].as_slice()
+    );
+    Ok(())
+}
+
+#[test]
+fn ring_1000(rt: HostRuntime) -> Result<(), Fail> {
+    let graph = chain_of(rt.alloc(), 1000, &[(999, 0)])?;
+    let ordered = make_ordered(&graph)?;
+    assert!(rt; counts_up(by_index(rt.alloc(), &ordered.topo)?.as_slice()));
+    let forward = listed(rt.alloc(), &ordered.sccs, DependencyDirection::Forward)?;
+    assert!(rt; counts_up(forward.as_slice()));
+    assert_eq!(rt;
+        lengths(rt.alloc(), &ordered.sccs)?.as_slice(),
+        [1000].as_slice()
+    );
+    Ok(())
+}
+
+#[test]
+fn complete_300(rt: HostRuntime) -> Result<(), Fail> {
+    let graph = complete_of(rt.alloc(), 300)?;
+    let ordered = make_ordered(&graph)?;
+    assert_eq!(rt;
+        lengths(rt.alloc(), &ordered.sccs)?.as_slice(),
+        [300].as_slice()
+    );
+    assert!(rt; ordered.topo_looks <= 180_000);
+    assert!(rt; ordered.looks <= 360_000);
+    Ok(())
+}
+
+// Recursion over the graph would run out of the call stack here.
+#[test]
+fn chain_200000(rt: HostRuntime) -> Result<(), Fail> {
+    let graph = chain_of(rt.alloc(), 200_000, &[])?;
+    let ordered = make_ordered(&graph)?;
+    assert!(rt; counts_up(by_index(rt.alloc(), &ordered.topo)?.as_slice()));
+    let forward = listed(rt.alloc(), &ordered.sccs, DependencyDirection::Forward)?;
+    assert!(rt; counts_up(forward.as_slice()));
+    assert_eq!(rt; forward.len(), 200_000);
+    assert!(rt; ordered.looks <= 799_996);
+    Ok(())
+}

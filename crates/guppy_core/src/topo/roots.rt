@@ -1,0 +1,77 @@
+ghost use Rattle.std.specs.Prelude.{◌≡◌, ◌↔◌, ◌⊎◌, ℕ, ◌+◌, ◌<◌, ◌≤◌, ◌^◌, Bool, length, IfOk, All};
+ghost use Rattle.guppy_core.specs.declared.ix.direction.DependencyDirection.TheVariants.{Forward};
+ghost use Rattle.guppy_core.specs.IxSet.{IsIn};
+ghost use Rattle.guppy_core.specs.Links.{links_at};
+ghost use Rattle.guppy_core.specs.Reach.{Step};
+ghost use Rattle.guppy_core.specs.Listing.{Stands};
+ghost use Rattle.guppy_core.specs.Topo.{IsEntered, IsRoot, LeadsAway};
+
+use crate::graph_core::CountedGraph;
+use crate::ix::{DependencyDirection, GraphSpec, IxSet};
+use crate::topo::lists::absent;
+use std::alloc::AllocError;
+
+/// Puts the other positions into the set to which kept links lead from this one.
+fn enter_from<G: GraphSpec, F: Fn(&G::Edge) -> bool>(
+    graph: &mut CountedGraph<'_, G>,
+    position: usize,
+    keep: &F,
+    set: &mut IxSet<G>,
+)
+    ghost kept: { G.Edge → Bool }
+    requires position { position < length graph.old.graph.nodes }
+    requires count { length set.old ≡ length graph.old.graph.nodes }
+    requires room { graph.old.looks + length (links_at Forward graph.old.graph.links position) < 2 ^ 64 }
+    requires callable { F.IsAlwaysCallable keep.now }
+    requires keeps { (e : _) (b : Bool) → F.post keep.now e b → b ≡ kept e.now }
+    ensures count { length set.new ≡ length graph.old.graph.nodes }
+    ensures members { (p : ℕ) → IsIn set.new p ↔ (IsIn set.old p ⊎ LeadsAway (Step Forward kept graph.old.graph.links) position p) }
+    ensures looks { graph.new.looks ≡ graph.old.looks + length (links_at Forward graph.old.graph.links position) }
+    ensures graph { graph.new.graph ≡ graph.old.graph }
+{
+    for k in 0..graph.leaving_at(position, DependencyDirection::Forward) {
+        let (_number, far, edge) = graph.look_at(position, DependencyDirection::Forward, k);
+        if far != position && keep(edge) {
+            set.insert(far);
+        }
+    }
+}
+
+/// The positions to which a kept link leads from another one.
+fn entered<G: GraphSpec, F: Fn(&G::Edge) -> bool>(
+    graph: &mut CountedGraph<'_, G>,
+    keep: &F,
+) -> Result<IxSet<G>, AllocError>
+    ghost kept: { G.Edge → Bool }
+    requires room { graph.old.looks + length graph.old.graph.links < 2 ^ 64 }
+    requires callable { F.IsAlwaysCallable keep.now }
+    requires keeps { (e : _) (b : Bool) → F.post keep.now e b → b ≡ kept e.now }
+    ensures count { IfOk result (λ set. length set ≡ length graph.old.graph.nodes) }
+    ensures members { IfOk result (λ set. (p : ℕ) → IsIn set p ↔ IsEntered (Step Forward kept graph.old.graph.links) p) }
+    ensures looks { graph.new.looks ≤ graph.old.looks + length graph.old.graph.links }
+    ensures graph { graph.new.graph ≡ graph.old.graph }
+{
+    let mut set = IxSet::empty(graph.alloc(), graph.node_count())?;
+    for position in 0..graph.node_count() {
+        enter_from(graph, position, keep, &mut set);
+    }
+    Ok(set)
+}
+
+/// The positions to which no kept link leads from another one, ascending.
+pub(crate) fn roots<G: GraphSpec, F: Fn(&G::Edge) -> bool>(
+    graph: &mut CountedGraph<'_, G>,
+    keep: &F,
+) -> Result<Vec<usize>, AllocError>
+    ghost kept: { G.Edge → Bool }
+    requires room { graph.old.looks + length graph.old.graph.links < 2 ^ 64 }
+    requires callable { F.IsAlwaysCallable keep.now }
+    requires keeps { (e : _) (b : Bool) → F.post keep.now e b → b ≡ kept e.now }
+    ensures below { IfOk result (λ roots. All (λ p. p < length graph.old.graph.nodes) roots.items) }
+    ensures roots { IfOk result (λ roots. (p : ℕ) → Stands roots.items p ↔ IsRoot (Step Forward kept graph.old.graph.links) (length graph.old.graph.nodes) p) }
+    ensures looks { graph.new.looks ≤ graph.old.looks + length graph.old.graph.links }
+    ensures graph { graph.new.graph ≡ graph.old.graph }
+{
+    let entered = entered(graph, keep)?;
+    absent(graph.alloc(), &entered)
+}
