@@ -1,25 +1,29 @@
 -- From records whose rules were checked to the graph of their parts.
-use Rattle.std.proofs.Common.{◌≡◌, ◌∙◌, sym, ap, refl, subst, arith, ℕ, zero, suc, ◌<◌, ◌≤◌, ◌+◌, List, [], ◌∷◌, ◌++◌, get_or, length, map, take, All, Bool, true, false, Option, Some, None, slice_get}
-use Rattle.std.specs.List.{HoldsAt}
-use Rattle.std.specs.Prelude.{nat_le, ◌||◌}
+use Rattle.std.proofs.Common.{◌≡◌, ◌∙◌, sym, ap, refl, subst, arith, ℕ, zero, suc, ◌<◌, ◌≤◌, List, [], ◌∷◌, get_or, length, All, true, Option, Some, None, slice_get}
 use Rattle.std.proofs.lemmas.List.{length-map}
 use Rattle.std.specs.Option.{option_map}
 use Rattle.std.proofs.lemmas.Bool.Decides.{nat_tests}
-use Rattle.std.proofs.lemmas.Option.{slice_get_within, slice_get_read, get_or_from_slice_get, slice_get-map}
+use Rattle.std.proofs.lemmas.Option.{slice_get_within, get_or_from_slice_get, slice_get-map}
 use Rattle.guppy_core.specs.declared.graph_core.link.Link.{Link}
 use Rattle.guppy_core.specs.declared.graph_core.graph.GraphFault.{GraphFault}
 use Rattle.guppy_core.specs.declared.graph_core.graph.GraphFault.TheVariants.{TooManyNodes, TooManyLinks, UnknownEnd, RepeatedLink, OutOfMemory}
-use Rattle.guppy_core.specs.Links.{EndsBelow, SamePair, is_unknown}
-use Rattle.guppy_core.specs.Pairs.{IsFirstUnknown, IsFirstRepeat, SinglesBelow}
+use Rattle.guppy_core.specs.Links.{EndsBelow, is_unknown}
+use Rattle.guppy_core.specs.Pairs.{IsFirstRepeat, SinglesBelow}
 use Rattle.guppy_core.specs.Graph.{GraphValue, IsGraph}
 use Rattle.guppy_core.specs.Fault.{IsFault}
 use Rattle.guppy_data.specs.declared.records.PackageRecord.{PackageRecord}
 use Rattle.guppy_data.specs.declared.records.LinkRecord.{LinkRecord}
 use Rattle.guppy_data.specs.declared.records.WorkspaceRecord.{WorkspaceRecord}
 use Rattle.guppy.specs.Ids.{HasId, DistinctBelow}
-use Rattle.guppy.specs.Links.{AreLinksOf, AreEndsNamed, AreEndsKnown, DistinctPairsBelow, IsFirstUnknownEnd, IsFirstRepeatedLink}
+use Rattle.guppy.specs.Links.{AreLinksOf, AreEndsNamed, AreEndsKnown, DistinctPairsBelow, IsFirstRepeatedLink}
+use Rattle.guppy.specs.Accepted.{ArePackagesAccepted, AfterMembers}
 use Rattle.guppy.specs.Refused.{IsRefusal, error_of}
-use Rattle.guppy.proofs.Ties.{within_of, id_of, position_is}
+use Rattle.guppy.proofs.Named.{within_of, id_is, position_is}
+
+-- the rules of the packages are kept, and X holds
+pub after_members : (packages : List PackageRecord) (records : List LinkRecord) (workspace : WorkspaceRecord) → ArePackagesAccepted packages workspace → (X : Type 0) → X → AfterMembers packages records workspace X
+after_members packages records workspace kept X x =
+    (kept.few_packages, (kept.distinct_ids, (kept.distinct_targets, (kept.named_targets, (kept.distinct_paths, (kept.distinct_names, (kept.known_members, x)))))))
 
 edge_at : (o : Option (Link LinkRecord)) (r : LinkRecord) → option_map (λ l. l.edge) o ≡ Some r → (l : Link LinkRecord) × (o ≡ Some l) × (l.edge ≡ r)
 edge_at None r h = absurd (cc)
@@ -80,23 +84,23 @@ module _ (packages : List PackageRecord) (records : List LinkRecord) (links : Li
         second = r.second.edge;
         first_found = record_at packages records links are r.earlier r.first r.first_found;
         second_found = record_at packages records links are k r.second r.second_found;
-        same_from = sym (id_of packages _ r.first.from e.0) ∙ id_of packages r.second.edge.from r.first.from (subst (λ p. HasId packages r.second.edge.from p) (sym r.same.0) f.0);
-        same_to = sym (id_of packages _ r.first.to e.1) ∙ id_of packages r.second.edge.to r.first.to (subst (λ p. HasId packages r.second.edge.to p) (sym r.same.1) f.1);
+        same_from = id_is packages r.first.edge.from r.second.edge.from r.first.from e.0 (subst (λ p. HasId packages r.second.edge.from p) (sym r.same.0) f.0);
+        same_to = id_is packages r.first.edge.to r.second.edge.to r.first.to e.1 (subst (λ p. HasId packages r.second.edge.to p) (sym r.same.1) f.1);
         distinct = pairs_of k r.singles;
       }
 
   -- the fault of the parts is the first fault of the records
-  pub refusal_of : (workspace : WorkspaceRecord) → length packages ≤ 4294967295 → length records ≤ 4294967295 → All (AreEndsKnown packages) records → (fault : GraphFault) → IsFault (length packages) links fault → IsRefusal packages records workspace (error_of fault)
-  refusal_of workspace few few_links known TooManyNodes h = h
-  refusal_of workspace few few_links known TooManyLinks h = let n = count_of packages records links are in (h.0, distinct, omega arith)
-  refusal_of workspace few few_links known (UnknownEnd k) h =
+  pub refusal_of : (workspace : WorkspaceRecord) → ArePackagesAccepted packages workspace → length records ≤ 4294967295 → All (AreEndsKnown packages) records → (fault : GraphFault) → IsFault (length packages) links fault → IsRefusal packages records workspace (error_of fault)
+  refusal_of workspace kept few_links known TooManyNodes h = h
+  refusal_of workspace kept few_links known TooManyLinks h = let n = count_of packages records links are in after_members packages records workspace kept _ (omega arith)
+  refusal_of workspace kept few_links known (UnknownEnd k) h =
       let at = h.2.within in
       let l = some_at links k at in
       let below : EndsBelow (length packages) l.0 = subst (EndsBelow (length packages)) l.1 (ends_below packages records links are k l.0 at) in
       let unknown : is_unknown (length packages) l.0 ≡ true = subst (λ (x : Link LinkRecord). is_unknown (length packages) x ≡ true) l.1 (h.2.unknown l.0) in
       absurd (known_end (length packages) l.0 below unknown)
-  refusal_of workspace few few_links known (RepeatedLink k) h = (few, distinct, few_links, known, repeat_of k h.3)
-  refusal_of workspace few few_links known OutOfMemory h = tt
+  refusal_of workspace kept few_links known (RepeatedLink k) h = after_members packages records workspace kept _ (few_links, (known, repeat_of k h.3))
+  refusal_of workspace kept few_links known OutOfMemory h = tt
 
   pub distinct_pairs : (g : GraphValue PackageRecord LinkRecord) → IsGraph g → g.links ≡ links → DistinctPairsBelow records (length records)
   distinct_pairs g is same = pairs_of (length records) (λ i j a b below_i below_j found_a found_b pair. is.single i j a b (ap (λ ls. slice_get ls i) same ∙ found_a) (ap (λ ls. slice_get ls j) same ∙ found_b) pair)

@@ -1,15 +1,16 @@
 -- The ends of links, record by record.
-use Rattle.std.proofs.Common.{◌≡◌, ◌∙◌, sym, ap, refl, subst, arith, ℕ, zero, suc, ◌<◌, ◌≤◌, ◌+◌, List, [], ◌∷◌, ◌++◌, get_or, length, length-append, map, take, All, Option, Some, None, slice_get}
-use Rattle.std.proofs.lemmas.Option.{slice_get_within, slice_get_read, get_or_from_slice_get}
+use Rattle.std.proofs.Common.{◌≡◌, ◌∙◌, ap, refl, arith, ℕ, zero, suc, ◌+◌, List, [], ◌∷◌, ◌++◌, length, length-append, map, take, All, Some, slice_get}
+use Rattle.std.proofs.lemmas.Option.{slice_get_within, get_or_from_slice_get}
 use Rattle.std.specs.List.{zip}
 use Rattle.std.proofs.lemmas.List.{take_more}
 use Rattle.std.proofs.lemmas.List.Elements.{All-push, All-map}
 use Rattle.guppy_core.specs.declared.graph_core.link.Link.{Link}
 use Rattle.guppy_data.specs.declared.records.PackageRecord.{PackageRecord}
 use Rattle.guppy_data.specs.declared.records.LinkRecord.{LinkRecord}
-use Rattle.guppy.specs.Ids.{HasId, NoneBelow}
+use Rattle.guppy.specs.Ids.{HasId}
+use Rattle.guppy.specs.Keys.{NoneBelow}
 use Rattle.guppy.specs.Links.{AreEndsOf, AreEndsAt, AreEndsNamed, AreLinksOf, link_of, AreEndsKnown, IsFirstUnknownEnd}
-use Rattle.guppy.proofs.Ties.{unknown_of}
+use Rattle.guppy.proofs.Named.{unknown_of}
 
 -- the records whose ends were found are known
 pub all_known : (packages : List PackageRecord) (records : List LinkRecord) (ends : List (ℕ × ℕ)) → length ends ≡ length records → All (AreEndsAt packages) (zip records ends) → All (AreEndsKnown packages) records
@@ -43,7 +44,7 @@ links_made packages records ends are = record {
 }
 
 module _ (packages : List PackageRecord) (records : List LinkRecord) (k : ℕ) (ends : List (ℕ × ℕ)) (r : LinkRecord) where
-  pub unknown_from : slice_get records k ≡ Some r → AreEndsOf packages (take k records) ends → NoneBelow packages r.from (length packages) → IsFirstUnknownEnd packages records k
+  pub unknown_from : slice_get records k ≡ Some r → AreEndsOf packages (take k records) ends → NoneBelow (HasId packages) r.from (length packages) → IsFirstUnknownEnd packages records k
   unknown_from found are none = record {
     record_ = r;
     found = found;
@@ -51,7 +52,7 @@ module _ (packages : List PackageRecord) (records : List LinkRecord) (k : ℕ) (
     before = all_known packages (take k records) ends are.count are.named;
   }
 
-  pub unknown_to : slice_get records k ≡ Some r → AreEndsOf packages (take k records) ends → NoneBelow packages r.to (length packages) → IsFirstUnknownEnd packages records k
+  pub unknown_to : slice_get records k ≡ Some r → AreEndsOf packages (take k records) ends → NoneBelow (HasId packages) r.to (length packages) → IsFirstUnknownEnd packages records k
   unknown_to found are none = record {
     record_ = r;
     found = found;

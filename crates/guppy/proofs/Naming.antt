@@ -1,12 +1,12 @@
 -- Lists of IDs, and the positions of the packages that they name.
-use Rattle.std.proofs.Common.{◌≡◌, ◌∙◌, sym, ap, refl, subst, inl, inr, ⊎_elim, zero, suc, ℕ, ◌+◌, ◌<◌, List, [], ◌∷◌, ◌++◌, length, get_or, map, arith, Bool, true, All}
-use Rattle.std.specs.Prelude.{Option, Some}
+use Rattle.std.proofs.Common.{◌≡◌, ◌∙◌, sym, refl, subst, ⊎_elim, zero, suc, ℕ, ◌<◌, List, [], ◌∷◌, ◌++◌, length, get_or, map, arith, Bool, true, All}
+use Rattle.std.specs.Prelude.{Option, Some, None, is_some, MatchOption, ◌↔◌}
 use denote.Ref.{Bor}
-use Rattle.std.specs.List.{Contains}
+use Rattle.std.specs.List.{AllZip, Contains}
 use Rattle.std.specs.Iterator.{Yields}
 use Rattle.std.proofs.lemmas.List.Elements.{All-push, Contains-append_left, Contains-push, Contains-push_cases, Contains-get_or}
 use Rattle.std.proofs.Math.ListN.{get_or-map}
-use Rattle.std.proofs.lemmas.List.{length-map, map_push}
+use Rattle.std.proofs.lemmas.List.{length-map}
 use Rattle.guppy_core.specs.IxSet.{IsIn}
 use Rattle.guppy_core.specs.Reach.{LinkStep, Walk, ReachedFrom}
 use Rattle.guppy_core.specs.declared.ix.direction.DependencyDirection.TheVariants.{Forward}
@@ -15,12 +15,13 @@ use Rattle.guppy_data.specs.declared.texts.error.Error.{Error}
 use Rattle.guppy_data.specs.declared.records.PackageRecord.{PackageRecord}
 use Rattle.guppy.specs.Ids.{HasId, IsKnown, DistinctBelow, ix_position}
 use Rattle.guppy.specs.Graph.{GraphData}
-use Rattle.guppy.specs.Depends.{DependsOn}
-use Rattle.guppy.specs.Query.{AreNamed}
+use Rattle.guppy_core.specs.Graph.{NoLink, LinkIs}
+use Rattle.guppy.specs.Depends.{DependsOn, DirectlyDependsOn}
+use Rattle.guppy.specs.Keys.{DifferBelow}
+use Rattle.guppy.specs.Query.{AreNamed, IsSetNamed}
 use Rattle.guppy.specs.Refused.{NamesId, IsFirstUnknown}
-use Rattle.guppy.proofs.Ties.{position_is, within_of}
-use Rattle.std.proofs.iter.Next.{Yields-more}
-use Rattle.guppy.proofs.Unknown.{NamesId-along, first_unknown-front}
+use Rattle.guppy.proofs.Named.{position_is, within_of}
+use Rattle.guppy.proofs.Unknown.{NamesId-along, first_unknown-next}
 
 module _ (packages : List PackageRecord) (ids : List (List ℕ)) (positions : List ℕ) (are : AreNamed packages ids positions) where
   -- one more ID, and its position
@@ -54,7 +55,7 @@ pub unknown_next : {S : Type 0} (steps : S → Option (Bor (List ℕ)) → S →
     → NamesId (λ id. (named : List (Bor (List ℕ))) × (rest : S) × Yields steps s named rest × IsFirstUnknown packages (map (λ id. id.now) named) id) e
 unknown_next {S} steps packages s t u named x e gave step known names =
     NamesId-along (IsFirstUnknown packages (x.now ∷ [])) (λ id. (named : List (Bor (List ℕ))) × (rest : S) × Yields steps s named rest × IsFirstUnknown packages (map (λ id. id.now) named) id) e
-    (λ id first. (named ++ x ∷ [], u, Yields-more steps s named t x u gave step, rw map_push (first_unknown-front packages (map (λ id. id.now) named) (x.now ∷ []) id known first))) names
+    (λ id first. first_unknown-next (IsKnown packages) steps (λ (id : Bor (List ℕ)). id.now) s t u named x id gave step known first) names
 
 module _ (g : GraphData) (distinct : DistinctBelow g.packages (length g.packages)) (a b : List ℕ) (p q : ℕ) (has_a : HasId g.packages a p) (has_b : HasId g.packages b q) (initials reached : List Bool) where
   -- what the package of one ID reaches
@@ -63,6 +64,62 @@ module _ (g : GraphData) (distinct : DistinctBelow g.packages (length g.packages
     λ h. let from = (reaches q).0 h in (p, q, has_a, has_b, subst (λ s. Walk (LinkStep Forward g.links) s q) (only from.0 from.1) from.2),
     λ d. (reaches q).1 (p, there, subst (λ s. Walk (LinkStep Forward g.links) s q) (position_is g.packages distinct a _ p d.2 has_a) (subst (λ t. Walk (LinkStep Forward g.links) d.0 t) (position_is g.packages distinct b _ q d.3 has_b) d.4)),
   )
+
+module _ (g : GraphData) (distinct : DistinctBelow g.packages (length g.packages)) (a b : List ℕ) (p q : ℕ) (has_a : HasId g.packages a p) (has_b : HasId g.packages b q) where
+  -- one package depends directly on another exactly where a link between their positions is found
+  pub directly_by_link : (number : Option ℕ) → MatchOption number (NoLink g.links p q) (LinkIs g.links p q) → (is_some number ≡ true → DirectlyDependsOn g a b) × (DirectlyDependsOn g a b → is_some number ≡ true)
+  directly_by_link (Some n) l = (
+    λ _. (p, q, has_a, has_b, record { number = n; link = l.0; found = l.1; near = l.2; far = l.3; kept = refl }),
+    λ _. refl,
+  )
+  directly_by_link None none = (
+    λ h. absurd (cc),
+    λ d. absurd (none d.4.number d.4.link d.4.found
+        (d.4.near ∙ position_is g.packages distinct a d.0 p d.2 has_a)
+        (d.4.far ∙ position_is g.packages distinct b d.1 q d.3 has_b)),
+  )
+
+-- texts, and the positions that they name one by one
+module _ (Names : List ℕ → ℕ → Type 0) where
+  named_text : (texts : List (List ℕ)) (positions : List ℕ) → AllZip Names texts positions → (p : ℕ) → Contains positions p → (text : List ℕ) × Contains texts text × Names text p
+  named_text [] [] zip p (k, within, same) = absurd (omega arith)
+  named_text [] (x ∷ xs) zip p there = absurd zip
+  named_text (t ∷ ts) [] zip p there = absurd zip
+  named_text (t ∷ ts) (x ∷ xs) zip p (zero, within, same) = (t, (zero, omega arith, refl), subst (Names t) same zip.0)
+  named_text (t ∷ ts) (x ∷ xs) zip p (suc k, within, same) =
+      let r = named_text ts xs zip.1 p (k, omega arith, same) in
+      let later = r.1.1 in
+      (r.0, (suc r.1.0, omega arith, r.1.2), r.2)
+
+  position_named : (texts : List (List ℕ)) (positions : List ℕ) → AllZip Names texts positions → (text : List ℕ) → Contains texts text → (p : ℕ) × Contains positions p × Names text p
+  position_named [] [] zip text (k, within, same) = absurd (omega arith)
+  position_named [] (x ∷ xs) zip text there = absurd zip
+  position_named (t ∷ ts) [] zip text there = absurd zip
+  position_named (t ∷ ts) (x ∷ xs) zip text (zero, within, same) = (x, (zero, omega arith, refl), subst (λ u. Names u x) same zip.0)
+  position_named (t ∷ ts) (x ∷ xs) zip text (suc k, within, same) =
+      let r = position_named ts xs zip.1 text (k, omega arith, same) in
+      let later = r.1.1 in
+      (r.0, (suc r.1.0, omega arith, r.1.2), r.2)
+
+  module _ (packages : List PackageRecord) (within : (text : List ℕ) (p : ℕ) → Names text p → p < length packages) where
+    pub zip_below : (texts : List (List ℕ)) (positions : List ℕ) → AllZip Names texts positions → All (λ p. p < length packages) positions
+    zip_below texts positions zip = λ k d inside.
+        let r = named_text texts positions zip (get_or positions k d) (Contains-get_or positions k d inside) in
+        within r.0 _ r.2
+
+    -- the set of these positions is the one that the texts name
+    pub zip_named_set : DifferBelow Names (length packages) → (texts : List (List ℕ)) (positions : List ℕ) → AllZip Names texts positions → (set : List Bool) → length set ≡ length packages → ((p : ℕ) → IsIn set p ↔ Contains positions p) → IsSetNamed Names packages texts set
+    zip_named_set differ texts positions zip set count members = record {
+      count_is = count;
+      known = λ k d inside. let r = position_named texts positions zip (get_or texts k d) (Contains-get_or texts k d inside) in (r.0, r.2);
+      members = λ p. (
+        λ h. named_text texts positions zip p ((members p).0 h),
+        λ named.
+            let r = position_named texts positions zip named.0 named.1 in
+            let same : r.0 ≡ p = differ r.0 p named.0 (within named.0 r.0 r.2) (within named.0 p named.2) r.2 named.2 in
+            (members p).1 (subst (Contains positions) same r.1),
+      );
+    }
 
 pub only_one : (s p : ℕ) → Contains (p ∷ []) s → s ≡ p
 only_one s p (zero, within, same) = sym same

@@ -1,5 +1,5 @@
 -- What an iterator gives that is known to give a list.
-use Rattle.std.proofs.Common.{◌≡◌, ◌∙◌, sym, refl, subst, suc, ◌+◌, List, [], ◌∷◌, ◌++◌, map, arith, Option, None, All}
+use Rattle.std.proofs.Common.{◌≡◌, ◌∙◌, sym, refl, subst, suc, List, [], ◌∷◌, ◌++◌, arith, Option, None, All}
 use Rattle.std.specs.Iterator.{Drains, HoldsAlong}
 use Rattle.std.proofs.iter.Yields.{gives_along}
 use Rattle.std.proofs.lemmas.Iterator.{YieldsList}

@@ -24,12 +24,25 @@ pub record AreNamed (packages : List PackageRecord) (ids : List (List ℕ)) (pos
   pub there : (p : ℕ) (id : List ℕ) → Contains ids id → HasId packages id p → Contains positions p
   pub named : (p : ℕ) → Contains positions p → (id : List ℕ) × Contains ids id × HasId packages id p
 
--- each ID is a package's, and the set has exactly these packages
-pub record IsNamedSet (packages : List PackageRecord) (ids : List (List ℕ)) (set : List Bool) : Type 0 where
+-- each text names a package, and the set has exactly the packages that they name
+pub record IsSetNamed (Names : List ℕ → ℕ → Type 0) (packages : List PackageRecord) (texts : List (List ℕ)) (set : List Bool) : Type 0 where
   pub count_is : length set ≡ length packages
-  pub known : All (IsKnown packages) ids
-  pub members : (p : ℕ) → IsIn set p ↔ ((id : List ℕ) × Contains ids id × HasId packages id p)
+  pub known : All (λ text. (p : ℕ) × Names text p) texts
+  pub members : (p : ℕ) → IsIn set p ↔ ((text : List ℕ) × Contains texts text × Names text p)
+
+-- each ID is a package's, and the set has exactly these packages
+abbrev pub IsNamedSet : List PackageRecord → List (List ℕ) → List Bool → Type 0
+IsNamedSet packages = IsSetNamed (HasId packages) packages
 
 -- the package with the ID is in the set
 abbrev pub IncludesId : SetData → List ℕ → Type 0
 IncludesId s id = (p : ℕ) × HasId s.graph.packages id p × IsIn s.included p
+
+-- the set has exactly the positions of packages at which P holds
+pub record IsSetWhere (packages : List PackageRecord) (P : ℕ → Type 0) (set : List Bool) : Type 0 where
+  pub count_is : length set ≡ length packages
+  pub members : (p : ℕ) → IsIn set p ↔ P p
+
+-- the set that the query starts at
+abbrev pub initials_of : QueryData → SetData
+initials_of q = record { graph = q.graph; included = q.initials }

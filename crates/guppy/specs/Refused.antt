@@ -9,7 +9,9 @@ use Rattle.guppy_data.specs.declared.texts.error.Error.TheVariants.{PackageGraph
 use Rattle.guppy_data.specs.declared.records.PackageRecord.{PackageRecord}
 use Rattle.guppy_data.specs.declared.records.LinkRecord.{LinkRecord}
 use Rattle.guppy_data.specs.declared.records.WorkspaceRecord.{WorkspaceRecord}
+use Rattle.std.specs.String.{string_bytes}
 use Rattle.guppy.specs.Ids.{IsKnown}
+use Rattle.guppy.specs.Members.{IsMemberPath, IsMemberName}
 use Rattle.guppy.specs.Accepted.{IsFirstFault}
 
 -- the error tells a fault of which P holds, or that memory ran out
@@ -38,13 +40,47 @@ NamesId P (PackageGraphInternalError f) = ⊥
 NamesId P (FeatureGraphInternalError text) = ⊥
 NamesId P OutOfMemory = Unit {0}
 
--- the ID is the first of the list that is no package's
-pub record IsFirstUnknown (packages : List PackageRecord) (ids : List (List ℕ)) (id : List ℕ) : Type 0 where
+-- the error names a path of which P holds, or tells that memory ran out
+abbrev pub NamesPath : (List ℕ → Type 0) → Error → Type 0
+NamesPath P (PackageGraphConstructError f) = ⊥
+NamesPath P (UnknownPackageId id) = ⊥
+NamesPath P (UnknownFeatureId id feature) = ⊥
+NamesPath P (UnknownWorkspacePath path) = P path
+NamesPath P (UnknownWorkspaceName name) = ⊥
+NamesPath P (PackageGraphInternalError f) = ⊥
+NamesPath P (FeatureGraphInternalError text) = ⊥
+NamesPath P OutOfMemory = Unit {0}
+
+-- the error names a name of which P holds, or tells that memory ran out
+abbrev pub NamesName : (List ℕ → Type 0) → Error → Type 0
+NamesName P (PackageGraphConstructError f) = ⊥
+NamesName P (UnknownPackageId id) = ⊥
+NamesName P (UnknownFeatureId id feature) = ⊥
+NamesName P (UnknownWorkspacePath path) = ⊥
+NamesName P (UnknownWorkspaceName name) = P (string_bytes name)
+NamesName P (PackageGraphInternalError f) = ⊥
+NamesName P (FeatureGraphInternalError text) = ⊥
+NamesName P OutOfMemory = Unit {0}
+
+-- the text is the first of the list that isn't known
+pub record IsFirstNot (Known : List ℕ → Type 0) (texts : List (List ℕ)) (text : List ℕ) : Type 0 where
   pub before : List (List ℕ)
   pub after : List (List ℕ)
-  pub place : ids ≡ before ++ id ∷ after
-  pub known : All (IsKnown packages) before
-  pub unknown : IsKnown packages id → ⊥
+  pub place : texts ≡ before ++ text ∷ after
+  pub known : All Known before
+  pub unknown : Known text → ⊥
+
+-- the ID is the first of the list that is no package's
+abbrev pub IsFirstUnknown : List PackageRecord → List (List ℕ) → List ℕ → Type 0
+IsFirstUnknown packages = IsFirstNot (IsKnown packages)
+
+-- the path is the first of the list that is no member's
+abbrev pub IsFirstUnknownPath : List PackageRecord → List (List ℕ) → List ℕ → Type 0
+IsFirstUnknownPath packages = IsFirstNot (IsMemberPath packages)
+
+-- the name is the first of the list that is no member's
+abbrev pub IsFirstUnknownName : List PackageRecord → List (List ℕ) → List ℕ → Type 0
+IsFirstUnknownName packages = IsFirstNot (IsMemberName packages)
 
 -- the error of a fault of a graph's parts
 abbrev pub error_of : GraphFault → Error

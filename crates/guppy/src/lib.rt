@@ -3,16 +3,33 @@
 //! The modules, from the bottom up:
 //!
 //! - `package_graph`: the graph, what makes one, and the types of queries and sets;
-//! - `query`: queries and resolves;
-//! - `set`: sets of packages.
+//! - `metadata`: what is known of a package, and the links that leave it;
+//! - `link`: what is known of a link;
+//! - `workspace`: the workspace, and its members by path and by name;
+//! - `query`: queries, visitors and resolves;
+//! - `set`: sets of packages;
+//! - `cycles`: packages that depend on each other.
 #![tactic(auto)]
 
+pub mod cycles;
+pub mod link;
+pub mod metadata;
 pub mod package_graph;
 pub mod query;
 pub mod set;
 #[cfg(test)]
 mod tests;
+pub mod workspace;
 
-pub use package_graph::{PackageGraph, PackageIds, Packages};
-pub use query::PackageQuery;
-pub use set::PackageSet;
+pub use cycles::Cycles;
+pub use link::PackageLink;
+pub use metadata::{
+    BuildTargets, FeatureIndexInPackage, NamedFeatures, NamedFeaturesFull, OptionalDepsFull,
+    PackageLinks, PackageMetadata,
+};
+pub use package_graph::{AllPackages, DependsCache, PackageGraph, PackageIds, Packages};
+pub use query::{PackageLinkContext, PackageLinkVisitor, PackageQuery, Recorder};
+pub use set::{ListedPackageIds, ListedPackages, PackageSet};
+pub use workspace::{
+    DefaultMemberIds, DefaultMembers, MemberIds, Members, MembersByName, MembersByPath, Workspace,
+};

@@ -1,26 +1,34 @@
 //! Sets of packages.
-ghost use Rattle.std.specs.Prelude.{◌≡◌, ◌↔◌, ◌==◌, [], ◌∷◌, IsTrue, IfOk, IfErr, OnOk, IsOk};
+ghost use Rattle.std.specs.Prelude.{◌≡◌, ◌↔◌, ◌==◌, [], ◌∷◌, IsTrue, IfOk, IfErr, OnOk, IsOk, length};
 ghost use Rattle.guppy_core.specs.IxSet.{member_count};
 ghost use Rattle.guppy.specs.Query.{IncludesId};
 ghost use Rattle.guppy.specs.Ids.{IsKnown};
 ghost use Rattle.guppy.specs.Refused.{NamesId, IsFirstUnknown};
 
+mod lists;
+mod members;
+mod named;
+
 pub use crate::package_graph::PackageSet;
+use crate::package_graph::Packages;
+use guppy_core::IxSet;
 use guppy_data::{Error, PackageId};
+pub use lists::{ListedPackageIds, ListedPackages};
+use std::alloc::AllocError;
 
 impl<'g> PackageSet<'g> {
     /// How many packages are in the set.
     pub fn len(&self) -> usize
         ensures { result ≡ member_count self.now.included }
     {
-        self.included.len()
+        self.core.len()
     }
 
     /// Whether no package is in the set.
     pub fn is_empty(&self) -> bool
         ensures { result ≡ (member_count self.now.included == 0) }
     {
-        self.included.is_empty()
+        self.core.is_empty()
     }
 
     /// Whether the package with the ID is in the set.
@@ -34,6 +42,37 @@ impl<'g> PackageSet<'g> {
         ensures unknown { IfErr result (NamesId (IsFirstUnknown self.now.graph.packages (id.now ∷ []))) }
     {
         let ix = self.graph.ix_of(id)?;
-        Ok(self.included.contains(ix))
+        Ok(self.core.contains(ix))
+    }
+
+    /// Whether a package with the ID is in the set; false where the graph has none.
+    pub(crate) fn has_id(&self, id: &PackageId) -> bool
+        ensures { IsTrue result ↔ IncludesId self.now id.now }
+    {
+        match self.graph.find_ix(id) {
+            Some(ix) => self.core.contains(ix),
+            None => false,
+        }
+    }
+
+    /// The positions of the packages in the set.
+    pub(crate) fn included(&self) -> &IxSet<Packages>
+        ensures included { result.now ≡ self.now.included }
+        ensures count { length self.now.included ≡ length self.now.graph.packages }
+    {
+        self.core.included()
+    }
+}
+
+/// The same packages of the same graph. Takes memory for a bit a package.
+impl Clone for PackageSet<'_> {
+    ghost is_clone = { λ s t. t ≡ s };
+
+    fn clone(&self) -> Result<Self, AllocError> {
+        let core = self.core.clone()?;
+        Ok(PackageSet {
+            graph: self.graph,
+            core,
+        })
     }
 }

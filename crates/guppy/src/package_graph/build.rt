@@ -1,46 +1,182 @@
 //! The parts of a package graph, made of records.
-ghost use Rattle.std.specs.Prelude.{◌≡◌, ℕ, ◌<◌, IfOk, IfErr, MatchOption, length, map};
+ghost use Rattle.std.specs.Prelude.{◌≡◌, ℕ, ◌<◌, List, IfOk, IfErr, OnOk, MatchOption, IsTrue, All, length, map, ◌↔◌};
 ghost use Rattle.std.specs.List.{zip};
-ghost use Rattle.guppy.specs.Ids.{DistinctBelow, IsIdIndex, IsFirstRepeatedId};
+ghost use Rattle.guppy_data.specs.declared.records.LinkRecord.{LinkRecord};
+ghost use Rattle.guppy.specs.Ids.{IsKnown};
+ghost use Rattle.guppy.specs.Indexes.{IsIdIndex, AreTargetIndexes, AreIndexes};
+ghost use Rattle.guppy.specs.Targets.{AreTargetsDistinct, AreTargetsNamed, IsNamed, IsFirstUnnamed, IsFirstRepeatedTarget, IsFirstUnnamedTarget};
+ghost use Rattle.guppy.specs.Accepted.{ArePackagesAccepted, IsFirstUnknownMember};
 ghost use Rattle.guppy.specs.Links.{AreEndsOf, IsFirstUnknownEnd, link_of};
-ghost use Rattle.guppy.specs.Refused.{TellsFault};
+ghost use Rattle.guppy.specs.Refused.{TellsFault, IsRefusal};
 
-use crate::package_graph::ids::position_of;
+use crate::package_graph::keyed::{first_repeat, index_of};
+use crate::package_graph::keys::{
+    Ids, Names, Paths, TargetIds, first_repeated_id, first_repeated_name, first_repeated_target,
+    position_of_id,
+};
 use guppy_core::Link;
-use guppy_data::{ConstructFault, Error, LinkRecord, PackageRecord};
+use guppy_data::{
+    BuildTargetRecord, ConstructFault, Error, LinkRecord, OwnedBuildTargetId, PackageId,
+    PackageRecord, WorkspaceRecord,
+};
 use std::alloc::{AllocError, Global};
 
-/// The first package with the ID of an earlier one.
-pub(crate) fn first_repeat(packages: &[PackageRecord], index: &[usize]) -> Option<usize>
-    requires { IsIdIndex packages.now index.now }
-    ensures { MatchOption result (DistinctBelow packages.now (length packages.now)) (IsFirstRepeatedId packages.now) }
+pub(crate) const LIMIT: usize = 4_294_967_295;
+
+/// Positions in the order of what they are looked up by.
+#[derive(Drop)]
+pub(crate) struct Indexes {
+    /// The packages by ID.
+    pub(crate) by_id: Vec<usize>,
+    /// The workspace members by path.
+    pub(crate) by_path: Vec<usize>,
+    /// The workspace members by name.
+    pub(crate) by_name: Vec<usize>,
+    /// For each package, the places of its build targets by ID.
+    pub(crate) by_target: Vec<Vec<usize>>,
+}
+
+// For each package, the places of its build targets by ID.
+fn target_indexes(alloc: Global, packages: &[PackageRecord]) -> Result<Vec<Vec<usize>>, AllocError>
+    ensures { IfOk result (λ indexes. AreTargetIndexes packages.now indexes.items) }
+{
+    let mut indexes = Vec::with_capacity(alloc, packages.len())?;
+    for record in packages.iter() {
+        indexes.push(index_of(alloc, &TargetIds(record.build_targets.as_slice()))?)?;
+    }
+    Ok(indexes)
+}
+
+// The first package and its first target with the ID of an earlier one.
+fn first_with_repeated_target(
+    packages: &[PackageRecord],
+    indexes: &[Vec<usize>],
+) -> Option<(usize, usize)>
+    requires { AreTargetIndexes packages.now indexes.now }
+    ensures { MatchOption result (All AreTargetsDistinct packages.now) (λ p. IsFirstRepeatedTarget packages.now p.0 p.1) }
 {
     for (position, record) in packages.iter().enumerate() {
-        if position_of(packages, index, &record.id) != Some(position) {
-            return Some(position);
+        let index = indexes[position].as_slice();
+        if let Some(target) = first_repeated_target(record.build_targets.as_slice(), index) {
+            return Some((position, target));
         }
     }
     None
+}
+
+// Whether the target has the name that a library and a build script need.
+fn is_named(target: &BuildTargetRecord) -> bool
+    ensures { IsTrue result ↔ IsNamed target.now }
+{
+    match target.id {
+        OwnedBuildTargetId::Library | OwnedBuildTargetId::BuildScript => target.lib_name.is_some(),
+        _ => true,
+    }
+}
+
+// The first target that lacks its name.
+fn first_unnamed(targets: &[BuildTargetRecord]) -> Option<usize>
+    ensures { MatchOption result (All IsNamed targets.now) (IsFirstUnnamed targets.now) }
+{
+    for (place, target) in targets.iter().enumerate() {
+        if !is_named(target) {
+            return Some(place);
+        }
+    }
+    None
+}
+
+// The first package and its first target that lacks its name.
+fn first_with_unnamed_target(packages: &[PackageRecord]) -> Option<(usize, usize)>
+    ensures { MatchOption result (All AreTargetsNamed packages.now) (λ p. IsFirstUnnamedTarget packages.now p.0 p.1) }
+{
+    for (position, record) in packages.iter().enumerate() {
+        if let Some(target) = first_unnamed(record.build_targets.as_slice()) {
+            return Some((position, target));
+        }
+    }
+    None
+}
+
+// The first default member that is no package.
+fn first_unknown_member(
+    packages: &[PackageRecord],
+    by_id: &[usize],
+    members: &[PackageId],
+) -> Option<usize>
+    requires { IsIdIndex packages.now by_id.now }
+    ensures { MatchOption result (All (IsKnown packages.now) members.now) (IsFirstUnknownMember packages.now members.now) }
+{
+    for (index, id) in members.iter().enumerate() {
+        if position_of_id(packages, by_id, id).is_none() {
+            return Some(index);
+        }
+    }
+    None
+}
+
+/// The indexes of packages that break no rule. Otherwise the first broken rule is told.
+pub(crate) fn indexes_of(
+    alloc: Global,
+    packages: &[PackageRecord],
+    workspace: &WorkspaceRecord,
+) -> Result<Indexes, Error>
+    ensures made { IfOk result (AreIndexes packages.now) }
+    ensures accepted { OnOk result (ArePackagesAccepted packages.now workspace.now) }
+    ensures refused { IfErr result (λ e. (links : List LinkRecord) → IsRefusal packages.now links workspace.now e) }
+{
+    if packages.len() > LIMIT {
+        return Err(ConstructFault::TooManyPackages.into());
+    }
+    let by_id = index_of(alloc, &Ids(packages))?;
+    if let Some(package) = first_repeated_id(packages, by_id.as_slice()) {
+        return Err(ConstructFault::RepeatedPackageId { package }.into());
+    }
+    let by_target = target_indexes(alloc, packages)?;
+    if let Some((package, target)) = first_with_repeated_target(packages, by_target.as_slice()) {
+        return Err(ConstructFault::RepeatedBuildTarget { package, target }.into());
+    }
+    if let Some((package, target)) = first_with_unnamed_target(packages) {
+        return Err(ConstructFault::UnnamedBuildTarget { package, target }.into());
+    }
+    let by_path = index_of(alloc, &Paths(packages))?;
+    if let Some(package) = first_repeat(&Paths(packages), by_path.as_slice()) {
+        return Err(ConstructFault::RepeatedWorkspacePath { package }.into());
+    }
+    let by_name = index_of(alloc, &Names(packages))?;
+    if let Some(package) = first_repeated_name(packages, by_name.as_slice()) {
+        return Err(ConstructFault::RepeatedWorkspaceName { package }.into());
+    }
+    let members = workspace.default_members.as_slice();
+    if let Some(index) = first_unknown_member(packages, by_id.as_slice(), members) {
+        return Err(ConstructFault::UnknownDefaultMember { index }.into());
+    }
+    Ok(Indexes {
+        by_id,
+        by_path,
+        by_name,
+        by_target,
+    })
 }
 
 /// The positions of the ends of the records.
 pub(crate) fn ends_of(
     alloc: Global,
     packages: &[PackageRecord],
-    index: &[usize],
+    by_id: &[usize],
     records: &[LinkRecord],
 ) -> Result<Vec<(usize, usize)>, Error>
-    requires { IsIdIndex packages.now index.now }
+    requires { IsIdIndex packages.now by_id.now }
     ensures ok { IfOk result (λ ends. AreEndsOf packages.now records.now ends.items) }
     ensures err { IfErr result (TellsFault (λ fault. (link : ℕ)
         × (fault ≡ ConstructFault.UnknownLinkEnd link) × IsFirstUnknownEnd packages.now records.now link)) }
 {
     let mut ends = Vec::with_capacity(alloc, records.len())?;
     for (number, entry) in records.iter().enumerate() {
-        let Some(from) = position_of(packages, index, &entry.from) else {
+        let Some(from) = position_of_id(packages, by_id, &entry.from) else {
             return Err(unknown_end(number));
         };
-        let Some(to) = position_of(packages, index, &entry.to) else {
+        let Some(to) = position_of_id(packages, by_id, &entry.to) else {
             return Err(unknown_end(number));
         };
         ends.push((from, to))?;

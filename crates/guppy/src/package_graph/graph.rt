@@ -1,20 +1,24 @@
-ghost use Rattle.std.specs.Prelude.{◌≡◌, ◌↔◌, [], ◌∷◌, IsTrue, IfOk, IfErr, OnOk, IsOk, length};
+ghost use Rattle.std.specs.Prelude.{◌≡◌, ◌↔◌, ◌<◌, ◌≤◌, ◌*◌, [], ◌∷◌, IsTrue, IfOk, IfErr, OnOk, IsOk, length, slice_get, Some, IsSomeAnd, MatchOption, All};
 ghost use Rattle.guppy.specs.Accepted.{IsAccepted};
 ghost use Rattle.guppy.specs.Refused.{IsRefusal, error_of};
 ghost use Rattle.guppy.specs.Parts.{AreParts};
 ghost use Rattle.std.specs.List.Sorted.{IsPermutation};
 
-use crate::package_graph::build::{ends_of, first_repeat, links_of};
-use crate::package_graph::ids::{index_of, position_of};
+use crate::package_graph::build::{Indexes, LIMIT, ends_of, indexes_of, links_of};
+use crate::package_graph::keys::{position_of_id, position_of_name, position_of_path};
+use crate::package_graph::order::{Order, order_of};
+use crate::package_graph::types::PackageMetadata;
 use guppy_core::{
-    DependencyDirection, Graph, GraphFault, GraphSpec, IndexType, IxSet, PackageIx, reachable,
+    DependencyDirection, Graph, GraphFault, GraphSpec, IndexType, IxSet, Link, PackageIx, Sccs,
+    reachable,
 };
-use guppy_data::{ConstructFault, Error, LinkRecord, PackageId, PackageRecord, WorkspaceRecord};
+use guppy_data::{
+    ConstructFault, Error, LinkRecord, PackageId, PackageRecord, Utf8Path, WorkspaceRecord,
+};
 use std::alloc::Global;
 use std::marker::Model;
+use std::ops::Range;
 use std::{iter, slice};
-
-const LIMIT: usize = 4_294_967_295;
 
 /// The types of the graph of packages: its nodes and links hold the records.
 pub enum Packages {}
@@ -33,7 +37,8 @@ impl GraphSpec for Packages {
 pub struct PackageGraph {
     graph: Graph<Packages>,
     workspace: WorkspaceRecord,
-    by_id: Vec<usize>,
+    indexes: Indexes,
+    order: Order,
 }
 
 impl Model for PackageGraph {
@@ -47,9 +52,9 @@ impl Model for PackageGraph {
 
     ghost coded = { Prim.hlevel (codes, of_package.the_row.coded, of_link.the_row.coded, of_workspace.the_row.coded) };
 
-    ghost view = { λ g. record { packages = g.graph.nodes; links = g.graph.links; workspace = g.workspace } };
+    ghost view = { λ g. record { packages = g.graph.nodes; links = g.graph.links; workspace = g.workspace; index = g.order.topo; components = g.order.sccs } };
 
-    ghost invariant = { λ g. IsStored (let d : GraphData = record { packages = g.graph.nodes; links = g.graph.links; workspace = g.workspace } in d) g.by_id.items };
+    ghost invariant = { λ g. IsStored (let d : GraphData = record { packages = g.graph.nodes; links = g.graph.links; workspace = g.workspace; index = g.order.topo; components = g.order.sccs } in d) g.indexes g.order.looks };
 }
 
 /// The error of a fault that checked parts can still have.
@@ -65,35 +70,29 @@ fn construct_error(fault: GraphFault) -> Error
     }
 }
 
-/// The graph of these records, and its positions in the order of the IDs.
+/// The graph of these records, and its indexes.
 fn parts_of(
     packages: Vec<PackageRecord>,
     links: Vec<LinkRecord>,
     workspace: &WorkspaceRecord,
-) -> Result<(Graph<Packages>, Vec<usize>), Error>
-    ensures made { IfOk result (λ p. AreParts packages.items links.items workspace.now p.0 p.1.items) }
+) -> Result<(Graph<Packages>, Indexes), Error>
+    ensures made { IfOk result (λ p. AreParts packages.items links.items workspace.now p.0 p.1) }
     ensures refused { IfErr result (IsRefusal packages.items links.items workspace.now) }
 {
     let alloc = *packages.allocator();
-    if packages.len() > LIMIT {
-        return Err(ConstructFault::TooManyPackages.into());
-    }
-    let by_id = index_of(alloc, packages.as_slice())?;
-    if let Some(package) = first_repeat(packages.as_slice(), by_id.as_slice()) {
-        return Err(ConstructFault::RepeatedPackageId { package }.into());
-    }
+    let indexes = indexes_of(alloc, packages.as_slice(), workspace)?;
     if links.len() > LIMIT {
         return Err(ConstructFault::TooManyLinks.into());
     }
     let ends = ends_of(
         alloc,
         packages.as_slice(),
-        by_id.as_slice(),
+        indexes.by_id.as_slice(),
         links.as_slice(),
     )?;
     let linked = links_of(alloc, links, ends)?;
     match Graph::from_parts(packages, linked) {
-        Ok(graph) => Ok((graph, by_id)),
+        Ok(graph) => Ok((graph, indexes)),
         Err(fault) => Err(construct_error(fault)),
     }
 }
@@ -101,22 +100,36 @@ fn parts_of(
 impl PackageGraph {
     ghost use Rattle.guppy.specs.Ids.{HasId, IsKnown, ids_of, ix_position};
     ghost use Rattle.guppy.specs.Graph.{Holds, IsPackageGraph};
-    ghost use Rattle.guppy.specs.Depends.{DependsOn};
+    ghost use Rattle.guppy.specs.Indexes.{IsTargetIndex};
+    ghost use Rattle.guppy.specs.Depends.{DependsOn, DirectlyDependsOn};
+    ghost use Rattle.guppy.specs.Cycles.{HaveCycle};
+    ghost use Rattle.guppy_core.specs.Reach.{LinkStep};
     ghost use Rattle.guppy.specs.Refused.{IsFirstUnknown, NamesId};
-    ghost use Rattle.guppy.specs.Iterators.{ids_left};
+    ghost use Rattle.guppy.specs.Iterators.{ids_left, packages_of, packages_left};
+    ghost use Rattle.guppy_data.specs.Utf8Path.{path_text};
+    ghost use Rattle.guppy.specs.Members.{HasPath, HasName, IsMemberPath, IsMemberName, AreMembersByPath, AreMembersByName};
 
     /// The graph of exactly these records, where they break no rule:
     ///
     /// - there are at most 4,294,967,295 packages, and no two have one ID;
+    /// - in each package no two build targets have one ID, and each library and build script has its
+    ///   `lib_name`;
+    /// - no two workspace members have one path, as paths are equal, or one name;
+    /// - each default member is a package;
     /// - there are at most 4,294,967,295 links, each end of a link is a package, and no ordered
     ///   pair of packages has two links.
     ///
     /// Otherwise `PackageGraphConstructError` tells the first broken rule, in the order of
-    /// `ConstructFault`, with the lowest index that breaks it: of two equal entries the later one.
+    /// `ConstructFault`, with the lowest index that breaks it, by package and then by target: of two
+    /// equal entries the later one.
     /// `OutOfMemory` comes where a growth was refused.
     ///
-    /// Time grows with packages and links, times the logarithm of the packages. Takes memory for
-    /// some numbers a package and a link; the records are kept as they are.
+    /// The order of the packages is made here too, and never changes: `PackageSet::packages` tells
+    /// what it is.
+    ///
+    /// Time grows with packages, build targets and links, times the logarithm of the packages or of
+    /// a package's targets. Takes memory for some numbers a package, target and link; the records
+    /// are kept as they are.
     pub fn from_records(
         packages: Vec<PackageRecord>,
         links: Vec<LinkRecord>,
@@ -126,11 +139,13 @@ impl PackageGraph {
         ensures accepted { OnOk result (IsAccepted packages.items links.items workspace) }
         ensures refused { IfErr result (IsRefusal packages.items links.items workspace) }
     {
-        let (graph, by_id) = parts_of(packages, links, &workspace)?;
+        let (graph, indexes) = parts_of(packages, links, &workspace)?;
+        let order = order_of(&graph)?;
         Ok(PackageGraph {
             graph,
             workspace,
-            by_id,
+            indexes,
+            order,
         })
     }
 
@@ -148,6 +163,13 @@ impl PackageGraph {
         self.graph.link_count()
     }
 
+    /// How many links were looked at to order the packages, each as often as it was.
+    pub fn order_looks(&self) -> u64
+        ensures { result ≤ 4 * length self.now.links }
+    {
+        self.order.looks
+    }
+
     /// The allocator that the graph's memory comes from.
     pub fn alloc(&self) -> Global {
         self.graph.alloc()
@@ -162,6 +184,32 @@ impl PackageGraph {
         }
     }
 
+    /// Each package, once. Their order is not promised.
+    pub fn packages(&self) -> AllPackages<'_>
+        ensures { IsPermutation (packages_of self.entry) (packages_left result) }
+    {
+        AllPackages {
+            graph: self,
+            rest: 0..self.package_count(),
+        }
+    }
+
+    /// The package with the ID.
+    ///
+    /// `UnknownPackageId` tells an ID that is no package's. Time grows with the logarithm of the
+    /// packages. Takes memory only for that error's copy of the ID.
+    pub fn metadata(&self, id: &PackageId) -> Result<PackageMetadata<'_>, Error>
+        ensures found { IfOk result (λ m. (m.graph ≡ self.entry) × HasId self.now.packages id.now m.position) }
+        ensures known { IsKnown self.now.packages id.now → IsOk result }
+        ensures unknown { IfErr result (NamesId (IsFirstUnknown self.now.packages (id.now ∷ []))) }
+    {
+        let ix = self.ix_of(id)?;
+        Ok(PackageMetadata {
+            graph: self,
+            position: ix.index(),
+        })
+    }
+
     /// Whether the first package depends on the second: whether a path of links, of any kind, leads
     /// from the first to the second. So a package depends on itself.
     ///
@@ -172,11 +220,26 @@ impl PackageGraph {
         ensures answer { IfOk result (λ depends. IsTrue depends ↔ DependsOn self.now a.now b.now) }
         ensures unknown { IfErr result (NamesId (IsFirstUnknown self.now.packages (a.now ∷ b.now ∷ []))) }
     {
-        let from = self.ix_of(a)?;
-        let to = self.ix_of(b)?;
+        let (from, to) = self.pair_of(a, b)?;
         let initials = IxSet::from_ixs(self.alloc(), iter::once(from), self.package_count())?;
         let reached = reachable(&self.graph, &initials, DependencyDirection::Forward)?;
         Ok(reached.contains(to))
+    }
+
+    /// Whether the first package depends directly on the second: whether there is a link from the
+    /// first to the second. So a package depends directly on itself only by a link to itself.
+    ///
+    /// `UnknownPackageId` tells the first of the two IDs that is no package's. Time grows with the
+    /// logarithm of the packages, and with the links that leave the first package. Takes memory only
+    /// for that error's copy of the ID.
+    pub fn directly_depends_on(&self, a: &PackageId, b: &PackageId) -> Result<bool, Error>
+        ensures known { OnOk result (IsKnown self.now.packages a.now × IsKnown self.now.packages b.now) }
+        ensures answer { IfOk result (λ depends. IsTrue depends ↔ DirectlyDependsOn self.now a.now b.now) }
+        ensures answered { IsKnown self.now.packages a.now → IsKnown self.now.packages b.now → IsOk result }
+        ensures unknown { IfErr result (NamesId (IsFirstUnknown self.now.packages (a.now ∷ b.now ∷ []))) }
+    {
+        let (from, to) = self.pair_of(a, b)?;
+        Ok(self.graph.find_link(from, to).is_some())
     }
 
     /// The graph by positions.
@@ -188,6 +251,64 @@ impl PackageGraph {
         &self.graph
     }
 
+    /// Whether at least one link leads from one position to the other, and at least one back.
+    pub(crate) fn have_cycle(&self, from: PackageIx, to: PackageIx) -> bool
+        requires first { ix_position from < length self.now.packages }
+        requires second { ix_position to < length self.now.packages }
+        ensures { IsTrue result ↔ HaveCycle (LinkStep DependencyDirection.Forward self.now.links) (ix_position from) (ix_position to) }
+    {
+        if from != to {
+            return self.order.sccs.is_same_scc(from, to);
+        }
+        self.order.sccs.in_multi_scc(from) || self.graph.find_link(from, from).is_some()
+    }
+
+    /// The components, in the order of the packages.
+    pub(crate) fn sccs(&self) -> &Sccs<PackageIx>
+        ensures components { result.now ≡ self.now.components }
+        ensures graph { IsPackageGraph self.now }
+    {
+        &self.order.sccs
+    }
+
+    /// The places of the build targets of the package at the position, in the order of their IDs.
+    pub(crate) fn targets_by_id(&self, position: usize) -> &[usize]
+        requires { position < length self.now.packages }
+        ensures { IsSomeAnd (slice_get self.now.packages position) (λ r. IsTargetIndex r.build_targets.items result.now) }
+    {
+        self.indexes.by_target[position].as_slice()
+    }
+
+    /// The record of the package at the position.
+    pub(crate) fn package_at(&self, position: usize) -> &PackageRecord
+        requires { position < length self.now.packages }
+        ensures { slice_get self.now.packages position ≡ Some result.now }
+    {
+        self.graph.node(PackageIx::new(position))
+    }
+
+    /// The link of the number, between positions of packages.
+    pub(crate) fn link_at(&self, number: usize) -> &Link<LinkRecord>
+        requires { number < length self.now.links }
+        ensures at { slice_get self.now.links number ≡ Some result.now }
+        ensures from { result.now.from < length self.now.packages }
+        ensures to { result.now.to < length self.now.packages }
+    {
+        self.graph.link(number)
+    }
+
+    /// The position of the package with the ID, if there is one. Time grows with the logarithm of the
+    /// packages. Takes no memory.
+    pub(crate) fn find_ix(&self, id: &PackageId) -> Option<PackageIx>
+        ensures found { MatchOption result (IsKnown self.now.packages id.now → ⊥) (λ ix. HasId self.now.packages id.now (ix_position ix)) }
+        ensures graph { IsPackageGraph self.now }
+    {
+        match position_of_id(self.graph.nodes(), self.indexes.by_id.as_slice(), id) {
+            Some(position) => Some(PackageIx::new(position)),
+            None => None,
+        }
+    }
+
     /// The position of the package with the ID. Time grows with the logarithm of the packages.
     pub(crate) fn ix_of(&self, id: &PackageId) -> Result<PackageIx, Error>
         ensures found { IfOk result (λ ix. HasId self.now.packages id.now (ix_position ix)) }
@@ -195,10 +316,73 @@ impl PackageGraph {
         ensures unknown { IfErr result (NamesId (IsFirstUnknown self.now.packages (id.now ∷ []))) }
         ensures graph { IsPackageGraph self.now }
     {
-        match position_of(self.graph.nodes(), self.by_id.as_slice(), id) {
-            Some(position) => Ok(PackageIx::new(position)),
+        match self.find_ix(id) {
+            Some(ix) => Ok(ix),
             None => Err(Error::UnknownPackageId(id.clone()?)),
         }
+    }
+
+    /// The positions of the packages with the two IDs. The first is looked up first.
+    pub(crate) fn pair_of(
+        &self,
+        a: &PackageId,
+        b: &PackageId,
+    ) -> Result<(PackageIx, PackageIx), Error>
+        ensures first { IfOk result (λ pair. HasId self.now.packages a.now (ix_position pair.0)) }
+        ensures second { IfOk result (λ pair. HasId self.now.packages b.now (ix_position pair.1)) }
+        ensures known { IsKnown self.now.packages a.now → IsKnown self.now.packages b.now → IsOk result }
+        ensures unknown { IfErr result (NamesId (IsFirstUnknown self.now.packages (a.now ∷ b.now ∷ []))) }
+        ensures graph { IsPackageGraph self.now }
+    {
+        let from = self.ix_of(a)?;
+        let to = self.ix_of(b)?;
+        Ok((from, to))
+    }
+
+    /// The position of the package with the ID. Time grows with the logarithm of the packages. Takes
+    /// no memory.
+    pub(crate) fn position_of_id(&self, id: &PackageId) -> Option<usize>
+        ensures { MatchOption result (¬ IsKnown self.now.packages id.now) (HasId self.now.packages id.now) }
+    {
+        position_of_id(self.graph.nodes(), self.indexes.by_id.as_slice(), id)
+    }
+
+    /// The record of the workspace.
+    pub(crate) fn workspace_record(&self) -> &WorkspaceRecord
+        ensures record { result.now ≡ self.now.workspace }
+        ensures known { All (IsKnown self.now.packages) self.now.workspace.default_members.items }
+    {
+        &self.workspace
+    }
+
+    /// The positions of the workspace members by path.
+    pub(crate) fn members_by_path(&self) -> &[usize]
+        ensures { AreMembersByPath self.now.packages result.now }
+    {
+        self.indexes.by_path.as_slice()
+    }
+
+    /// The positions of the workspace members by name.
+    pub(crate) fn members_by_name(&self) -> &[usize]
+        ensures { AreMembersByName self.now.packages result.now }
+    {
+        self.indexes.by_name.as_slice()
+    }
+
+    /// The position of the workspace member with the path. Time grows with the logarithm of the
+    /// members. Takes no memory.
+    pub(crate) fn position_of_path(&self, path: Utf8Path<'_>) -> Option<usize>
+        ensures { MatchOption result (¬ IsMemberPath self.now.packages (path_text path.entry)) (HasPath self.now.packages (path_text path.entry)) }
+    {
+        position_of_path(self.graph.nodes(), self.indexes.by_path.as_slice(), path)
+    }
+
+    /// The position of the workspace member with the name. Time grows with the logarithm of the
+    /// members. Takes no memory.
+    pub(crate) fn position_of_name(&self, name: &str) -> Option<usize>
+        ensures { MatchOption result (¬ IsMemberName self.now.packages name.now) (HasName self.now.packages name.now) }
+    {
+        position_of_name(self.graph.nodes(), self.indexes.by_name.as_slice(), name)
     }
 }
 
@@ -231,6 +415,45 @@ impl<'g> Iterator for PackageIds<'g> {
 }
 
 impl ExactSizeIterator for PackageIds<'_> {
+    fn len(&self) -> usize {
+        self.rest.len()
+    }
+}
+
+/// The packages of a graph that are still to come. Its `len` is exact.
+#[derive(Drop)]
+pub struct AllPackages<'g> {
+    graph: &'g PackageGraph,
+    rest: Range<usize>,
+    ghost in_graph: { rest.end ≤ length graph.now.packages },
+}
+
+impl<'g> Iterator for AllPackages<'g> {
+    ghost use Rattle.std.specs.Iterator.{YieldsFirstBy, item_count};
+    ghost use Rattle.guppy.specs.Iterators.{package_seen, packages_left};
+
+    type Item = PackageMetadata<'g>;
+
+    ghost next_gives = { YieldsFirstBy package_seen packages_left };
+
+    ghost remaining = { item_count packages_left };
+
+    fn next(&mut self) -> Option<PackageMetadata<'g>> {
+        match self.rest.next() {
+            Some(position) => Some(PackageMetadata {
+                graph: self.graph,
+                position,
+            }),
+            None => None,
+        }
+    }
+
+    fn size_hint(&self) -> (usize, Option<usize>) {
+        self.rest.size_hint()
+    }
+}
+
+impl ExactSizeIterator for AllPackages<'_> {
     fn len(&self) -> usize {
         self.rest.len()
     }

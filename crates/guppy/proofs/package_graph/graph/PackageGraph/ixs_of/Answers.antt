@@ -10,4 +10,4 @@ returns-in_err-ix_of-clause-unknown g c =
 
 pub loop-id-preserved : goal.loop-id-preserved
 loop-id-preserved g c =
-    rw (map_push, c.in_ok-push.ensures.items, map_push) (AreNamed-push _ _ _ c.loop-id.invariant c.in_ok-ix_of.ensures.graph.distinct _ _ c.in_ok-ix_of.ensures.found)
+    rw (map_push, c.in_ok-push.ensures.items, map_push) (AreNamed-push _ _ _ c.loop-id.invariant c.in_ok-ix_of.ensures.graph.accepted.distinct_ids _ _ c.in_ok-ix_of.ensures.found)

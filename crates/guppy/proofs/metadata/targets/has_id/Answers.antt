@@ -1,0 +1,5 @@
+use Rattle.guppy.proofs.SameTargetIds.{equal-tells}
+use Rattle.guppy.proofs.metadata.targets.has_id.Goals as goal
+
+pub returns : goal.returns
+returns c = rw (← c.new.ensures) (equal-tells _ _ c.eq.result c.eq.ensures)

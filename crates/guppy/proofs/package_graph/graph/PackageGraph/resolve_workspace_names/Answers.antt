@@ -1,0 +1,22 @@
+use Rattle.std.proofs.Common.{map}
+use Rattle.guppy.specs.Ids.{ix_position}
+use Rattle.guppy.specs.Members.{HasName}
+use Rattle.guppy.proofs.Membership.{name_within}
+use Rattle.guppy.proofs.Naming.{zip_below, zip_named_set}
+use Rattle.guppy.proofs.package_graph.graph.PackageGraph.resolve_workspace_names.Goals as goal
+
+pub set_of-requires : goal.set_of-requires
+set_of-requires g c =
+    let packages = c.args.self.now.packages in
+    let found = c.in_ok-ixs.ensures.found in
+    zip_below (HasName packages) packages (name_within packages) (map (λ name. name.now) found.0) (map ix_position c.in_ok-ixs.ixs.items) found.2
+
+pub returns-clause-members : goal.returns-clause-members
+returns-clause-members g c =
+    let packages = c.args.self.now.packages in
+    let found = c.in_ok-ixs.ensures.found in
+    let set = c.in_ok-set.ensures in (
+      found.0,
+      found.1,
+      zip_named_set (HasName packages) packages (name_within packages) set.is_graph.accepted.distinct_names (map (λ name. name.now) found.0) (map ix_position c.in_ok-ixs.ixs.items) found.2 c.in_ok-set.set.included set.count set.members,
+    )

@@ -1,0 +1,15 @@
+-- A call goes to the value in the box, and leaves its table as it was.
+use Rattle.std.proofs.Common.{◌≡◌, ℕ, Bool, refl, sym, subst}
+use Rattle.guppy.specs.Visitors.{link_data}
+use Rattle.guppy.proofs.query.visitor.BoxDynPackageLinkVisitorDropPackageLinkVisitor.visit_link.Goals as goal
+
+pub returns-clause-visits : goal.returns-clause-visits
+returns-clause-visits g c =
+    let e = c.deref_box_mut-1.ensures.value.1 in
+    subst (λ (z : (i : g.dyn-1.0.I) × (g.dyn-1.0.entry i).0.Denot).
+    (w : (g.dyn-1.0.entry z.0).0.Denot) → (g.dyn-1.0.entry z.0).1.visits z.1 c.args.cx.now (link_data c.args.link) c.visit_link.result w
+    → (x : (g.dyn-1.0.entry c.args.self.now.vtable).0.Denot)
+    × (g.dyn-1.0.entry c.args.self.now.vtable).1.visits c.args.self.now.value c.args.cx.now (link_data c.args.link) c.visit_link.result x
+    × ◌≡◌ {A = Rattle.std.specs.declared.dyn_box.DynBox.DynBox g.dyn-1.0.I Rattle.std.proofs.Common.Global (λ x'. ((Rattle.guppy.specs.contracts.query.visitor.BoxDynPackageLinkVisitorDropPackageLinkVisitor.dyn-1.Any g.dyn-1).3.1.0 x').0.Denot)}
+    (record c.args.self.now { vtable = z.0; value = w }) (record c.args.self.now { value = x }))
+    (sym e) (λ w v. (w, v, refl)) c.visit_link.new.self c.visit_link.ensures.0

@@ -1,0 +1,31 @@
+-- Links that leave one package.
+use Rattle.std.specs.Prelude.{◌≡◌, ℕ, List, Option, MatchOption, map, slice_get, IsSomeAnd}
+use Rattle.std.specs.Borrow.{Bor}
+use Rattle.guppy_core.specs.declared.ix.direction.DependencyDirection.{DependencyDirection}
+use Rattle.guppy_core.specs.Links.{near_end, far_end, links_at}
+use Rattle.guppy.specs.declared.package_graph.types.PackageMetadata.{PackageMetadata}
+use Rattle.guppy.specs.declared.package_graph.types.PackageLink.{PackageLink}
+use Rattle.guppy.specs.Ids.{HasId}
+use Rattle.guppy.specs.Graph.{GraphData}
+
+-- a link is seen as its graph and its number
+abbrev pub link_seen : PackageLink → Bor GraphData × ℕ
+link_seen l = (l.graph, l.number)
+
+-- the links that leave the package in the direction, ascending by number
+abbrev pub links_leaving : PackageMetadata → DependencyDirection → List (Bor GraphData × ℕ)
+links_leaving m d = map (λ n. (m.graph, n)) (links_at d m.graph.now.links m.position)
+
+-- the link leaves the one position in the direction, and leads to the other
+abbrev pub IsLinkFrom : GraphData → DependencyDirection → ℕ → ℕ → ℕ → Type 0
+IsLinkFrom g d p q n = IsSomeAnd (slice_get g.links n) (λ l. (near_end d l ≡ p) × (far_end d l ≡ q))
+
+-- the link leaves the position in the direction, and leads to the package with the ID
+abbrev pub IsLinkTo : GraphData → DependencyDirection → ℕ → List ℕ → ℕ → Type 0
+IsLinkTo g d p id n = IsSomeAnd (slice_get g.links n) (λ l. (near_end d l ≡ p) × HasId g.packages id (far_end d l))
+
+-- the link that leaves the package in the direction and leads to the one with the ID, if there is one
+abbrev pub IsLinkBetween : PackageMetadata → DependencyDirection → List ℕ → Option PackageLink → Type 0
+IsLinkBetween m d id found = MatchOption found
+    ((n : ℕ) → IsLinkTo m.graph.now d m.position id n → ⊥)
+    (λ l. (l.graph ≡ m.graph) × IsLinkTo m.graph.now d m.position id l.number)

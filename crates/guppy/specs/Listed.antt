@@ -1,0 +1,38 @@
+-- The lists of a set of packages.
+use Rattle.std.specs.Prelude.{ℕ, List, Option, map}
+use Rattle.std.specs.List.{concat, filter, filter_map}
+use Rattle.guppy_core.specs.declared.ix.direction.DependencyDirection.{DependencyDirection}
+use Rattle.guppy_core.specs.IxSet.{has}
+use Rattle.guppy_core.specs.Sccs.{listed}
+use Rattle.guppy.specs.declared.package_graph.types.PackageMetadata.{PackageMetadata}
+use Rattle.guppy.specs.declared.set.lists.ListedPackages.{ListedPackages}
+use Rattle.guppy.specs.declared.set.lists.ListedPackageIds.{ListedPackageIds}
+use Rattle.guppy.specs.Ids.{id_at}
+use Rattle.guppy.specs.Graph.{GraphData}
+use Rattle.guppy.specs.Query.{SetData}
+
+-- the order of the graph, kept to the set: as it is, or from its end
+abbrev pub positions_listed : DependencyDirection → SetData → List ℕ
+positions_listed d s = listed d (filter (has s.included) (concat s.graph.components))
+
+-- a package is seen as what its graph is and its position
+abbrev pub package_in : PackageMetadata → GraphData × ℕ
+package_in m = (m.graph.now, m.position)
+
+-- the packages of the set as they are listed
+abbrev pub packages_listed : DependencyDirection → SetData → List (GraphData × ℕ)
+packages_listed d s = map (λ p. (s.graph, p)) (positions_listed d s)
+
+-- the ID of a package
+abbrev pub id_of : GraphData × ℕ → Option (List ℕ)
+id_of seen = id_at seen.0.packages seen.1
+
+-- their IDs
+abbrev pub ids_listed : DependencyDirection → SetData → List (List ℕ)
+ids_listed d s = filter_map id_of (packages_listed d s)
+
+abbrev pub packages_to_come : ListedPackages → List (GraphData × ℕ)
+packages_to_come s = map (λ p. (s.graph.now, p)) s.rest
+
+abbrev pub ids_to_come : ListedPackageIds → List (List ℕ)
+ids_to_come s = filter_map id_of (packages_to_come s.packages)

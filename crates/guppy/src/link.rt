@@ -1,0 +1,133 @@
+//! Links of a graph: what their records say, and the packages that they connect.
+//!
+//! No call takes memory. What is borrowed lives as long as the borrow of the graph, also where the
+//! view of the link is gone.
+ghost use Rattle.std.specs.Prelude.{◌≡◌};
+ghost use Rattle.std.specs.Option.{option_copied, option_map};
+ghost use Rattle.std.specs.String.{string_bytes};
+ghost use Rattle.guppy_data.specs.DependencyReq.{seen_req};
+ghost use Rattle.guppy_data.specs.Utf8Path.{path_text};
+ghost use Rattle.guppy.specs.DevOnly.{is_dev_only};
+ghost use Rattle.guppy.specs.Sections.{section_of};
+ghost use Rattle.guppy.specs.Views.{OfLink};
+
+use crate::metadata::{path_of, text_of};
+pub use crate::package_graph::PackageLink;
+use crate::package_graph::{PackageMetadata, is_dev_only};
+use guppy_data::{DependencyKind, DependencyReq, Utf8Path};
+use semver::VersionReq;
+
+impl<'g> PackageLink<'g> {
+    /// The package that depends.
+    pub fn from(self) -> PackageMetadata<'g>
+        ensures graph { result.graph ≡ self.entry.graph }
+        ensures position { OfLink self.entry (λ l. result.position ≡ l.from) }
+    {
+        PackageMetadata {
+            graph: self.graph,
+            position: self.graph.link_at(self.number).from,
+        }
+    }
+
+    /// The package depended on.
+    pub fn to(self) -> PackageMetadata<'g>
+        ensures graph { result.graph ≡ self.entry.graph }
+        ensures position { OfLink self.entry (λ l. result.position ≡ l.to) }
+    {
+        PackageMetadata {
+            graph: self.graph,
+            position: self.graph.link_at(self.number).to,
+        }
+    }
+
+    /// The package that depends, and the one depended on.
+    pub fn endpoints(self) -> (PackageMetadata<'g>, PackageMetadata<'g>)
+        ensures from_graph { result.0.graph ≡ self.entry.graph }
+        ensures to_graph { result.1.graph ≡ self.entry.graph }
+        ensures positions { OfLink self.entry (λ l. (result.0.position ≡ l.from) × (result.1.position ≡ l.to)) }
+    {
+        (self.from(), self.to())
+    }
+
+    /// The number of the link, its place in the list that the graph was made of.
+    pub fn link_ix(self) -> usize
+        ensures { result ≡ self.entry.number }
+    {
+        self.number
+    }
+
+    /// The dependency's name in the manifest.
+    pub fn dep_name(self) -> &'g str
+        ensures { OfLink self.entry (λ l. result.now ≡ string_bytes l.edge.dep_name) }
+    {
+        self.graph.link_at(self.number).edge.dep_name.as_str()
+    }
+
+    /// The dependency's name in the code.
+    pub fn resolved_name(self) -> &'g str
+        ensures { OfLink self.entry (λ l. result.now ≡ string_bytes l.edge.resolved_name) }
+    {
+        self.graph.link_at(self.number).edge.resolved_name.as_str()
+    }
+
+    /// The versions that are asked for.
+    pub fn version_req(self) -> &'g VersionReq
+        ensures { OfLink self.entry (λ l. result.now ≡ l.edge.version_req) }
+    {
+        &self.graph.link_at(self.number).edge.version_req
+    }
+
+    /// The registry that is asked for.
+    pub fn registry(self) -> Option<&'g str>
+        ensures { OfLink self.entry (λ l. option_copied result ≡ option_map string_bytes l.edge.registry) }
+    {
+        text_of(&self.graph.link_at(self.number).edge.registry)
+    }
+
+    /// The path that is asked for.
+    pub fn path(self) -> Option<Utf8Path<'g>>
+        ensures { OfLink self.entry (λ l. option_map path_text result ≡ l.edge.path) }
+    {
+        path_of(&self.graph.link_at(self.number).edge.path)
+    }
+
+    /// The dependency as a normal one.
+    pub fn normal(self) -> DependencyReq<'g>
+        ensures { OfLink self.entry (λ l. seen_req result ≡ l.edge.normal) }
+    {
+        DependencyReq::new(&self.graph.link_at(self.number).edge.normal)
+    }
+
+    /// The dependency as a build dependency.
+    pub fn build(self) -> DependencyReq<'g>
+        ensures { OfLink self.entry (λ l. seen_req result ≡ l.edge.build) }
+    {
+        DependencyReq::new(&self.graph.link_at(self.number).edge.build)
+    }
+
+    /// The dependency as a dev-dependency.
+    pub fn dev(self) -> DependencyReq<'g>
+        ensures { OfLink self.entry (λ l. seen_req result ≡ l.edge.dev) }
+    {
+        DependencyReq::new(&self.graph.link_at(self.number).edge.dev)
+    }
+
+    /// The dependency as one of the kind.
+    pub fn req_for_kind(self, kind: DependencyKind) -> DependencyReq<'g>
+        ensures { OfLink self.entry (λ l. seen_req result ≡ section_of kind l.edge) }
+    {
+        match kind {
+            DependencyKind::Normal => self.normal(),
+            DependencyKind::Development => self.dev(),
+            DependencyKind::Build => self.build(),
+        }
+    }
+
+    /// Whether the link is there for development alone: neither its normal nor its build section has
+    /// a status other than never. So it is true also where no section has.
+    pub fn dev_only(self) -> bool
+        ensures { OfLink self.entry (λ l. result ≡ is_dev_only l.edge) }
+    {
+        is_dev_only(&self.graph.link_at(self.number).edge)
+    }
+}

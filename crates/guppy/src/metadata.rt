@@ -1,0 +1,212 @@
+//! Packages of a graph: what their records say, and the links that leave them.
+//!
+//! No call takes memory, but for the error that names an unknown ID. What is borrowed lives as long
+//! as the borrow of the graph, also where the view of the package is gone.
+ghost use Rattle.std.specs.Prelude.{◌≡◌, ◌↔◌, IsTrue, IsSome};
+ghost use Rattle.std.specs.Option.{option_copied, option_map};
+ghost use Rattle.std.specs.String.{string_bytes};
+ghost use Rattle.guppy_data.specs.PackagePublish.{recorded_publish, seen_publish};
+ghost use Rattle.guppy_data.specs.PackageSource.{workspace_path, recorded_origin, seen_origin};
+ghost use Rattle.guppy_data.specs.Utf8Path.{path_text};
+ghost use Rattle.guppy.specs.Ids.{ix_position};
+ghost use Rattle.guppy.specs.Views.{OfPackage};
+
+mod features;
+mod links;
+mod targets;
+
+use crate::package_graph::PackageGraph;
+pub use crate::package_graph::PackageMetadata;
+pub use features::{FeatureIndexInPackage, NamedFeatures, NamedFeaturesFull, OptionalDepsFull};
+use guppy_core::{IndexType, PackageIx};
+use guppy_data::{PackageId, PackagePublish, PackageSource, Utf8Path, Utf8PathBuf};
+pub use links::PackageLinks;
+use semver::Version;
+use serde_json::Value;
+pub use targets::BuildTargets;
+
+impl<'g> PackageMetadata<'g> {
+    /// The graph that the package is of.
+    pub fn graph(self) -> &'g PackageGraph
+        ensures { result ≡ self.entry.graph }
+    {
+        self.graph
+    }
+
+    /// The position of the package, its place in the list that the graph was made of.
+    pub fn package_ix(self) -> PackageIx
+        ensures { ix_position result ≡ self.entry.position }
+    {
+        // The graph tells that it has fewer than 2^32 packages.
+        let _graph = self.graph.graph();
+        PackageIx::new(self.position)
+    }
+
+    /// The ID, which no other package of the graph has.
+    pub fn id(self) -> &'g PackageId
+        ensures { OfPackage self.entry (λ r. result.now ≡ r.id) }
+    {
+        &self.graph.package_at(self.position).id
+    }
+
+    /// The name.
+    pub fn name(self) -> &'g str
+        ensures { OfPackage self.entry (λ r. result.now ≡ string_bytes r.name) }
+    {
+        self.graph.package_at(self.position).name.as_str()
+    }
+
+    /// The version.
+    pub fn version(self) -> &'g Version
+        ensures { OfPackage self.entry (λ r. result.now ≡ r.version) }
+    {
+        &self.graph.package_at(self.position).version
+    }
+
+    /// The authors.
+    pub fn authors(self) -> &'g [String]
+        ensures { OfPackage self.entry (λ r. result.now ≡ r.authors.items) }
+    {
+        self.graph.package_at(self.position).authors.as_slice()
+    }
+
+    /// The description.
+    pub fn description(self) -> Option<&'g str>
+        ensures { OfPackage self.entry (λ r. option_copied result ≡ option_map string_bytes r.description) }
+    {
+        text_of(&self.graph.package_at(self.position).description)
+    }
+
+    /// The license, as an SPDX expression.
+    pub fn license(self) -> Option<&'g str>
+        ensures { OfPackage self.entry (λ r. option_copied result ≡ option_map string_bytes r.license) }
+    {
+        text_of(&self.graph.package_at(self.position).license)
+    }
+
+    /// The path of the license's text, from the manifest.
+    pub fn license_file(self) -> Option<Utf8Path<'g>>
+        ensures { OfPackage self.entry (λ r. option_map path_text result ≡ r.license_file) }
+    {
+        path_of(&self.graph.package_at(self.position).license_file)
+    }
+
+    /// Where the package comes from.
+    pub fn source(self) -> PackageSource<'g>
+        ensures { OfPackage self.entry (λ r. seen_origin result ≡ recorded_origin r.source) }
+    {
+        PackageSource::new(&self.graph.package_at(self.position).source)
+    }
+
+    /// Whether the package is a member of the workspace.
+    pub fn in_workspace(self) -> bool
+        ensures { OfPackage self.entry (λ r. IsTrue result ↔ IsSome (workspace_path (recorded_origin r.source))) }
+    {
+        self.source().is_workspace()
+    }
+
+    /// The path of the package's `Cargo.toml`.
+    pub fn manifest_path(self) -> Utf8Path<'g>
+        ensures { OfPackage self.entry (λ r. path_text result ≡ r.manifest_path) }
+    {
+        self.graph.package_at(self.position).manifest_path.as_path()
+    }
+
+    /// The categories.
+    pub fn categories(self) -> &'g [String]
+        ensures { OfPackage self.entry (λ r. result.now ≡ r.categories.items) }
+    {
+        self.graph.package_at(self.position).categories.as_slice()
+    }
+
+    /// The keywords.
+    pub fn keywords(self) -> &'g [String]
+        ensures { OfPackage self.entry (λ r. result.now ≡ r.keywords.items) }
+    {
+        self.graph.package_at(self.position).keywords.as_slice()
+    }
+
+    /// The path of the readme, from the manifest.
+    pub fn readme(self) -> Option<Utf8Path<'g>>
+        ensures { OfPackage self.entry (λ r. option_map path_text result ≡ r.readme) }
+    {
+        path_of(&self.graph.package_at(self.position).readme)
+    }
+
+    /// The URL of the repository.
+    pub fn repository(self) -> Option<&'g str>
+        ensures { OfPackage self.entry (λ r. option_copied result ≡ option_map string_bytes r.repository) }
+    {
+        text_of(&self.graph.package_at(self.position).repository)
+    }
+
+    /// The URL of the homepage.
+    pub fn homepage(self) -> Option<&'g str>
+        ensures { OfPackage self.entry (λ r. option_copied result ≡ option_map string_bytes r.homepage) }
+    {
+        text_of(&self.graph.package_at(self.position).homepage)
+    }
+
+    /// The URL of the documentation.
+    pub fn documentation(self) -> Option<&'g str>
+        ensures { OfPackage self.entry (λ r. option_copied result ≡ option_map string_bytes r.documentation) }
+    {
+        text_of(&self.graph.package_at(self.position).documentation)
+    }
+
+    /// The Rust edition.
+    pub fn edition(self) -> &'g str
+        ensures { OfPackage self.entry (λ r. result.now ≡ string_bytes r.edition) }
+    {
+        self.graph.package_at(self.position).edition.as_str()
+    }
+
+    /// The manifest's free table `package.metadata`.
+    pub fn metadata_table(self) -> &'g Value
+        ensures { OfPackage self.entry (λ r. result.now ≡ r.metadata_table) }
+    {
+        &self.graph.package_at(self.position).metadata_table
+    }
+
+    /// The native library that the package links to.
+    pub fn links(self) -> Option<&'g str>
+        ensures { OfPackage self.entry (λ r. option_copied result ≡ option_map string_bytes r.links) }
+    {
+        text_of(&self.graph.package_at(self.position).links)
+    }
+
+    /// Where the package may be published.
+    pub fn publish(self) -> PackagePublish<'g>
+        ensures { OfPackage self.entry (λ r. seen_publish result ≡ recorded_publish r.publish) }
+    {
+        PackagePublish::new(&self.graph.package_at(self.position).publish)
+    }
+
+    /// The binary that `cargo run` runs.
+    pub fn default_run(self) -> Option<&'g str>
+        ensures { OfPackage self.entry (λ r. option_copied result ≡ option_map string_bytes r.default_run) }
+    {
+        text_of(&self.graph.package_at(self.position).default_run)
+    }
+
+    /// The oldest Rust that builds the package.
+    pub fn rust_version(self) -> Option<&'g Version>
+        ensures { OfPackage self.entry (λ r. option_copied result ≡ r.rust_version) }
+    {
+        self.graph.package_at(self.position).rust_version.as_ref()
+    }
+}
+
+/// The text, borrowed.
+pub(crate) fn text_of(text: &Option<String>) -> Option<&str>
+    ensures { option_copied result ≡ option_map string_bytes text.now }
+{
+    text.as_ref().map(|text| text.as_str())
+}
+
+/// The path, borrowed.
+pub(crate) fn path_of(path: &Option<Utf8PathBuf>) -> Option<Utf8Path<'_>>
+    ensures { option_map path_text result ≡ path.now }
+{
+    path.as_ref().map(|path| path.as_path())
+}

@@ -1,0 +1,79 @@
+//! Many questions of dependence, with one room for their searches.
+ghost use Rattle.std.specs.Prelude.{◌≡◌, ◌↔◌, [], ◌∷◌, IsTrue, IfOk, IfErr, OnOk, IsOk, IsOkUnless};
+ghost use Rattle.guppy.specs.Ids.{IsKnown};
+ghost use Rattle.guppy.specs.Depends.{DependsOn};
+ghost use Rattle.guppy.specs.Refused.{IsFirstUnknown, NamesId};
+
+use crate::package_graph::graph::{PackageGraph, Packages};
+use guppy_core::{DependencyDirection, ReachCache};
+use guppy_data::{Error, PackageId};
+use std::marker::Model;
+
+/// Answers which packages of a graph depend on which. Its room is made once, for every question.
+#[derive(Drop)]
+pub struct DependsCache<'g> {
+    graph: &'g PackageGraph,
+    room: ReachCache<Packages>,
+}
+
+impl<'g> Model for DependsCache<'g> {
+    ghost use Rattle.std.specs.Prelude.{◌≡◌, length};
+    ghost use Rattle.guppy_data.specs.contracts.records.PackageRecord as of_package;
+    ghost use Rattle.guppy_data.specs.contracts.records.LinkRecord as of_link;
+    ghost use Rattle.guppy_data.specs.contracts.records.WorkspaceRecord as of_workspace;
+    ghost use Rattle.std.specs.Coded.{codes};
+    ghost use Rattle.guppy.specs.Graph.{GraphData};
+
+    // The graph that is asked about.
+    ghost Value = { GraphData };
+
+    ghost coded = { Prim.hlevel (codes, of_package.the_row.coded, of_link.the_row.coded, of_workspace.the_row.coded) };
+
+    ghost view = { λ c. c.graph.now };
+
+    ghost invariant = { λ c. c.room ≡ length c.graph.now.packages };
+}
+
+impl<'g> DependsCache<'g> {
+    /// The cache for a graph.
+    ///
+    /// Takes memory for a number and two bits a package, and fails, with `OutOfMemory`, only where
+    /// there is none. No question takes more.
+    pub fn new(graph: &'g PackageGraph) -> Result<Self, Error>
+        ensures graph { IfOk result (λ c. c ≡ graph.now) }
+        ensures error { IsOkUnless result Error.OutOfMemory }
+    {
+        let room = ReachCache::new(graph.graph())?;
+        Ok(DependsCache { graph, room })
+    }
+
+    /// Whether the first package depends on the second, as [`PackageGraph::depends_on`] answers it,
+    /// whatever was asked before.
+    ///
+    /// `UnknownPackageId` tells the first of the two IDs that is no package's. Time grows with
+    /// packages and links. Takes memory only for that error's copy of the ID.
+    pub fn depends_on(&mut self, a: &PackageId, b: &PackageId) -> Result<bool, Error>
+        ensures graph { self.new ≡ self.old }
+        ensures known { OnOk result (IsKnown self.old.packages a.now × IsKnown self.old.packages b.now) }
+        ensures answer { IfOk result (λ depends. IsTrue depends ↔ DependsOn self.old a.now b.now) }
+        ensures answered { IsKnown self.old.packages a.now → IsKnown self.old.packages b.now → IsOk result }
+        ensures unknown { IfErr result (NamesId (IsFirstUnknown self.old.packages (a.now ∷ b.now ∷ []))) }
+    {
+        let (from, to) = self.graph.pair_of(a, b)?;
+        let forward = DependencyDirection::Forward;
+        Ok(self.room.reaches(self.graph.graph(), from, to, forward))
+    }
+}
+
+impl PackageGraph {
+    /// A cache for questions of dependence. It makes the room for every question.
+    ///
+    /// Takes memory for a number and two bits a package, and fails, with `OutOfMemory`, only where
+    /// there is none.
+    pub fn new_depends_cache(&self) -> Result<DependsCache<'_>, Error>
+        ensures graph { IfOk result (λ c. c ≡ self.now) }
+        ensures error { IsOkUnless result Error.OutOfMemory }
+    {
+        DependsCache::new(self)
+    }
+}

@@ -1,0 +1,74 @@
+//! A visitor that writes down what another one is shown and answers.
+ghost use Rattle.std.specs.Prelude.{◌≡◌, ◌≤◌, [], length, IfOk, IsOkUnless, vec_capacity};
+ghost use Rattle.guppy_core.specs.Resolve.{JudgesResolve, Visits};
+ghost use Rattle.guppy.specs.Visitors.{VisitsAt};
+
+use crate::package_graph::{PackageLink, PackageLinkContext, PackageQuery, PackageSet};
+use crate::query::visitor::PackageLinkVisitor;
+use guppy_data::Error;
+use std::alloc::{AllocError, Global};
+
+/// A visitor around another one, which answers. It keeps a list of the links that it was shown, by
+/// number, each with the answer, as long as there is room.
+#[derive(Drop)]
+pub struct Recorder<V> {
+    /// The visitor that answers.
+    pub visitor: V,
+    /// The links that were shown, by number, and the answers.
+    pub entries: Vec<(usize, bool)>,
+}
+
+impl<V: Drop> Recorder<V> {
+    /// Around this visitor, with no entry and room for so many.
+    ///
+    /// Takes memory for them. Fails only where there is none.
+    pub fn new(alloc: Global, visitor: V, room: usize) -> Result<Self, AllocError>
+        ensures visitor { IfOk result (λ r. r.visitor ≡ visitor) }
+        ensures entries { IfOk result (λ r. r.entries.items ≡ []) }
+        ensures room { IfOk result (λ r. room ≤ vec_capacity r.entries) }
+    {
+        let entries = Vec::with_capacity(alloc, room)?;
+        Ok(Recorder { visitor, entries })
+    }
+}
+
+impl<V: PackageLinkVisitor> PackageLinkVisitor for Recorder<V> {
+    ghost use Rattle.std.specs.Prelude.{◌≡◌, ◌<◌, ◌++◌, ◌∷◌, [], length, vec_capacity};
+
+    ghost visits = { λ s q l b t. V.visits s.visitor q l b t.visitor
+        × (vec_capacity t.entries ≡ vec_capacity s.entries)
+        × (length s.entries.items < vec_capacity s.entries → t.entries.items ≡ s.entries.items ++ (l.number, b) ∷ []) };
+
+    ghost place = { λ s. V.place s.visitor };
+
+    fn visit_link(&mut self, cx: &PackageLinkContext<'_>, link: PackageLink<'_>) -> bool {
+        let answer = self.visitor.visit_link(cx, link);
+        if self.entries.len() < self.entries.capacity() {
+            self.entries.push_reserved((link.number, answer));
+        }
+        answer
+    }
+}
+
+impl<'g> PackageQuery<'g> {
+    /// As [`resolve_with`](PackageQuery::resolve_with), and the whole trace: each link that was
+    /// shown, by number, with the visitor's answer, in the order in which they were shown.
+    ///
+    /// Time grows with the packages, and the links that leave the result. Takes memory for a number
+    /// and a bit a package and an entry a link, all of it before the first link is shown.
+    pub fn resolve_recorded<V: PackageLinkVisitor + Drop>(
+        self,
+        visitor: V,
+    ) -> Result<(PackageSet<'g>, Recorder<V>), Error>
+        ensures graph { IfOk result (λ r. r.0.graph ≡ self.entry.graph) }
+        ensures judged { IfOk result (λ r.
+            JudgesResolve self.entry.direction self.entry.graph.links self.entry.initials r.1.entries.items r.0.included) }
+        ensures visits { IfOk result (λ r. Visits (VisitsAt V.visits self.entry) visitor r.1.entries.items r.1.visitor) }
+        ensures error { IsOkUnless result Error.OutOfMemory }
+    {
+        let graph = self.graph();
+        let mut recorder = Recorder::new(graph.alloc(), visitor, graph.link_count())?;
+        let set = self.resolve_with_mut(&mut recorder)?;
+        Ok((set, recorder))
+    }
+}

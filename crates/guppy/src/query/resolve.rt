@@ -1,0 +1,210 @@
+//! What a query includes: over all links, or over those that a visitor accepts.
+ghost use Rattle.std.specs.Prelude.{◌≡◌, ◌↔◌, ℕ, ◌<◌, Bool, List, length, IfOk, OnErr, IsOkUnless};
+ghost use Rattle.guppy_core.specs.IxSet.{IsIn};
+ghost use Rattle.guppy_core.specs.Reach.{LinkStep, ReachedFrom};
+ghost use Rattle.guppy_core.specs.Resolve.{JudgesResolve, AcceptsAll, Visits, IsCallableBelow};
+ghost use Rattle.guppy.specs.Visitors.{VisitsAt, CallsAt, MayCallAt};
+
+use crate::package_graph::{PackageLink, PackageLinkContext, PackageQuery, PackageSet};
+use crate::query::visitor::PackageLinkVisitor;
+use guppy_core::{LinkVisitor, ResolveCore, reachable_with};
+use guppy_data::Error;
+
+// A visitor of the query, asked by link numbers.
+#[derive(Drop)]
+struct Asking<'v, 'a, 'g, V> {
+    visitor: &'v mut V,
+    context: &'a PackageLinkContext<'g>,
+}
+
+impl<V: PackageLinkVisitor> LinkVisitor for Asking<'_, '_, '_, V> {
+    ghost use Rattle.std.specs.Prelude.{◌≡◌, ◌<◌, ◌∷◌, length};
+    ghost use Rattle.guppy.specs.Visitors.{VisitsAt};
+
+    ghost visits = { λ s n b t. VisitsAt V.visits s.context.now s.visitor.now n b t.visitor.now × (t.context ≡ s.context) };
+
+    ghost place = { λ s. s.visitor.ghost_name ∷ V.place s.visitor.now };
+
+    ghost can_visit = { λ s n. n < length s.context.now.graph.links };
+
+    fn visit(&mut self, link: usize) -> bool {
+        let context = self.context;
+        let link = context.link_at(link);
+        self.visitor.visit_link(context, link)
+    }
+}
+
+// A closure, asked by link numbers.
+#[derive(Drop)]
+struct AskingClosure<'f, 'a, 'g, F> {
+    ask: &'f mut F,
+    context: &'a PackageLinkContext<'g>,
+}
+
+impl<'g, F: FnMut(&PackageLinkContext<'g>, PackageLink<'g>) -> bool> LinkVisitor
+    for AskingClosure<'_, '_, 'g, F> {
+    ghost use Rattle.std.specs.Prelude.{◌≡◌, ◌<◌, ◌∷◌, [], length};
+    ghost use Rattle.guppy_core.specs.Resolve.{IsCallableBelow};
+    ghost use Rattle.guppy.specs.Visitors.{CallsAt, MayCallAt};
+
+    ghost visits = { λ s n b t. CallsAt F.step s.context.now s.ask.now n b t.ask.now × (t.context ≡ s.context) };
+
+    ghost place = { λ s. s.ask.ghost_name ∷ [] };
+
+    ghost can_visit = { λ s n. (n < length s.context.now.graph.links)
+        × IsCallableBelow (MayCallAt F.pre s.context.now) (CallsAt F.step s.context.now) (length s.context.now.graph.links) s.ask.now };
+
+    fn visit(&mut self, link: usize) -> bool {
+        let context = self.context;
+        let link = context.link_at(link);
+        call(self.ask, context, link)
+    }
+}
+
+// The closure's answer.
+fn call<'g, F: FnMut(&PackageLinkContext<'g>, PackageLink<'g>) -> bool>(
+    ask: &mut F,
+    context: &PackageLinkContext<'g>,
+    link: PackageLink<'g>,
+) -> bool
+    requires { F.pre ask.old context link }
+    ensures { F.step ask.old context.entry link.entry result ask.new }
+{
+    ask(context, link)
+}
+
+impl<'g> PackageQuery<'g> {
+    /// The packages that the initial ones lead to over all links in the query's direction, the
+    /// initial ones among them.
+    ///
+    /// Time grows with the packages, and the links that leave the result. Takes memory for a number
+    /// and a bit a package, and fails, with `OutOfMemory`, only where there is none.
+    pub fn resolve(self) -> Result<PackageSet<'g>, Error>
+        ensures graph { IfOk result (λ set. set.graph ≡ self.entry.graph) }
+        ensures judged { IfOk result (λ set. (trace : List (ℕ × Bool))
+            × JudgesResolve self.entry.direction self.entry.graph.links self.entry.initials trace set.included × AcceptsAll trace) }
+        ensures reached { IfOk result (λ set. (p : ℕ)
+            → IsIn set.included p ↔ ReachedFrom (LinkStep self.entry.direction self.entry.graph.links) (IsIn self.entry.initials) p) }
+        ensures error { IsOkUnless result Error.OutOfMemory }
+    {
+        let graph = self.graph();
+        let core = ResolveCore::new(graph.graph(), self.initial_ixs(), self.direction())?;
+        Ok(PackageSet { graph, core })
+    }
+
+    /// The packages that the initial ones lead to over the links that the visitor accepts, the
+    /// initial ones among them. The visitor is shown each link that leaves one of these packages
+    /// exactly once, after that package was included, and no other link. Refusing a link doesn't
+    /// keep out a package that is reached otherwise.
+    ///
+    /// Time grows with the packages, and the links that leave the result. Takes memory for a number
+    /// and a bit a package, all of it before the first link is shown, and fails, with `OutOfMemory`,
+    /// only where there is none. What the visitor is like at the end is told by
+    /// [`resolve_with_mut`](PackageQuery::resolve_with_mut).
+    pub fn resolve_with<V: PackageLinkVisitor + Drop>(
+        self,
+        mut visitor: V,
+    ) -> Result<PackageSet<'g>, Error>
+        ensures graph { IfOk result (λ set. set.graph ≡ self.entry.graph) }
+        ensures judged { IfOk result (λ set. (trace : List (ℕ × Bool)) × (last : V)
+            × JudgesResolve self.entry.direction self.entry.graph.links self.entry.initials trace set.included
+            × Visits (VisitsAt V.visits self.entry) visitor trace last) }
+        ensures error { IsOkUnless result Error.OutOfMemory }
+    {
+        let set = self.resolve_with_mut(&mut visitor)?;
+        Ok(set)
+    }
+
+    /// As [`resolve_with`](PackageQuery::resolve_with), with a visitor that is lent: at the end it is
+    /// as the links that it was shown left it, and where there is no memory it is as it was.
+    pub fn resolve_with_mut<V: PackageLinkVisitor>(
+        self,
+        visitor: &mut V,
+    ) -> Result<PackageSet<'g>, Error>
+        ensures graph { IfOk result (λ set. set.graph ≡ self.entry.graph) }
+        ensures judged { IfOk result (λ set. (trace : List (ℕ × Bool))
+            × JudgesResolve self.entry.direction self.entry.graph.links self.entry.initials trace set.included
+            × Visits (VisitsAt V.visits self.entry) visitor.old trace visitor.new) }
+        ensures same_place { V.place visitor.new ≡ V.place visitor.old }
+        ensures not_begun { OnErr result (visitor.new ≡ visitor.old) }
+        ensures error { IsOkUnless result Error.OutOfMemory }
+    {
+        let context = PackageLinkContext { query: self };
+        let mut asking = Asking {
+            visitor,
+            context: &context,
+        };
+        let set = resolve_by_number(&context, &mut asking)?;
+        Ok(set)
+    }
+
+    /// As [`resolve_with`](PackageQuery::resolve_with), with a closure in the visitor's place. It is
+    /// called with a context of this query and a link of its graph, and may be called with each such
+    /// link, also after any such calls.
+    pub fn resolve_with_fn<F: FnMut(&PackageLinkContext<'g>, PackageLink<'g>) -> bool>(
+        self,
+        mut ask: F,
+    ) -> Result<PackageSet<'g>, Error>
+        requires callable { IsCallableBelow (MayCallAt F.pre self) (CallsAt F.step self) (length self.graph.links) ask }
+        ensures graph { IfOk result (λ set. set.graph ≡ self.entry.graph) }
+        ensures judged { IfOk result (λ set. (trace : List (ℕ × Bool)) × (last : F)
+            × JudgesResolve self.entry.direction self.entry.graph.links self.entry.initials trace set.included
+            × Visits (CallsAt F.step self.entry) ask trace last) }
+        ensures error { IsOkUnless result Error.OutOfMemory }
+    {
+        let set = self.resolve_with_fn_mut(&mut ask)?;
+        Ok(set)
+    }
+
+    /// As [`resolve_with_fn`](PackageQuery::resolve_with_fn), with a closure that is lent: at the end
+    /// it is as its calls left it, and where there is no memory it is as it was.
+    pub fn resolve_with_fn_mut<F: FnMut(&PackageLinkContext<'g>, PackageLink<'g>) -> bool>(
+        self,
+        ask: &mut F,
+    ) -> Result<PackageSet<'g>, Error>
+        requires callable { IsCallableBelow (MayCallAt F.pre self) (CallsAt F.step self) (length self.graph.links) ask.old }
+        ensures graph { IfOk result (λ set. set.graph ≡ self.entry.graph) }
+        ensures judged { IfOk result (λ set. (trace : List (ℕ × Bool))
+            × JudgesResolve self.entry.direction self.entry.graph.links self.entry.initials trace set.included
+            × Visits (CallsAt F.step self.entry) ask.old trace ask.new) }
+        ensures not_called { OnErr result (ask.new ≡ ask.old) }
+        ensures error { IsOkUnless result Error.OutOfMemory }
+    {
+        let context = PackageLinkContext { query: self };
+        let mut asking = AskingClosure {
+            ask,
+            context: &context,
+        };
+        let set = resolve_by_number(&context, &mut asking)?;
+        Ok(set)
+    }
+}
+
+// The packages that the initial ones of the context's query lead to over the links that the visitor
+// accepts. It is shown them by number.
+fn resolve_by_number<'g, V: LinkVisitor>(
+    context: &PackageLinkContext<'g>,
+    visitor: &mut V,
+) -> Result<PackageSet<'g>, Error>
+    requires ready { (n : ℕ) → n < length context.now.graph.links → V.can_visit visitor.old n }
+    ensures graph { IfOk result (λ set. set.graph ≡ context.now.graph) }
+    ensures judged { IfOk result (λ set. (trace : List (ℕ × Bool))
+        × JudgesResolve context.now.direction context.now.graph.links context.now.initials trace set.included
+        × Visits V.visits visitor.old trace visitor.new) }
+    ensures same_place { V.place visitor.new ≡ V.place visitor.old }
+    ensures not_begun { OnErr result (visitor.new ≡ visitor.old) }
+    ensures error { IsOkUnless result Error.OutOfMemory }
+{
+    let query = context.query();
+    let graph = query.graph();
+    let included = reachable_with(
+        graph.graph(),
+        query.initial_ixs(),
+        query.direction(),
+        visitor,
+    )?;
+    Ok(PackageSet {
+        graph,
+        core: ResolveCore::from_included(included),
+    })
+}

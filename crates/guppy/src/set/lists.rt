@@ -1,0 +1,118 @@
+ghost use Rattle.std.specs.Prelude.{◌≡◌, ◌<◌, All, length};
+ghost use Rattle.guppy_core.specs.IxSet.{member_count};
+
+use crate::package_graph::{PackageGraph, PackageMetadata, PackageSet, Packages};
+use guppy_core::{DependencyDirection, IndexType, Topo};
+use guppy_data::PackageId;
+
+impl<'g> PackageSet<'g> {
+    ghost use Rattle.guppy.specs.Ordered.{IsOrdered};
+    ghost use Rattle.guppy.specs.Listed.{packages_listed, packages_to_come, ids_listed, ids_to_come};
+
+    /// The IDs of the set's packages, listed as `packages` lists them. Takes no memory.
+    pub fn package_ids(&self, direction: DependencyDirection) -> ListedPackageIds<'_, 'g>
+        ensures left { ids_to_come result ≡ ids_listed direction self.now }
+        ensures count { length (ids_to_come result) ≡ member_count self.now.included }
+        ensures ordered { IsOrdered (length self.now.graph.packages) self.now.graph.links self.now.graph.index self.now.graph.components }
+    {
+        ListedPackageIds {
+            packages: self.packages(direction),
+        }
+    }
+
+    /// The packages of the set. The list of all packages, of which this one leaves out what is not
+    /// in the set, belongs to the graph and never changes:
+    ///
+    /// - packages that depend on each other stand together, in a topological order by the links that
+    ///   aren't dev-only;
+    /// - of a link between packages that don't depend on each other, the dependent stands first;
+    /// - where the links that aren't dev-only have no cycle but links from a package to itself, the
+    ///   dependent of each other such link stands first.
+    ///
+    /// Reverse gives that list from its end. Takes no memory.
+    pub fn packages(&self, direction: DependencyDirection) -> ListedPackages<'_, 'g>
+        ensures left { packages_to_come result ≡ packages_listed direction self.now }
+        ensures count { length (packages_to_come result) ≡ member_count self.now.included }
+        ensures ordered { IsOrdered (length self.now.graph.packages) self.now.graph.links self.now.graph.index self.now.graph.components }
+    {
+        ListedPackages {
+            graph: self.graph,
+            rest: self.core.topo(self.graph.sccs(), direction),
+        }
+    }
+}
+
+/// The packages of a set that are still to come, in the order of the graph or from its end. Its
+/// `len` is exact.
+#[derive(Drop)]
+pub struct ListedPackages<'s, 'g> {
+    graph: &'g PackageGraph,
+    rest: Topo<'s, Packages>,
+    ghost in_graph: { All (λ p. p < length graph.now.packages) rest },
+}
+
+impl<'s, 'g> Iterator for ListedPackages<'s, 'g> {
+    ghost use Rattle.std.specs.Iterator.{YieldsFirstBy, item_count};
+    ghost use Rattle.guppy.specs.Listed.{package_in, packages_to_come};
+
+    type Item = PackageMetadata<'g>;
+
+    ghost next_gives = { YieldsFirstBy package_in packages_to_come };
+
+    ghost remaining = { item_count packages_to_come };
+
+    fn next(&mut self) -> Option<PackageMetadata<'g>> {
+        match self.rest.next() {
+            Some(ix) => Some(PackageMetadata {
+                graph: self.graph,
+                position: ix.index(),
+            }),
+            None => None,
+        }
+    }
+
+    fn size_hint(&self) -> (usize, Option<usize>) {
+        self.rest.size_hint()
+    }
+}
+
+impl ExactSizeIterator for ListedPackages<'_, '_> {
+    fn len(&self) -> usize {
+        self.rest.len()
+    }
+}
+
+/// The IDs of a set's packages that are still to come, in the order of the graph or from its end.
+/// Its `len` is exact.
+#[derive(Drop)]
+pub struct ListedPackageIds<'s, 'g> {
+    packages: ListedPackages<'s, 'g>,
+}
+
+impl<'s, 'g> Iterator for ListedPackageIds<'s, 'g> {
+    ghost use Rattle.std.specs.Iterator.{YieldsFirstRef, item_count};
+    ghost use Rattle.guppy.specs.Listed.{ids_to_come};
+
+    type Item = &'g PackageId;
+
+    ghost next_gives = { YieldsFirstRef ids_to_come };
+
+    ghost remaining = { item_count ids_to_come };
+
+    fn next(&mut self) -> Option<&'g PackageId> {
+        match self.packages.next() {
+            Some(package) => Some(package.id()),
+            None => None,
+        }
+    }
+
+    fn size_hint(&self) -> (usize, Option<usize>) {
+        self.packages.size_hint()
+    }
+}
+
+impl ExactSizeIterator for ListedPackageIds<'_, '_> {
+    fn len(&self) -> usize {
+        self.packages.len()
+    }
+}

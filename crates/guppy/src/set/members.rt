@@ -1,0 +1,86 @@
+//! The calls of a graph that answer the set of members of the workspace.
+ghost use Rattle.std.specs.Prelude.{◌≡◌, List, IfOk, IfErr, IsOkUnless, map};
+ghost use Rattle.std.specs.Iterator.{IsFinite, Drains, Yields};
+ghost use Rattle.guppy_data.specs.Utf8Path.{path_text};
+ghost use Rattle.guppy.specs.Query.{IsSetNamed, IsSetWhere};
+ghost use Rattle.guppy.specs.Members.{HasPath, HasName, IsMember, AreMembersByPath};
+ghost use Rattle.guppy.specs.Ids.{ix_position};
+ghost use Rattle.guppy.specs.Refused.{NamesPath, NamesName, IsFirstUnknownPath, IsFirstUnknownName};
+
+use crate::package_graph::{PackageGraph, PackageSet};
+use guppy_core::{IndexType, PackageIx};
+use guppy_data::{Error, Utf8Path};
+use std::alloc::AllocError;
+
+impl PackageGraph {
+    /// The members of the workspace, and no other package.
+    ///
+    /// Time grows with the packages. Takes memory for a number a member and a bit a package, and
+    /// fails, with `OutOfMemory`, only where there is none.
+    pub fn resolve_workspace(&self) -> Result<PackageSet<'_>, Error>
+        ensures graph { IfOk result (λ set. set.graph ≡ self.now) }
+        ensures members { IfOk result (λ set. IsSetWhere self.now.packages (IsMember self.now.packages) set.included) }
+        ensures error { IsOkUnless result Error.OutOfMemory }
+    {
+        let ixs = self.ixs_of_members()?;
+        let set = self.set_of(ixs)?;
+        Ok(set)
+    }
+
+    /// The members of the workspace with these paths, and no other package. Repeats count once.
+    ///
+    /// `UnknownWorkspacePath` tells the first path of the list that is no member's; the list is read
+    /// no further. Time grows with the list, times the logarithm of the members, and with the
+    /// packages. Takes memory for a number a path and a bit a package.
+    pub fn resolve_workspace_paths<'a, I: Iterator<Item = Utf8Path<'a>> + Drop>(
+        &self,
+        paths: I,
+    ) -> Result<PackageSet<'_>, Error>
+        requires can { I.can_next paths }
+        requires ends { IsFinite (I.remaining paths) }
+        ensures graph { IfOk result (λ set. set.graph ≡ self.now) }
+        ensures members { IfOk result (λ set. (asked : List _) × Drains I.next_gives paths asked
+            × IsSetNamed (HasPath self.now.packages) self.now.packages (map path_text asked) set.included) }
+        ensures unknown { IfErr result (NamesPath (λ path. (asked : List _) × (rest : I) × Yields I.next_gives paths asked rest
+            × IsFirstUnknownPath self.now.packages (map path_text asked) path)) }
+    {
+        let ixs = self.ixs_of_paths(paths)?;
+        let set = self.set_of(ixs)?;
+        Ok(set)
+    }
+
+    /// The members of the workspace with these names, and no other package. Repeats count once.
+    ///
+    /// `UnknownWorkspaceName` tells the first name of the list that is no member's; the list is read
+    /// no further. Time grows with the list, times the logarithm of the members, and with the
+    /// packages. Takes memory for a number a name and a bit a package.
+    pub fn resolve_workspace_names<'a, I: Iterator<Item = &'a str> + Drop>(
+        &self,
+        names: I,
+    ) -> Result<PackageSet<'_>, Error>
+        requires can { I.can_next names }
+        requires ends { IsFinite (I.remaining names) }
+        ensures graph { IfOk result (λ set. set.graph ≡ self.now) }
+        ensures members { IfOk result (λ set. (asked : List _) × Drains I.next_gives names asked
+            × IsSetNamed (HasName self.now.packages) self.now.packages (map (λ name. name.now) asked) set.included) }
+        ensures unknown { IfErr result (NamesName (λ name. (asked : List _) × (rest : I) × Yields I.next_gives names asked rest
+            × IsFirstUnknownName self.now.packages (map (λ name. name.now) asked) name)) }
+    {
+        let ixs = self.ixs_of_names(names)?;
+        let set = self.set_of(ixs)?;
+        Ok(set)
+    }
+
+    // The positions of the members.
+    fn ixs_of_members(&self) -> Result<Vec<PackageIx>, AllocError>
+        ensures { IfOk result (λ ixs. AreMembersByPath self.now.packages (map ix_position ixs.items)) }
+    {
+        // The graph tells that it has fewer than 2^32 packages.
+        let _graph = self.graph();
+        let mut ixs = Vec::new(self.alloc());
+        for position in self.members_by_path() {
+            ixs.push(PackageIx::new(*position))?;
+        }
+        Ok(ixs)
+    }
+}

@@ -1,0 +1,149 @@
+//! The calls of a graph and a package that answer the set of exactly the named packages.
+ghost use Rattle.std.specs.Prelude.{◌≡◌, ◌↔◌, ℕ, ◌<◌, List, Bool, true, false, replicate, length, All, IsTrue, IfOk, IfErr, IsOkUnless, map};
+ghost use Rattle.std.specs.List.{Contains};
+ghost use Rattle.std.specs.Iterator.{IsFinite, Drains, Yields};
+ghost use Rattle.guppy_core.specs.IxSet.{IsIn};
+ghost use Rattle.guppy.specs.Query.{AreNamed, IsNamedSet, IsSetWhere};
+ghost use Rattle.guppy.specs.Ids.{ix_position};
+ghost use Rattle.guppy.specs.Graph.{IsPackageGraph};
+ghost use Rattle.guppy.specs.PackageNames.{HasPackageName};
+ghost use Rattle.guppy.specs.Refused.{NamesId, IsFirstUnknown};
+
+use crate::package_graph::{PackageGraph, PackageMetadata, PackageSet};
+use guppy_core::{IndexType, PackageIx, ResolveCore};
+use guppy_data::{Error, PackageId};
+use std::alloc::AllocError;
+use std::iter;
+
+impl PackageGraph {
+    /// All packages of the graph.
+    ///
+    /// Time grows with the packages. Takes memory for a bit a package, and fails, with
+    /// `OutOfMemory`, only where there is none.
+    pub fn resolve_all(&self) -> Result<PackageSet<'_>, Error>
+        ensures graph { IfOk result (λ set. set.graph ≡ self.now) }
+        ensures all { IfOk result (λ set. set.included ≡ replicate (length self.now.packages) true) }
+        ensures error { IsOkUnless result Error.OutOfMemory }
+    {
+        let core = ResolveCore::all_nodes(self.graph())?;
+        Ok(PackageSet { graph: self, core })
+    }
+
+    /// No package.
+    ///
+    /// Takes memory for a bit a package, and fails, with `OutOfMemory`, only where there is none.
+    pub fn resolve_none(&self) -> Result<PackageSet<'_>, Error>
+        ensures graph { IfOk result (λ set. set.graph ≡ self.now) }
+        ensures none { IfOk result (λ set. set.included ≡ replicate (length self.now.packages) false) }
+        ensures error { IsOkUnless result Error.OutOfMemory }
+    {
+        let core = ResolveCore::empty(self.alloc(), self.package_count())?;
+        Ok(PackageSet { graph: self, core })
+    }
+
+    /// The packages with these IDs, and no other: no link is followed. Repeats count once.
+    ///
+    /// `UnknownPackageId` tells the first ID of the list that is no package's; the list is read no
+    /// further. Time grows with the list, times the logarithm of the packages, and with the
+    /// packages. Takes memory for a number an ID and a bit a package.
+    pub fn resolve_ids<'a, I: Iterator<Item = &'a PackageId> + Drop>(
+        &self,
+        ids: I,
+    ) -> Result<PackageSet<'_>, Error>
+        requires can { I.can_next ids }
+        requires ends { IsFinite (I.remaining ids) }
+        ensures graph { IfOk result (λ set. set.graph ≡ self.now) }
+        ensures members { IfOk result (λ set. (named : List _) × Drains I.next_gives ids named
+            × IsNamedSet self.now.packages (map (λ id. id.now) named) set.included) }
+        ensures unknown { IfErr result (NamesId (λ id. (named : List _) × (rest : I) × Yields I.next_gives ids named rest
+            × IsFirstUnknown self.now.packages (map (λ id. id.now) named) id)) }
+    {
+        let ixs = self.ixs_of(ids)?;
+        let set = self.set_of(ixs)?;
+        Ok(set)
+    }
+
+    /// The packages with this name, of the workspace or not; none where no package has it.
+    ///
+    /// Time grows with the packages. Takes memory for a number a package with the name and a bit a
+    /// package, and fails, with `OutOfMemory`, only where there is none.
+    pub fn resolve_package_name(&self, name: &str) -> Result<PackageSet<'_>, Error>
+        ensures graph { IfOk result (λ set. set.graph ≡ self.now) }
+        ensures members { IfOk result (λ set. IsSetWhere self.now.packages (HasPackageName self.now.packages name.now) set.included) }
+        ensures error { IsOkUnless result Error.OutOfMemory }
+    {
+        let ixs = self.ixs_with_name(name)?;
+        let set = self.set_of(ixs)?;
+        Ok(set)
+    }
+
+    // The positions of the packages with these IDs.
+    fn ixs_of<'a, I: Iterator<Item = &'a PackageId> + Drop>(
+        &self,
+        ids: I,
+    ) -> Result<Vec<PackageIx>, Error>
+        requires can { I.can_next ids }
+        requires ends { IsFinite (I.remaining ids) }
+        ensures named { IfOk result (λ ixs. (named : List _) × Drains I.next_gives ids named
+            × AreNamed self.now.packages (map (λ id. id.now) named) (map ix_position ixs.items)) }
+        ensures unknown { IfErr result (NamesId (λ id. (named : List _) × (rest : I) × Yields I.next_gives ids named rest
+            × IsFirstUnknown self.now.packages (map (λ id. id.now) named) id)) }
+    {
+        let mut ixs = Vec::new(self.alloc());
+        for id in ids {
+            ixs.push(self.ix_of(id)?)?;
+        }
+        Ok(ixs)
+    }
+
+    // The positions of the packages with this name.
+    fn ixs_with_name(&self, name: &str) -> Result<Vec<PackageIx>, AllocError>
+        ensures { IfOk result (λ ixs. (p : ℕ) → Contains (map ix_position ixs.items) p ↔ HasPackageName self.now.packages name.now p) }
+    {
+        let graph = self.graph();
+        let mut found = Vec::new(graph.alloc());
+        for position in 0..graph.node_count() {
+            if self.is_named(position, name) {
+                found.push(PackageIx::new(position))?;
+            }
+        }
+        Ok(found)
+    }
+
+    // Whether the package at the position has this name.
+    fn is_named(&self, position: usize, name: &str) -> bool
+        requires { position < length self.now.packages }
+        ensures { IsTrue result ↔ HasPackageName self.now.packages name.now position }
+    {
+        self.package_at(position).name.as_str() == name
+    }
+
+    // The set of the packages at these positions.
+    pub(crate) fn set_of(&self, ixs: Vec<PackageIx>) -> Result<PackageSet<'_>, Error>
+        requires { All (λ p. p < length self.now.packages) (map ix_position ixs.items) }
+        ensures graph { IfOk result (λ set. set.graph ≡ self.now) }
+        ensures count { IfOk result (λ set. length set.included ≡ length self.now.packages) }
+        ensures members { IfOk result (λ set. (p : ℕ) → IsIn set.included p ↔ Contains (map ix_position ixs.items) p) }
+        ensures error { IsOkUnless result Error.OutOfMemory }
+        ensures is_graph { IsPackageGraph self.now }
+    {
+        let core = ResolveCore::from_ixs(self.graph(), ixs.into_iter())?;
+        Ok(PackageSet { graph: self, core })
+    }
+}
+
+impl<'g> PackageMetadata<'g> {
+    /// This package, and no other.
+    ///
+    /// Time grows with the packages. Takes memory for a bit a package, and fails, with
+    /// `OutOfMemory`, only where there is none.
+    pub fn to_package_set(self) -> Result<PackageSet<'g>, Error>
+        ensures graph { IfOk result (λ set. set.graph ≡ self.entry.graph.now) }
+        ensures members { IfOk result (λ set. IsSetWhere self.entry.graph.now.packages (λ p. p ≡ self.entry.position) set.included) }
+        ensures error { IsOkUnless result Error.OutOfMemory }
+    {
+        let graph = self.graph;
+        let core = ResolveCore::from_ixs(graph.graph(), iter::once(self.package_ix()))?;
+        Ok(PackageSet { graph, core })
+    }
+}

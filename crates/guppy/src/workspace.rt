@@ -1,0 +1,82 @@
+//! The workspace of a graph: its directories, and its members by path and by name.
+//!
+//! No call takes memory, but for the lists that `members_by_paths` and `members_by_names` give, and
+//! the errors that name an unknown path or name. What is borrowed lives as long as the borrow of the
+//! graph, also where the view of the workspace is gone.
+ghost use Rattle.std.specs.Prelude.{◌≡◌, ◌↔◌, IsTrue, length};
+ghost use Rattle.std.specs.Option.{option_map};
+ghost use Rattle.guppy_data.specs.Utf8Path.{path_text};
+ghost use Rattle.guppy.specs.Members.{IsMemberPath, IsMemberName, members_of};
+
+mod default_members;
+mod lookups;
+mod members;
+
+use crate::metadata::path_of;
+use crate::package_graph::PackageGraph;
+pub use crate::package_graph::Workspace;
+pub use default_members::{DefaultMemberIds, DefaultMembers};
+use guppy_data::Utf8Path;
+pub use members::{MemberIds, Members, MembersByName, MembersByPath};
+use serde_json::Value;
+
+impl PackageGraph {
+    /// The workspace. Takes no memory and constant time.
+    pub fn workspace(&self) -> Workspace<'_>
+        ensures { result.graph ≡ self.entry }
+    {
+        Workspace { graph: self }
+    }
+}
+
+impl<'g> Workspace<'g> {
+    /// The path of the workspace's root.
+    pub fn root(self) -> Utf8Path<'g>
+        ensures { path_text result ≡ self.entry.graph.now.workspace.root }
+    {
+        self.graph.workspace_record().root.as_path()
+    }
+
+    /// The path that Cargo builds into.
+    pub fn target_directory(self) -> Utf8Path<'g>
+        ensures { path_text result ≡ self.entry.graph.now.workspace.target_directory }
+    {
+        self.graph.workspace_record().target_directory.as_path()
+    }
+
+    /// The path of what Cargo makes on its way, where it is another one.
+    pub fn build_directory(self) -> Option<Utf8Path<'g>>
+        ensures { option_map path_text result ≡ self.entry.graph.now.workspace.build_directory }
+    {
+        path_of(&self.graph.workspace_record().build_directory)
+    }
+
+    /// The manifest's free table `workspace.metadata`.
+    pub fn metadata_table(self) -> &'g Value
+        ensures { result.now ≡ self.entry.graph.now.workspace.metadata_table }
+    {
+        &self.graph.workspace_record().metadata_table
+    }
+
+    /// How many members the workspace has. Takes constant time.
+    pub fn member_count(self) -> usize
+        ensures { result ≡ length (members_of self.entry.graph.now.packages) }
+    {
+        self.graph.members_by_path().len()
+    }
+
+    /// Whether a member has the name. Time grows with the logarithm of the members.
+    pub fn contains_name(self, name: &str) -> bool
+        ensures { IsTrue result ↔ IsMemberName self.entry.graph.now.packages name.now }
+    {
+        self.graph.position_of_name(name).is_some()
+    }
+
+    /// Whether a member has the path, as paths are equal. Time grows with the logarithm of the
+    /// members.
+    pub fn contains_path(self, path: Utf8Path<'_>) -> bool
+        ensures { IsTrue result ↔ IsMemberPath self.entry.graph.now.packages (path_text path.entry) }
+    {
+        self.graph.position_of_path(path).is_some()
+    }
+}

@@ -1,0 +1,206 @@
+//! Walks over the members of a workspace.
+ghost use Rattle.std.specs.Prelude.{◌≡◌, ℕ, ◌<◌, List, length, map, All};
+ghost use Rattle.std.specs.Slice.Iter.{iter_rest};
+ghost use Rattle.guppy.specs.Members.{AreMembersByPath, AreMembersByName};
+
+use crate::package_graph::{PackageGraph, PackageMetadata, Workspace, name_at, path_at};
+use guppy_data::{PackageId, Utf8Path};
+use std::slice;
+
+impl<'g> Workspace<'g> {
+    ghost use Rattle.guppy.specs.WorkspaceIterators.{at_positions, with_path, with_name, id_of, members_left, by_path_left, by_name_left, member_ids_left};
+
+    /// The members, each once, strictly ascending by path. Takes no memory and constant time.
+    pub fn iter(self) -> Members<'g>
+        ensures { (members : List ℕ) × AreMembersByPath self.entry.graph.now.packages members
+            × (members_left result ≡ at_positions self.entry.graph members) }
+    {
+        Members {
+            graph: self.graph,
+            rest: self.graph.members_by_path().iter(),
+        }
+    }
+
+    /// The members with their paths, each once, strictly ascending by path. Takes no memory and
+    /// constant time.
+    pub fn iter_by_path(self) -> MembersByPath<'g>
+        ensures { (members : List ℕ) × AreMembersByPath self.entry.graph.now.packages members
+            × (by_path_left result ≡ map with_path (at_positions self.entry.graph members)) }
+    {
+        MembersByPath {
+            members: self.iter(),
+        }
+    }
+
+    /// The members with their names, each once, strictly ascending by the bytes of the name. Takes no
+    /// memory and constant time.
+    pub fn iter_by_name(self) -> MembersByName<'g>
+        ensures { (members : List ℕ) × AreMembersByName self.entry.graph.now.packages members
+            × (by_name_left result ≡ map with_name (at_positions self.entry.graph members)) }
+    {
+        MembersByName {
+            members: Members {
+                graph: self.graph,
+                rest: self.graph.members_by_name().iter(),
+            },
+        }
+    }
+
+    /// The IDs of the members, each once, strictly ascending by path. Takes no memory and constant
+    /// time.
+    pub fn member_ids(self) -> MemberIds<'g>
+        ensures { (members : List ℕ) × AreMembersByPath self.entry.graph.now.packages members
+            × (member_ids_left result ≡ map id_of (at_positions self.entry.graph members)) }
+    {
+        MemberIds {
+            members: self.iter(),
+        }
+    }
+}
+
+/// Members of a workspace that are still to come. Its `len` is exact.
+#[derive(Drop)]
+pub struct Members<'g> {
+    graph: &'g PackageGraph,
+    rest: slice::Iter<'g, usize>,
+    ghost in_graph: { All (λ p. p < length graph.now.packages) (iter_rest rest) },
+}
+
+impl<'g> Iterator for Members<'g> {
+    ghost use Rattle.std.specs.Iterator.{YieldsFirstBy, item_count};
+    ghost use Rattle.guppy.specs.WorkspaceIterators.{member_seen, members_left};
+
+    type Item = PackageMetadata<'g>;
+
+    ghost next_gives = { YieldsFirstBy member_seen members_left };
+
+    ghost remaining = { item_count members_left };
+
+    fn next(&mut self) -> Option<PackageMetadata<'g>> {
+        match self.rest.next() {
+            Some(position) => Some(PackageMetadata {
+                graph: self.graph,
+                position: *position,
+            }),
+            None => None,
+        }
+    }
+
+    fn size_hint(&self) -> (usize, Option<usize>) {
+        self.rest.size_hint()
+    }
+}
+
+impl ExactSizeIterator for Members<'_> {
+    fn len(&self) -> usize {
+        self.rest.len()
+    }
+}
+
+/// Members of a workspace that are still to come, each with its path. Its `len` is exact.
+#[derive(Drop)]
+pub struct MembersByPath<'g> {
+    members: Members<'g>,
+}
+
+impl<'g> Iterator for MembersByPath<'g> {
+    ghost use Rattle.std.specs.Iterator.{YieldsFirstBy, item_count};
+    ghost use Rattle.guppy.specs.WorkspaceIterators.{path_and_member_seen, by_path_left};
+
+    type Item = (Utf8Path<'g>, PackageMetadata<'g>);
+
+    ghost next_gives = { YieldsFirstBy path_and_member_seen by_path_left };
+
+    ghost remaining = { item_count by_path_left };
+
+    fn next(&mut self) -> Option<(Utf8Path<'g>, PackageMetadata<'g>)> {
+        match self.members.next() {
+            Some(member) => {
+                let path = path_at(member.graph.graph().nodes(), member.position);
+                Some((path, member))
+            }
+            None => None,
+        }
+    }
+
+    fn size_hint(&self) -> (usize, Option<usize>) {
+        self.members.size_hint()
+    }
+}
+
+impl ExactSizeIterator for MembersByPath<'_> {
+    fn len(&self) -> usize {
+        self.members.len()
+    }
+}
+
+/// Members of a workspace that are still to come, each with its name. Its `len` is exact.
+#[derive(Drop)]
+pub struct MembersByName<'g> {
+    members: Members<'g>,
+}
+
+impl<'g> Iterator for MembersByName<'g> {
+    ghost use Rattle.std.specs.Iterator.{YieldsFirstBy, item_count};
+    ghost use Rattle.guppy.specs.WorkspaceIterators.{name_and_member_seen, by_name_left};
+
+    type Item = (&'g str, PackageMetadata<'g>);
+
+    ghost next_gives = { YieldsFirstBy name_and_member_seen by_name_left };
+
+    ghost remaining = { item_count by_name_left };
+
+    fn next(&mut self) -> Option<(&'g str, PackageMetadata<'g>)> {
+        match self.members.next() {
+            Some(member) => {
+                let name = name_at(member.graph.graph().nodes(), member.position);
+                Some((name, member))
+            }
+            None => None,
+        }
+    }
+
+    fn size_hint(&self) -> (usize, Option<usize>) {
+        self.members.size_hint()
+    }
+}
+
+impl ExactSizeIterator for MembersByName<'_> {
+    fn len(&self) -> usize {
+        self.members.len()
+    }
+}
+
+/// The IDs of members of a workspace that are still to come. Its `len` is exact.
+#[derive(Drop)]
+pub struct MemberIds<'g> {
+    members: Members<'g>,
+}
+
+impl<'g> Iterator for MemberIds<'g> {
+    ghost use Rattle.std.specs.Iterator.{YieldsFirstRef, item_count};
+    ghost use Rattle.guppy.specs.WorkspaceIterators.{member_ids_left};
+
+    type Item = &'g PackageId;
+
+    ghost next_gives = { YieldsFirstRef member_ids_left };
+
+    ghost remaining = { item_count member_ids_left };
+
+    fn next(&mut self) -> Option<&'g PackageId> {
+        match self.members.next() {
+            Some(member) => Some(member.id()),
+            None => None,
+        }
+    }
+
+    fn size_hint(&self) -> (usize, Option<usize>) {
+        self.members.size_hint()
+    }
+}
+
+impl ExactSizeIterator for MemberIds<'_> {
+    fn len(&self) -> usize {
+        self.members.len()
+    }
+}
