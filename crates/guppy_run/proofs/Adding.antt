@@ -1,11 +1,10 @@
 -- What the records of some lines become with one line more.
-use Rattle.std.proofs.Common.{◌≡◌, ℕ, ◌+◌, Bool, true, false, List, [], ◌∷◌, ◌++◌, take, drop, length, if◌then◌else◌, refl, sym, ◌∙◌, ap, arith, Some, None, append-nil, add-one}
+use Rattle.std.proofs.Common.{◌≡◌, ℕ, ◌+◌, Bool, true, false, List, [], ◌∷◌, ◌++◌, take, drop, length, if◌then◌else◌, refl, ◌∙◌, ap, arith, Some, None, append-nil, add-one}
 use Rattle.std.specs.Prelude.{Option}
-use Rattle.std.specs.List.{AllPass, filter_map, cons_option}
+use Rattle.std.specs.List.{AllPass, AllZip, filter_map, cons_option}
 use Rattle.std.specs.Option.{option_to_list}
 use Rattle.std.specs.Str.{is_utf8}
 use Rattle.std.specs.Str.Lines.{lines}
-use Rattle.std.proofs.lemmas.List.{map-append}
 use Rattle.std.proofs.lemmas.List.Elements.{filter_map-append, All-push, All-nil}
 use Rattle.guppy_data.specs.declared.records.PackageRecord.{PackageRecord}
 use Rattle.guppy_data.specs.declared.records.LinkRecord.{LinkRecord}
@@ -15,22 +14,31 @@ use Rattle.guppy_run.specs.declared.fault.RunFault.{RunFault}
 use Rattle.guppy_run.specs.declared.fault.RunFault.TheVariants.{Library, BadArguments, BadLine, InputFailed, OutputFailed}
 use Rattle.guppy_run.specs.declared.records.Records.{Records}
 use Rattle.guppy_run.specs.Text.{Entry, a_package, a_link, entry_of, is_good, words}
-use Rattle.guppy_run.specs.Records.{AreRecordsOf, package_of, link_of}
+use Rattle.guppy_run.specs.Records.{AreRecordsOf, IsPackageOf, IsLinkOf, package_of, link_of}
 use Rattle.guppy_run.specs.Reading.{AddsEntries, IsLineFault, IsReadingFault}
 use Rattle.guppy_run.proofs.Lines.{slice_get-drop, take-one_more, drop-one_more}
 
-pub package_added : (packages : List PackageRecord) (links : List LinkRecord) (workspace : WorkspaceRecord) (id : List ℕ) (package' : PackageRecord) → package'.id ≡ id
+all_zip_push : {A B : Type 0} (R : A → B → Type 0) (xs : List A) (ys : List B) (x : A) (y : B) → AllZip R xs ys → R x y → AllZip R (xs ++ x ∷ []) (ys ++ y ∷ [])
+all_zip_push R [] [] x y tied tie = (tie, tt)
+all_zip_push R [] (b ∷ bs) x y tied tie = absurd tied
+all_zip_push R (a ∷ as') [] x y tied tie = absurd tied
+all_zip_push R (a ∷ as') (b ∷ bs) x y tied tie = (tied.0, all_zip_push R as' bs x y tied.1 tie)
+
+pub package_added : (packages : List PackageRecord) (links : List LinkRecord) (workspace : WorkspaceRecord) (id : List ℕ) (package' : PackageRecord) → IsPackageOf id package'
     → (entries : List Entry) → AreRecordsOf entries packages links workspace → AreRecordsOf (entries ++ a_package id ∷ []) (packages ++ package' ∷ []) links workspace
 package_added packages links workspace id p is entries were = record {
-  ids = map-append (λ r. r.id) packages (p ∷ []) ∙ rw (were.ids, is) (sym (filter_map-append package_of entries (a_package id ∷ [])));
-  ends = were.ends ∙ sym (filter_map-append link_of entries (a_package id ∷ []) ∙ append-nil _);
+  packages_are = rw (filter_map-append package_of entries (a_package id ∷ [])) (all_zip_push IsPackageOf (filter_map package_of entries) packages id p were.packages_are is);
+  links_are = rw (filter_map-append link_of entries (a_package id ∷ []), append-nil (filter_map link_of entries)) were.links_are;
+  workspace_is = were.workspace_is;
 }
 
-pub link_added : (packages : List PackageRecord) (links : List LinkRecord) (workspace : WorkspaceRecord) (from to : List ℕ) (section : DependencyKind) (link : LinkRecord) → link.from ≡ from → link.to ≡ to
+pub link_added : (packages : List PackageRecord) (links : List LinkRecord) (workspace : WorkspaceRecord) (from to : List ℕ) (section : DependencyKind) (link : LinkRecord)
+    → IsLinkOf (record { from = from; to = to; section = section }) link
     → (entries : List Entry) → AreRecordsOf entries packages links workspace → AreRecordsOf (entries ++ a_link from to section ∷ []) packages (links ++ link ∷ []) workspace
-link_added packages links workspace from to section l is_from is_to entries were = record {
-  ids = were.ids ∙ sym (filter_map-append package_of entries (a_link from to section ∷ []) ∙ append-nil _);
-  ends = map-append (λ r. (r.from, r.to)) links (l ∷ []) ∙ rw (were.ends, is_from, is_to) (sym (filter_map-append link_of entries (a_link from to section ∷ [])));
+link_added packages links workspace from to section l is entries were = record {
+  packages_are = rw (filter_map-append package_of entries (a_link from to section ∷ []), append-nil (filter_map package_of entries)) were.packages_are;
+  links_are = rw (filter_map-append link_of entries (a_link from to section ∷ [])) (all_zip_push IsLinkOf (filter_map link_of entries) links (record { from = from; to = to; section = section }) l were.links_are is);
+  workspace_is = were.workspace_is;
 }
 
 filter_map-one : (entry : Option Entry) → cons_option entry [] ≡ option_to_list entry

@@ -11,13 +11,13 @@ use Rattle.std.proofs.Math.ListN.{get_or-map}
 use Rattle.std.proofs.lemmas.List.{length-map, take-append-drop}
 use Rattle.std.proofs.lemmas.Iterator.{YieldsList}
 use Rattle.std.proofs.lemmas.Iterator.Consumers.{YieldsList-so_far, YieldsList-end}
-use Rattle.guppy_core.specs.declared.ix.direction.DependencyDirection.TheVariants.{Forward}
+use Rattle.guppy_core.specs.declared.ix.direction.DependencyDirection.{DependencyDirection}
 use Rattle.guppy_core.specs.IxSet.{IsIn}
 use Rattle.guppy_core.specs.Reach.{LinkStep, ReachedFrom}
 use Rattle.guppy_data.specs.declared.texts.error.Error.{Error}
 use Rattle.guppy_data.specs.declared.records.PackageRecord.{PackageRecord}
 use Rattle.guppy_data.specs.Sorted.{KeepsUpTo}
-use Rattle.guppy.specs.Ids.{HasId}
+use Rattle.guppy.specs.Ids.{HasId, IsKnown}
 use Rattle.guppy.specs.Graph.{GraphData}
 use Rattle.guppy.specs.Query.{IsNamedSet, IncludesId, SetData}
 use Rattle.guppy.specs.Refused.{NamesId, IsFirstUnknown}
@@ -36,14 +36,14 @@ module _ {S : Type 0} (steps : S → Option (Bor (List ℕ)) → S → Type 0) (
   first_unknown-given packages e names =
       NamesId-along (λ id. (named : List (Bor (List ℕ))) × (rest : S) × Yields steps s named rest × IsFirstUnknown packages (map (λ r. r.now) named) id) (IsFirstUnknown packages ids) e
       (λ id n. subst (λ l. IsFirstUnknown packages l id) (take-append-drop (length n.0) ids)
-      (first_unknown-behind packages (take (length n.0) ids) (drop (length n.0) ids) id
+      (first_unknown-behind (IsKnown packages) (take (length n.0) ids) (drop (length n.0) ids) id
       (subst (λ l. IsFirstUnknown packages l id) (YieldsList-so_far road n.0 n.1 n.2) n.3))) names
 
 -- what is reached from the named packages
-pub included_is_reached : (set : SetData) (g : GraphData) (ids : List (List ℕ)) (initials : List Bool) → IsNamedSet g.packages ids initials → set.graph ≡ g
-    → ((p : ℕ) → IsIn set.included p ↔ ReachedFrom (LinkStep Forward g.links) (IsIn initials) p)
-    → (id : List ℕ) → IncludesId set id ↔ IsReached Forward g ids id
-included_is_reached set g ids initials named same reaches id = (
+pub included_is_reached : (direction : DependencyDirection) (set : SetData) (g : GraphData) (ids : List (List ℕ)) (initials : List Bool) → IsNamedSet g.packages ids initials → set.graph ≡ g
+    → ((p : ℕ) → IsIn set.included p ↔ ReachedFrom (LinkStep direction g.links) (IsIn initials) p)
+    → (id : List ℕ) → IncludesId set id ↔ IsReached direction g ids id
+included_is_reached direction set g ids initials named same reaches id = (
   λ h. let from = (reaches h.0).0 h.2 in (h.0, subst (λ v. HasId v.packages id h.0) same h.1, (from.0, (named.members from.0).0 from.1, from.2)),
   λ h. let from = h.2 in (h.0, subst (λ v. HasId v.packages id h.0) (sym same) h.1, (reaches h.0).1 (from.0, (named.members from.0).1 from.1, from.2)),
 )

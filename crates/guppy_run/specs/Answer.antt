@@ -5,13 +5,12 @@ use Rattle.std.specs.List.Sorted.{IsStrictlySortedBy}
 use Rattle.std.specs.Ordering.{nat_cmp}
 use Rattle.std.specs.Cmp.Lexicographic.{slice_cmp}
 use Rattle.guppy_core.specs.declared.ix.direction.DependencyDirection.{DependencyDirection}
-use Rattle.guppy_core.specs.declared.ix.direction.DependencyDirection.TheVariants.{Forward}
 use Rattle.guppy_core.specs.Reach.{LinkStep, ReachedFrom}
 use Rattle.guppy.specs.Ids.{HasId, IsKnown}
 use Rattle.guppy.specs.Graph.{GraphData}
 use Rattle.guppy.specs.Depends.{DependsOn}
 use Rattle.guppy.specs.Refused.{IsFirstUnknown}
-use Rattle.guppy_run.specs.Command.{Command, reach_forward, depends}
+use Rattle.guppy_run.specs.Command.{Command, reach, depends}
 
 abbrev pub line_of : List ℕ → List ℕ
 line_of text = text ++ 10 ∷ []
@@ -28,7 +27,7 @@ IsAscending = IsStrictlySortedBy (slice_cmp nat_cmp)
 abbrev pub IsNamed : GraphData → List (List ℕ) → ℕ → Type 0
 IsNamed g ids p = (id : List ℕ) × Contains ids id × HasId g.packages id p
 
--- the ID is that of a package to which links lead from those named, or of one of these
+-- the ID is that of a package to which links lead in the direction from those named, or of one of these
 abbrev pub IsReached : DependencyDirection → GraphData → List (List ℕ) → List ℕ → Type 0
 IsReached direction g ids id = (p : ℕ) × HasId g.packages id p × ReachedFrom (LinkStep direction g.links) (IsNamed g ids) p
 
@@ -53,12 +52,12 @@ pub record IsDependsAnswer (g : GraphData) (from to : List ℕ) (output : List �
 
 -- the output is an answer to the command
 abbrev pub IsAnswer : Command → GraphData → List ℕ → Type 0
-IsAnswer (reach_forward ids) g output = IsReachAnswer Forward g ids output
+IsAnswer (reach direction ids) g output = IsReachAnswer direction g ids output
 IsAnswer (depends from to) g output = IsDependsAnswer g from to output
 
 -- the IDs that a command names, in their order
 abbrev pub ids_named : Command → List (List ℕ)
-ids_named (reach_forward ids) = ids
+ids_named (reach direction ids) = ids
 ids_named (depends from to) = from ∷ to ∷ []
 
 -- the ID is the first of the command that is no package's

@@ -1,15 +1,21 @@
 -- What the arguments ask.
-use Rattle.std.specs.Prelude.{ℕ, List, [], ◌∷◌, Option, Some, None, codes, if◌then◌else◌}
+use Rattle.std.specs.Prelude.{ℕ, List, [], ◌∷◌, Option, Some, None, option_map, codes, if◌then◌else◌}
 use Rattle.std.specs.Str.{bytes_eq}
+use Rattle.guppy_core.specs.declared.ix.direction.DependencyDirection.{DependencyDirection}
+use Rattle.guppy_core.specs.declared.ix.direction.DependencyDirection.TheVariants.{Forward, Reverse}
 
--- the packages that these reach Forward, or whether the first depends on the second
+-- the packages that these reach in a direction, or whether the first depends on the second
 pub data Command : Type 0 where
-  reach_forward : List (List ℕ) → Command
+  reach : DependencyDirection → List (List ℕ) → Command
   depends : List ℕ → List ℕ → Command
 
--- `forward ID..`, with one ID or more
+-- `forward` or `reverse`
+abbrev pub direction_of : List ℕ → Option DependencyDirection
+direction_of word = if bytes_eq word (codes "forward") then Some Forward else (if bytes_eq word (codes "reverse") then Some Reverse else None)
+
+-- `forward ID..` or `reverse ID..`, with one ID or more
 abbrev pub reach_of : List (List ℕ) → Option Command
-reach_of (direction ∷ id ∷ ids) = if bytes_eq direction (codes "forward") then Some (reach_forward (id ∷ ids)) else None
+reach_of (word ∷ id ∷ ids) = option_map (λ direction. reach direction (id ∷ ids)) (direction_of word)
 reach_of _ = None
 
 -- `A B`

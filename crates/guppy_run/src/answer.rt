@@ -1,6 +1,5 @@
 //! What a command prints of a package graph.
 ghost use Rattle.std.specs.Prelude.{◌≡◌, ◌↔◌, ℕ, List, map, string_bytes, IfOk, IfErr, IsOkUnless, OnOk, All, Contains, [], ◌∷◌};
-ghost use Rattle.guppy_core.specs.declared.ix.direction.DependencyDirection.TheVariants.{Forward};
 ghost use Rattle.guppy.specs.Ids.{IsKnown};
 ghost use Rattle.guppy.specs.Query.{IncludesId};
 ghost use Rattle.guppy.specs.Refused.{NamesId, IsFirstUnknown};
@@ -10,6 +9,7 @@ ghost use Rattle.guppy_run.specs.Shown.{command_shown};
 use crate::command::Command;
 use crate::records::id_of;
 use guppy::{PackageGraph, PackageSet};
+use guppy_core::DependencyDirection;
 use guppy_data::{Error, PackageId, SortedSet};
 use std::alloc::{AllocError, Global};
 
@@ -54,22 +54,31 @@ fn lines_of(alloc: Global, ids: &[&PackageId]) -> Result<String, AllocError>
     Ok(text)
 }
 
-// The packages that those with these IDs reach Forward.
-fn reached<'g>(graph: &'g PackageGraph, ids: &[PackageId]) -> Result<PackageSet<'g>, Error>
+// The packages that those with these IDs reach in the direction.
+fn reached<'g>(
+    graph: &'g PackageGraph,
+    direction: DependencyDirection,
+    ids: &[PackageId],
+) -> Result<PackageSet<'g>, Error>
     ensures graph { IfOk result (λ set. set.graph ≡ graph.now) }
     ensures known { OnOk result (All (IsKnown graph.now.packages) ids.now) }
-    ensures exact { IfOk result (λ set. (id : List ℕ) → IncludesId set id ↔ IsReached Forward graph.now ids.now id) }
+    ensures exact { IfOk result (λ set. (id : List ℕ) → IncludesId set id ↔ IsReached direction graph.now ids.now id) }
     ensures err { IfErr result (NamesId (IsFirstUnknown graph.now.packages ids.now)) }
 {
-    graph.query_forward(ids.iter())?.resolve()
+    graph.query_directed(ids.iter(), direction)?.resolve()
 }
 
-fn reach_forward(alloc: Global, graph: &PackageGraph, words: &[String]) -> Result<String, Error>
-    ensures ok { IfOk result (λ text. IsReachAnswer Forward graph.now (map string_bytes words.now) (string_bytes text)) }
+fn reach(
+    alloc: Global,
+    graph: &PackageGraph,
+    direction: DependencyDirection,
+    words: &[String],
+) -> Result<String, Error>
+    ensures ok { IfOk result (λ text. IsReachAnswer direction graph.now (map string_bytes words.now) (string_bytes text)) }
     ensures err { IfErr result (NamesId (IsFirstUnknown graph.now.packages (map string_bytes words.now))) }
 {
     let ids = ids_of(alloc, words)?;
-    let set = reached(graph, &ids)?;
+    let set = reached(graph, direction, &ids)?;
     let included = SortedSet::new(included_ids(alloc, graph, &set)?);
     Ok(lines_of(alloc, included.as_slice())?)
 }
@@ -99,7 +108,7 @@ pub fn answer(alloc: Global, graph: &PackageGraph, command: &Command<'_>) -> Res
     ensures err { IfErr result (NamesId (IsFirstUnknownNamed (command_shown command.now) graph.now)) }
 {
     match command {
-        Command::ReachForward(ids) => reach_forward(alloc, graph, ids),
+        Command::Reach(direction, ids) => reach(alloc, graph, *direction, ids),
         Command::Depends(from, to) => depends(alloc, graph, from, to),
     }
 }

@@ -68,7 +68,7 @@ pub fn records_of(alloc: Global, text: &[u8]) -> Result<Records, RunFault>
     ensures ok { IfOk result (λ r. AreRecordsOf (entries_of text.now) r.packages.items r.links.items r.workspace) }
     ensures err { IfErr result (IsReadingFault text.now) }
 {
-    let mut records = Records::new(alloc);
+    let mut records = Records::new(alloc)?;
     let mut rest = text;
     let mut passed = 0;
     while let Some((line, after)) = next_line(rest) {

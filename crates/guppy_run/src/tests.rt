@@ -255,8 +255,10 @@ fn repeated_arguments(rt: HostRuntime) -> Result<(), Fail> {
 #[test]
 fn command_to_come(rt: HostRuntime) -> Result<(), Fail> {
     let input = FIRST.as_bytes();
+    assert_prints(&rt, rt.alloc(), "reach reverse b", input, "a\nb\n")?;
     for line in [
-        "reach reverse a",
+        "reach backward b",
+        "reach reverse",
         "reach forward",
         "depends a b c",
         "order",
@@ -275,6 +277,19 @@ fn first_fault_first(rt: HostRuntime) -> Result<(), Fail> {
         "depends a a",
         b"package a\npackage a\nlink a z normal\n".as_slice(),
         "error: failed to construct package graph: repeated package ID at package 1",
+        1,
+    )?;
+    Ok(())
+}
+
+#[test]
+fn program_repeated_path(rt: HostRuntime) -> Result<(), Fail> {
+    assert_refuses(
+        &rt,
+        rt.alloc(),
+        "depends a a",
+        b"package a\npackage a/\n".as_slice(),
+        "error: failed to construct package graph: repeated workspace path at package 1",
         1,
     )?;
     Ok(())

@@ -4,11 +4,11 @@ use Rattle.guppy_run.proofs.Adding.{has_passed_none, has_passed_more, entries_pa
 use Rattle.guppy_run.proofs.input.records_of.Goals as goal
 
 pub loop-line-init : goal.loop-line-init
-loop-line-init c = record { count = search rules; lines_are = has_passed_none _; records_are = c.new-records.ensures }
+loop-line-init c = record { count = search rules; lines_are = has_passed_none _; records_are = c.in_ok-records.ensures }
 
 pub returns-in_err-add_line-clause-err : goal.returns-in_err-add_line-clause-err
 returns-in_err-add_line-clause-err c =
-    let passed_on = err_from_is_err_and c.from_residual.result c.from_residual.ensures.1 in
+    let passed_on = err_from_is_err_and c.from_residual-in_err-add_line.result c.from_residual-in_err-add_line.ensures.1 in
     rw (passed_on.1, passed_on.2) (bad_line _ _ _ c.in-Some.after.now _ _ c.loop-line.invariant.lines_are c.in-Some.ensures.0 c.in_err-add_line.ensures.err)
 
 pub loop-line-preserved : goal.loop-line-preserved

@@ -23,3 +23,13 @@ returns-clause-begun g c failed =
     begun _ _ _ c.in_ok-input.input.items _ _ c.in_ok-input.ensures.bytes c.in_ok-input.ensures.end (sym c.in-Some.ensures)
     (rw c.as_slice.ensures.value at c.in_ok-graph.ensures.ok) (Appends (g.W.Sink.written c.args.writer.now) (g.W.Sink.written c.write_all.new.writer))
     (string_bytes c.in_ok-text.text) front.0 front.1 c.in_ok-text.ensures.ok (sym c.as_bytes.ensures.value ∙ front.2) front.3
+
+pub returns-in_err-text-clause-input_failed : goal.returns-in_err-text-clause-input_failed
+returns-in_err-text-clause-input_failed g c =
+    let passed_on = err_from_is_err_and c.from_residual-in_err-text.result c.from_residual-in_err-text.ensures.1 in
+    rw (passed_on.1, passed_on.2) c.in_ok-input.ensures.failed
+
+pub returns-in_err-text-clause-output_failed : goal.returns-in_err-text-clause-output_failed
+returns-in_err-text-clause-output_failed g c =
+    let passed_on = err_from_is_err_and c.from_residual-in_err-text.result c.from_residual-in_err-text.ensures.1 in
+    rw (passed_on.1, passed_on.2) c.requires.output_works

@@ -3,7 +3,7 @@ use Rattle.std.specs.Ordering.{nat_cmp}
 use Rattle.std.specs.Cmp.Lexicographic.{slice_cmp}
 use Rattle.std.proofs.lemmas.Slice.Eq.{bytes_eq-Decides}
 use Rattle.guppy_run.proofs.Reached.{kept_ids, iff_trans, IsStrictlySortedBy-map}
-use Rattle.guppy_run.proofs.answer.reach_forward.Goals as goal
+use Rattle.guppy_run.proofs.answer.reach.Goals as goal
 
 pub returns-clause-ok : goal.returns-clause-ok
 returns-clause-ok c =
