@@ -1,6 +1,8 @@
 pub mod Lists
 pub mod Members
 pub mod Marks
+pub mod SetBits
+pub mod Combining
 pub mod Positions
 pub mod Along
 pub mod Numbers
@@ -9,8 +11,13 @@ pub mod Walks
 pub mod Finding
 pub mod Repeats
 pub mod Searching
+pub mod Following
+pub mod Buffering
 pub mod Reached
 pub mod Traces
+pub mod Walking
+pub mod Ends
+pub mod Whole
 pub mod Inserted
 pub mod Places
 pub mod Costs
@@ -32,3 +39,4 @@ pub mod Blocks
 pub mod Grouping
 pub mod Parts
 pub mod Acyclic
+pub mod Rooting

@@ -1,10 +1,11 @@
 -- Lists of positions: reversed, joined, put into a set, missing from one, and inverse.
-use Rattle.std.proofs.Common.{◌≡◌, ◌⊎◌, ◌↔◌, ℕ, suc, zero, ◌+◌, ◌-◌, ◌<◌, ◌≤◌, Bool, true, false, List, [], ◌∷◌, ◌++◌, length, get_or, reverse, sym, ap, ◌∙◌, subst, arith, inl, inr, ⊎_elim, Some}
+use Rattle.std.proofs.Common.{◌≡◌, ◌⊎◌, ◌↔◌, ℕ, suc, zero, ◌+◌, ◌-◌, ◌<◌, ◌≤◌, Bool, true, false, List, [], ◌∷◌, ◌++◌, length, get_or, map, reverse, sym, ap, ◌∙◌, subst, arith, inl, inr, ⊎_elim, Some}
 use Rattle.std.specs.Prelude.{slice_get, All, Contains}
+use Rattle.std.specs.Option.{option_map}
 use Rattle.std.proofs.Math.ListN.{set, length-set}
 use Rattle.std.proofs.lemmas.Bool.{cases_lt}
 use Rattle.std.proofs.lemmas.List.{get_or-set_same, get_or-reverse, length-reverse, reverse-reverse}
-use Rattle.std.proofs.lemmas.Option.{slice_get_within, slice_get-get_or, get_or_from_slice_get}
+use Rattle.std.proofs.lemmas.Option.{slice_get_within, slice_get-get_or, slice_get-map, get_or_from_slice_get}
 use Rattle.guppy_core.specs.IxSet.{has}
 use Rattle.guppy_core.proofs.Inserted.{has-set_kept, has-set_cases}
 use Rattle.guppy_core.proofs.Places.{at_cases, stands_left, stands_last, stands_cases}
@@ -50,6 +51,10 @@ joined_left (z ∷ xs) ys (suc i) x h = joined_left xs ys i x h
 pub joined_right : (xs ys : List ℕ) (x : ℕ) → Stands ys x → Stands (xs ++ ys) x
 joined_right [] ys x s = s
 joined_right (z ∷ xs) ys x s = let r = joined_right xs ys x s in (suc r.0, r.1)
+
+-- what holds of each number that stands in the list of what f reads
+pub all_standing : {X : Type 0} (f : X → ℕ) (P : ℕ → Type 0) (xs : List X) → ((p : ℕ) → Stands (map f xs) p → P p) → All (λ x. P (f x)) xs
+all_standing f P xs each k d within = each _ (k, slice_get-map f xs k ∙ ap (option_map f) (slice_get-get_or xs k d within))
 
 -- the set of the first i of a list
 pub record IsSetOf (list : List ℕ) (limit i : ℕ) (s : List Bool) : Type 0 where

@@ -2,6 +2,7 @@
 use Rattle.std.proofs.Common.{◌≡◌, ◌⊎◌, ℕ, zero, suc, ◌+◌, ◌<◌, List, [], ◌∷◌, ◌++◌, length, get_or, drop, inl, inr, refl, sym, ap, subst, ◌∙◌, append_assoc, arith, drop-cons, add-one}
 use Rattle.std.specs.Prelude.{Contains}
 use Rattle.std.proofs.lemmas.List.{append-nil}
+use Rattle.std.proofs.lemmas.List.Elements.{Contains-append_right}
 use Rattle.guppy_core.specs.Resolve.{EachAfter}
 
 pub nothing_in : {X : Type 0} (x : X) → Contains [] x → ⊥
@@ -46,6 +47,24 @@ EachAfter-push {X} P (z ∷ xs) x h p (b ∷ before) y after e =
 pub EachAfter-pop : {X : Type 0} (P : List X → X → Type 0) (xs : List X) (x : X) → EachAfter P (xs ++ x ∷ []) → EachAfter P xs × P xs x
 EachAfter-pop P xs x h =
     (λ before y after e. h before y (after ++ x ∷ []) (ap (λ l. l ++ x ∷ []) e ∙ append_assoc before (y ∷ after) (x ∷ [])), h xs x [] refl)
+
+pub EachAfter-cons : {X : Type 0} (P : List X → X → Type 0) (x : X) (xs : List X) → P [] x → EachAfter (λ before y. P (x ∷ before) y) xs → EachAfter P (x ∷ xs)
+EachAfter-cons {X} P x xs p h [] y after e = let q : x ≡ y = cc in subst (λ (v : X). P [] v) q p
+EachAfter-cons {X} P x xs p h (b ∷ before) y after e =
+    let q : x ≡ b = cc in
+    let r : xs ≡ before ++ y ∷ after = cc in
+    subst (λ (v : X). P (v ∷ before) y) q (h before y after r)
+
+pub EachAfter-append : {X : Type 0} (P : List X → X → Type 0) (xs ys : List X) → EachAfter P xs → EachAfter (λ before y. P (xs ++ before) y) ys → EachAfter P (xs ++ ys)
+EachAfter-append P [] ys h k = k
+EachAfter-append P (x ∷ xs) ys h k =
+    EachAfter-cons P x (xs ++ ys) (h [] x xs refl)
+    (EachAfter-append (λ before y. P (x ∷ before) y) xs ys (λ before y after e. h (x ∷ before) y after (ap (λ l. x ∷ l) e)) k)
+
+-- each element there is one of the list
+pub EachAfter-with : {X : Type 0} (P Q : List X → X → Type 0) (xs : List X) → EachAfter P xs → ((before : List X) (x : X) → Contains xs x → P before x → Q before x) → EachAfter Q xs
+EachAfter-with P Q xs h more before x after e =
+    more before x (rw e (Contains-append_right before (x ∷ after) x (Contains-first x after))) (h before x after e)
 
 -- from each beginning to the next, up to the whole list
 module _ {X : Type 0} (P : List X → X → Type 0) (Q : List X → Type 0) (more : (before : List X) (x : X) → P before x → Q before → Q (before ++ x ∷ [])) where

@@ -1,5 +1,5 @@
 -- The words of a set, read and written.
-use Rattle.std.proofs.Common.{◌≡◌, ℕ, suc, zero, ◌*◌, ◌/◌, ◌%◌, ◌^◌, ◌<◌, ◌≤◌, Bool, true, false, List, length, get_or, replicate, refl, sym, ap, ◌∙◌, arith, ⊎_elim, subst, eqb, w64}
+use Rattle.std.proofs.Common.{◌≡◌, ℕ, suc, zero, ◌+◌, ◌*◌, ◌/◌, ◌%◌, ◌^◌, ◌<◌, ◌≤◌, Bool, true, false, List, length, get_or, replicate, refl, sym, ap, ◌∙◌, arith, ⊎_elim, subst, eqb, w64}
 use Rattle.std.specs.Prelude.{slice_index, bit_or, bit_and, ◌≢◌}
 use Rattle.std.proofs.Math.ListN.{set, length-set, length-replicate}
 use Rattle.std.proofs.lemmas.List.{get_or-set_same, get_or-set_other, get_or_default}
@@ -50,6 +50,10 @@ module _ (words : List ℕ) (p : ℕ) (within : p / 64 < length words) where
       get_or-set_other (marks_of words count) p k true false e ∙ has-marks_of words count k h ∙ sym (marked_other k e))
       (cases_eq k p)))
 
+  -- the bits from the count on stay clear
+  pub clear-set : (count : ℕ) → p < count → ((k : ℕ) → count ≤ k → is_marked words k ≡ false) → (k : ℕ) → count ≤ k → is_marked after k ≡ false
+  clear-set count below clear k h = marked_other k (λ e. omega arith) ∙ clear k h
+
 get_or-zeros : (m i : ℕ) → get_or {A = ℕ} (replicate m 0) i 0 ≡ 0
 get_or-zeros zero i = refl
 get_or-zeros (suc m) zero = refl
@@ -59,10 +63,13 @@ pub marks_of-zeros : (m count : ℕ) → marks_of (replicate m 0) count ≡ repl
 marks_of-zeros m count = sym (fill_by_all (is_marked (replicate m 0)) (replicate count false) count false (length-replicate count false) (λ k h.
     has-replicate count k ∙ sym (rw (get_or-zeros m (k / 64), bit_at-zero (k % 64)) refl)))
 
+pub zeros_clear : (m k : ℕ) → is_marked (replicate m 0) k ≡ false
+zeros_clear m k = rw (get_or-zeros m (k / 64), bit_at-zero (k % 64)) refl
+
 pub below_count : (words : List ℕ) (count p : ℕ) (view : List Bool) → marks_of words count ≡ view → p < length view → p < count
 below_count words count p view is h = let e = ap length is in let l = length-marks_of words count in omega arith
 
-pub word_within : (words : List ℕ) (count p : ℕ) → p < count → count ≤ 64 * length words → p / 64 < length words
+pub word_within : (words : List ℕ) (count p : ℕ) → p < count → length words ≡ count / 64 + 1 → p / 64 < length words
 word_within words count p h k = omega arith
 
 pub has-view : (words : List ℕ) (count p : ℕ) (view : List Bool) → marks_of words count ≡ view → p < count → is_marked words p ≡ has view p
@@ -79,3 +86,8 @@ pub marks_of-write : (words : List ℕ) (count p w : ℕ) → p < count → p / 
 marks_of-write words count p w below within is =
     let e : w ≡ get_or words (p / 64) 0 = is ∙ get_or_default words (p / 64) w 0 within in
     subst (λ (v : ℕ). marks_of (set words (p / 64) (bit_or v (1 * 2 ^ (p % 64) % 18446744073709551616))) count ≡ set (marks_of words count) p true) (sym e) (marks_of-set words p within count below)
+
+pub clear-write : (words : List ℕ) (count p w : ℕ) → p < count → p / 64 < length words → w ≡ get_or words (p / 64) w → ((k : ℕ) → count ≤ k → is_marked words k ≡ false) → (k : ℕ) → count ≤ k → is_marked (set words (p / 64) (bit_or w (1 * 2 ^ (p % 64) % 18446744073709551616))) k ≡ false
+clear-write words count p w below within is clear k h =
+    let e : w ≡ get_or words (p / 64) 0 = is ∙ get_or_default words (p / 64) w 0 within in
+    subst (λ (v : ℕ). is_marked (set words (p / 64) (bit_or v (1 * 2 ^ (p % 64) % 18446744073709551616))) k ≡ false) (sym e) (clear-set words p within count below clear k h)

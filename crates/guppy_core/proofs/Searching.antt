@@ -93,7 +93,7 @@ module _ (initials s : List Bool) (waiting : List ℕ) (p : ℕ) (left : List �
 
 -- The links that leave a position.
 
-first_once : (n : ℕ) (ns : List ℕ) → IsAscending (n ∷ ns) → ¬ Contains ns n
+pub first_once : (n : ℕ) (ns : List ℕ) → IsAscending (n ∷ ns) → ¬ Contains ns n
 first_once n ns up h =
     let less = up 0 (suc h.0) (omega arith) (let k = h.1 in omega arith) in
     let same : get_or ns h.0 0 ≡ n = get_or_default ns h.0 0 n h.1 ∙ h.2 in
@@ -107,7 +107,7 @@ module _ {E : Type 0} (d : DependencyDirection) (links : List (Link E)) where
       (one.link, rw (← same) one.found, one.near)
 
   -- a link leaves one position
-  LeavesOne-both : (P Q : ℕ → Type 0) (n : ℕ) → LeavesOne d links P n → LeavesOne d links Q n → LeavesOne d links (λ p. P p × Q p) n
+  pub LeavesOne-both : (P Q : ℕ → Type 0) (n : ℕ) → LeavesOne d links P n → LeavesOne d links Q n → LeavesOne d links (λ p. P p × Q p) n
   LeavesOne-both P Q n h k =
       let found_h = h.1 in
       let found_k = k.1 in

@@ -1,11 +1,11 @@
 -- Traces: the states of a visitor or a filter over them, and how long they are.
 use Rattle.std.proofs.Common.{◌≡◌, ℕ, ◌<◌, ◌≤◌, Bool, true, false, inl, inr, List, [], ◌∷◌, ◌++◌, length, replicate, refl, ap, subst, ◌∙◌, length-append, arith}
-use Rattle.std.specs.List.{FoldsTo}
+use Rattle.std.specs.List.{FoldsTo, All}
 use Rattle.std.proofs.Math.ListN.{set, length-set, length-replicate}
 use Rattle.std.proofs.lemmas.Bool.{false_from_ne_true}
 use Rattle.std.proofs.lemmas.Fn.{chained_keeps}
 use Rattle.std.proofs.lemmas.Option.{slice_get_within}
-use Rattle.std.proofs.lemmas.List.Elements.{Contains-append_left, Contains-append_right, Contains-push}
+use Rattle.std.proofs.lemmas.List.Elements.{All-nil, All-push, Contains-append_left, Contains-append_right, Contains-push}
 use Rattle.guppy_core.specs.declared.ix.direction.DependencyDirection.{DependencyDirection}
 use Rattle.guppy_core.specs.declared.graph_core.link.Link.{Link}
 use Rattle.guppy_core.specs.IxSet.{has, IsIn, member_count}
@@ -18,6 +18,14 @@ pub FoldsTo-along : {S T X : Type 0} (f : S → T) (R : S → X → S → Type 0
     (step : (s : S) (e : X) (t : S) → R s e t → Q (f s) e (f t)) (trace : List X) (s t : S) → FoldsTo R s trace t → FoldsTo Q (f s) trace (f t)
 FoldsTo-along f R Q step [] s t h = ap f h
 FoldsTo-along f R Q step (e ∷ es) s t h = (f h.0, step s e h.0 h.1, FoldsTo-along f R Q step es h.0 t h.2)
+
+-- where the states all have I, what steps say of their answers holds of each
+pub each_answer : {S X : Type 0} (R : S → X → S → Type 0) (P : X → Type 0) (I : S → Type 0)
+    (step : (s : S) (e : X) (t : S) → I s → R s e t → P e × I t) (trace : List X) (s t : S) → I s → FoldsTo R s trace t → All P trace
+each_answer {S} {X} R P I step trace s t i h =
+    (chained_keeps R (λ es q. All P es × I q)
+    (λ es q e v j k. let r = step q e v j.1 k in (All-push P es e j.0 r.0, r.1))
+    trace s t (All-nil P, i) h).0
 
 -- A filter that may be called with each number below the count.
 module _ {F : Type 0} (may_call : F → ℕ → Type 0) (calls : F → ℕ → Bool → F → Type 0) (count : ℕ) (f : F) (callable : IsCallableBelow may_call calls count f) (n : ℕ) (below : n < count) where

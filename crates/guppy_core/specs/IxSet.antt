@@ -21,6 +21,18 @@ IsSubset s t = (p : ℕ) → IsIn s p → IsIn t p
 abbrev pub IsUnion : List Bool → List Bool → List Bool → Type 0
 IsUnion s t both = (p : ℕ) → IsIn both p ↔ (IsIn s p ⊎ IsIn t p)
 
+-- the positions of the set are those in both
+abbrev pub IsIntersection : List Bool → List Bool → List Bool → Type 0
+IsIntersection s t common = (p : ℕ) → IsIn common p ↔ (IsIn s p × IsIn t p)
+
+-- the positions of the set are those of the first that are not in the second
+abbrev pub IsDifference : List Bool → List Bool → List Bool → Type 0
+IsDifference s t rest = (p : ℕ) → IsIn rest p ↔ (IsIn s p × (¬ IsIn t p))
+
+-- the positions of the set are those in one of the two and not in the other
+abbrev pub IsSymmetricDifference : List Bool → List Bool → List Bool → Type 0
+IsSymmetricDifference s t either = (p : ℕ) → IsIn either p ↔ ((IsIn s p × (¬ IsIn t p)) ⊎ (IsIn t p × (¬ IsIn s p)))
+
 -- how many positions are in the set
 abbrev pub member_count : List Bool → ℕ
 member_count [] = 0
@@ -50,9 +62,10 @@ is_marked words p = bit_at (slice_index words (p / 64)) (p % 64) == 1
 abbrev pub marks_of : List ℕ → ℕ → List Bool
 marks_of words count = map (is_marked words) (range_with_len 0 count)
 
--- the words have a bit for each position, len counts the bits that are set, and the positions in the set fit an index
+-- the words have a bit for each position and no other bit is set, len counts the bits that are set, and the positions in the set fit an index
 pub record IsBitSet (words : List ℕ) (count len : ℕ) : Type 0 where
-  pub room : count ≤ 64 * length words
+  pub room : length words ≡ count / 64 + 1
   pub small : count < 2 ^ 64
   pub counted : len ≡ member_count (marks_of words count)
   pub fit : (p : ℕ) → IsIn (marks_of words count) p → p < 2 ^ 32
+  pub clear : (p : ℕ) → count ≤ p → is_marked words p ≡ false

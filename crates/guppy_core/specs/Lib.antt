@@ -6,6 +6,8 @@ pub mod Fault
 pub mod Stored
 pub mod Reach
 pub mod Resolve
+pub mod Walked
+pub mod Buffered
 pub mod Counted
 pub mod Listing
 pub mod Finish
@@ -17,3 +19,4 @@ pub mod Components
 pub mod Held
 pub mod Sccs
 pub mod Order
+pub mod Roots

@@ -1,6 +1,6 @@
 -- What a resolve shows to a visitor, and which positions it includes.
-use Rattle.std.specs.Prelude.{◌≡◌, ◌⊎◌, ◌↔◌, ℕ, ◌<◌, Bool, true, List, ◌∷◌, ◌++◌, Some, slice_get}
-use Rattle.std.specs.List.{Contains, FoldsTo}
+use Rattle.std.specs.Prelude.{◌≡◌, ◌⊎◌, ◌↔◌, ℕ, ◌<◌, Bool, true, List, ◌∷◌, ◌++◌, Some, slice_get, map}
+use Rattle.std.specs.List.{Contains, FoldsTo, filter}
 use Rattle.guppy_core.specs.declared.ix.direction.DependencyDirection.{DependencyDirection}
 use Rattle.guppy_core.specs.declared.graph_core.link.Link.{Link}
 use Rattle.guppy_core.specs.Links.{near_end, far_end}
@@ -39,6 +39,10 @@ pub record JudgesResolve {E : Type 0} (d : DependencyDirection) (links : List (L
 -- each answer of the trace accepts
 abbrev pub AcceptsAll : List (ℕ × Bool) → Type 0
 AcceptsAll trace = (n : ℕ) (answer : Bool) → Contains trace (n, answer) → answer ≡ true
+
+-- the links of the trace that were accepted
+abbrev pub accepted_links : List (ℕ × Bool) → List ℕ
+accepted_links trace = map (λ (entry : ℕ × Bool). entry.0) (filter (λ (entry : ℕ × Bool). entry.1) trace)
 
 -- the visitor's states over the trace: each step is one that it may take
 abbrev pub Visits : {V : Type 0} → (V → ℕ → Bool → V → Type 0) → V → List (ℕ × Bool) → V → Type 0

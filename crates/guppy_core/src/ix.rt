@@ -2,6 +2,7 @@
 mod direction;
 mod index_type;
 mod ix_set;
+mod words;
 
 pub use direction::DependencyDirection;
 pub use index_type::{GraphSpec, IndexType, PackageIx};

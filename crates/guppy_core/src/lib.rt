@@ -8,6 +8,7 @@
 //! - `dfs`: searches that show each leaving link to a visitor;
 //! - `topo`: the topological index;
 //! - `scc`: the components;
+//! - `walk`: the links inside a set, walked from starts;
 //! - `resolve_core`: the positions that a resolve included.
 #![tactic(auto)]
 
@@ -19,13 +20,16 @@ pub mod scc;
 #[cfg(test)]
 mod tests;
 pub mod topo;
+pub mod walk;
 
 pub use dfs::{
-    LinkVisitor, ReachCache, Recorder, reachable, reachable_filtered, reachable_recorded,
+    BufferedEdgeFilter, EdgeFilterFn, LinkVisitor, ReachCache, Recorder, SimpleEdgeFilterFn,
+    reachable, reachable_buffered, reachable_buffered_mut, reachable_filtered, reachable_recorded,
     reachable_with, reachable_with_fn,
 };
 pub use graph_core::{CountedGraph, Graph, GraphFault, Link};
 pub use ix::{DependencyDirection, GraphSpec, IndexType, IxOnes, IxSet, PackageIx};
-pub use resolve_core::{ResolveCore, Topo};
+pub use resolve_core::{Links, ResolveCore, Topo};
 pub use scc::{AllSccs, NodeIter, Sccs};
 pub use topo::TopoWithCycles;
+pub use walk::EdgeDfs;

@@ -1,24 +1,34 @@
 //! Sets of positions that a resolve included, over any kind of graph.
-ghost use Rattle.std.specs.Prelude.{◌≡◌, ◌↔◌, ◌==◌, ℕ, ◌<◌, Bool, true, false, List, length, map, replicate, IfOk, All, Contains};
+ghost use Rattle.std.specs.Prelude.{◌≡◌, ◌⊎◌, ◌↔◌, ◌==◌, ℕ, ◌<◌, Bool, true, false, List, length, map, replicate, IfOk, OnOk, OnErr, All, Contains};
 ghost use Rattle.std.specs.Iterator.{IsFinite, HoldsAlong, Drains};
-ghost use Rattle.guppy_core.specs.IxSet.{has, IsIn, member_count};
+ghost use Rattle.guppy_core.specs.IxSet.{has, IsIn, IsUnion, IsIntersection, IsDifference, IsSymmetricDifference, member_count};
 ghost use Rattle.std.specs.List.{concat, filter};
+ghost use Rattle.guppy_core.specs.Buffered.{Question, Answers, Asks, EndsInError, JudgesBuffered};
 ghost use Rattle.guppy_core.specs.Listing.{IsListing};
-ghost use Rattle.guppy_core.specs.Sccs.{listed};
-ghost use Rattle.guppy_core.specs.Reach.{IsPlainResolve};
+ghost use Rattle.guppy_core.specs.Sccs.{listed, AreSccs, InOneBlock};
+ghost use Rattle.guppy_core.specs.declared.ix.direction.DependencyDirection.TheVariants.{Forward};
+ghost use Rattle.guppy_core.specs.Graph.{LinkIs};
+ghost use Rattle.guppy_core.specs.Reach.{IsPlainResolve, LinkStep, MutualReach};
+ghost use Rattle.guppy_core.specs.Roots.{IsRoot, AreRoots};
+ghost use Rattle.guppy_core.specs.Walked.{AreWalked, HoldsComponents, IsLinkInside, numbers_of};
 ghost use Rattle.guppy_core.specs.Resolve.{JudgesResolve, AcceptsAll, Visits, IsCallableBelow};
 
-use crate::dfs::{reachable, reachable_filtered};
+use crate::dfs::{
+    BufferedEdgeFilter, reachable, reachable_buffered, reachable_buffered_mut, reachable_filtered,
+};
 use crate::graph_core::Graph;
 use crate::ix::{DependencyDirection, GraphSpec, IndexType, IxSet};
 use crate::scc::Sccs;
+use crate::walk::EdgeDfs;
 use std::alloc::{AllocError, Global};
 use std::marker::Model;
 
+mod links;
 #[cfg(test)]
 mod tests;
 mod topo;
 
+pub use links::Links;
 pub use topo::Topo;
 
 /// The positions that a resolve included.
@@ -66,7 +76,7 @@ impl<G: GraphSpec> ResolveCore<G> {
         let count = graph.node_count();
         let mut included = IxSet::empty(graph.alloc(), count)?;
         for position in 0..count {
-            included.insert(position);
+            included.insert_position(position);
         }
         Ok(Self::from_included(included))
     }
@@ -103,6 +113,54 @@ impl<G: GraphSpec> ResolveCore<G> {
             × Visits F.step filter trace last) }
     {
         let included = reachable_filtered(graph, initials, direction, filter)?;
+        Ok(Self::from_included(included))
+    }
+
+    /// The positions that the initial ones lead to over the links that the filter hands back, the
+    /// initial ones among them: those of [`reachable_buffered`].
+    ///
+    /// The initial ones are a set of the graph's positions, and the filter may be asked about the
+    /// graph. Time grows with the nodes, the links that leave the result, and the links handed back.
+    /// Takes memory for the set and a number a node, all of it before the first question; `AllocError`
+    /// comes where there is none, and where the filter answers it.
+    pub fn with_buffered_edge_filter<T: BufferedEdgeFilter<G> + Drop>(
+        graph: &Graph<G>,
+        initials: &IxSet<G>,
+        direction: DependencyDirection,
+        filter: T,
+    ) -> Result<Self, AllocError>
+        requires count { length initials.now ≡ length graph.now.nodes }
+        requires ready { T.can_ask graph.now filter }
+        ensures count { IfOk result (λ set. length set ≡ length graph.now.nodes) }
+        ensures judged { IfOk result (λ set. (trace : List (Question × List ℕ)) × (last : T)
+            × JudgesBuffered direction graph.now.links initials.now trace set
+            × Asks (Answers (T.discovers graph.now) (T.filters graph.now)) filter trace last) }
+    {
+        let included = reachable_buffered(graph, initials, direction, filter)?;
+        Ok(Self::from_included(included))
+    }
+
+    /// [`with_buffered_edge_filter`](ResolveCore::with_buffered_edge_filter), with a filter that is
+    /// lent: at the end it is as the questions left it. Where it answers an error, that was the last
+    /// question; where there is no memory for the search itself, it is as it was.
+    pub fn with_buffered_edge_filter_mut<T: BufferedEdgeFilter<G>>(
+        graph: &Graph<G>,
+        initials: &IxSet<G>,
+        direction: DependencyDirection,
+        filter: &mut T,
+    ) -> Result<Self, AllocError>
+        requires count { length initials.now ≡ length graph.now.nodes }
+        requires ready { T.can_ask graph.now filter.old }
+        ensures count { IfOk result (λ set. length set ≡ length graph.now.nodes) }
+        ensures judged { IfOk result (λ set. (trace : List (Question × List ℕ))
+            × JudgesBuffered direction graph.now.links initials.now trace set
+            × Asks (Answers (T.discovers graph.now) (T.filters graph.now)) filter.old trace filter.new) }
+        ensures refused { OnErr result ((filter.new ≡ filter.old)
+            ⊎ EndsInError (Answers (T.discovers graph.now) (T.filters graph.now)) direction graph.now.links initials.now filter.old filter.new) }
+        ensures ready { OnOk result (T.can_ask graph.now filter.new) }
+        ensures same_place { T.place filter.new ≡ T.place filter.old }
+    {
+        let included = reachable_buffered_mut(graph, initials, direction, filter)?;
         Ok(Self::from_included(included))
     }
 
@@ -166,12 +224,123 @@ impl<G: GraphSpec> ResolveCore<G> {
         Topo::new(&self.included, sccs, direction)
     }
 
+    /// Includes the positions of the other set too, which is of as many nodes.
+    ///
+    /// Time grows with the node count, 64 positions a step. Takes no memory.
+    pub fn union_with(&mut self, other: &Self)
+        requires { length other.now ≡ length self.old }
+        ensures count { length self.new ≡ length self.old }
+        ensures members { IsUnion self.old other.now self.new }
+    {
+        self.included.union_with(&other.included);
+    }
+
+    /// Leaves out the positions that are not in the other set, which is of as many nodes.
+    ///
+    /// Time grows with the node count, 64 positions a step. Takes no memory.
+    pub fn intersect_with(&mut self, other: &Self)
+        requires { length other.now ≡ length self.old }
+        ensures count { length self.new ≡ length self.old }
+        ensures members { IsIntersection self.old other.now self.new }
+    {
+        self.included.intersect_with(&other.included);
+    }
+
+    /// Leaves out the positions of the other set that are included, and includes its others. The
+    /// other set is of as many nodes.
+    ///
+    /// Time grows with the node count, 64 positions a step. Takes no memory.
+    pub fn symmetric_difference_with(&mut self, other: &Self)
+        requires { length other.now ≡ length self.old }
+        ensures count { length self.new ≡ length self.old }
+        ensures members { IsSymmetricDifference self.old other.now self.new }
+    {
+        self.included.symmetric_difference_with(&other.included);
+    }
+
+    /// The included positions that are not in the other set, which is of as many nodes.
+    ///
+    /// Time grows with the node count, 64 positions a step. Takes memory for a bit a node, and
+    /// fails only where there is none.
+    pub fn difference(&self, other: &Self) -> Result<Self, AllocError>
+        requires { length other.now ≡ length self.now }
+        ensures count { IfOk result (λ rest. length rest ≡ length self.now) }
+        ensures members { IfOk result (IsDifference self.now other.now) }
+    {
+        let rest = self.included.difference(&other.included)?;
+        Ok(Self::from_included(rest))
+    }
+
+    /// The roots of the set, ascending: the included positions whose component no link between two
+    /// included positions enters from another one, in the direction. All included positions of such
+    /// a component are roots, and links inside a component, self-links among them, don't matter.
+    /// The graph and the components are those that the set is of.
+    ///
+    /// Time grows with the nodes and the links that leave the included ones. Takes memory for a
+    /// byte a component and the list, and fails only where there is none.
+    pub fn roots(
+        &self,
+        graph: &Graph<G>,
+        sccs: &Sccs<G::Ix>,
+        direction: DependencyDirection,
+    ) -> Result<Vec<G::Ix>, AllocError>
+        requires nodes { length self.now ≡ length graph.now.nodes }
+        requires sccs { length (concat sccs.now) ≡ length graph.now.nodes }
+        ensures roots { IfOk result (λ roots. AreRoots (LinkStep direction graph.now.links) (InOneBlock sccs.now) self.now (map G.Ix.index_of roots.items)) }
+        ensures reach { IfOk result (λ roots. (index : List ℕ) → AreSccs (LinkStep Forward graph.now.links) (length graph.now.nodes) index sccs.now →
+            AreRoots (LinkStep direction graph.now.links) (MutualReach Forward (λ _. true) graph.now.links) self.now (map G.Ix.index_of roots.items)) }
+    {
+        sccs.externals(graph, &self.included, direction)
+    }
+
+    /// The links inside the set whose leaving end is reached, over links inside the set in the
+    /// direction, from a root of the set in that direction. Each comes once, also a self-link and a
+    /// link to a position that was met before. One whose leaving end is no root comes after a link
+    /// that leads to that end. Where the set holds each component that it touches, these are all
+    /// links inside.
+    ///
+    /// Graph and components are those that the set is of. Time grows with the nodes and the links
+    /// that leave the set's positions. Takes memory for some numbers a node and a link, and fails
+    /// only where there is none; going on takes none.
+    pub fn links<'g>(
+        &self,
+        graph: &'g Graph<G>,
+        sccs: &Sccs<G::Ix>,
+        direction: DependencyDirection,
+    ) -> Result<Links<'g, G>, AllocError>
+        requires nodes { length self.now ≡ length graph.now.nodes }
+        requires sccs { length (concat sccs.now) ≡ length graph.now.nodes }
+        ensures walked { IfOk result (λ left. AreWalked direction graph.now.links self.now
+            (IsRoot (LinkStep direction graph.now.links) (InOneBlock sccs.now) self.now) (numbers_of left)) }
+        ensures reach { IfOk result (λ left. (index : List ℕ) → AreSccs (LinkStep Forward graph.now.links) (length graph.now.nodes) index sccs.now →
+            AreWalked direction graph.now.links self.now
+            (IsRoot (LinkStep direction graph.now.links) (MutualReach Forward (λ _. true) graph.now.links) self.now) (numbers_of left)) }
+        ensures all { IfOk result (λ left. (index : List ℕ) → AreSccs (LinkStep Forward graph.now.links) (length graph.now.nodes) index sccs.now →
+            HoldsComponents graph.now.links self.now → (n : ℕ) → Contains (numbers_of left) n ↔ IsLinkInside graph.now.links self.now n) }
+        ensures ends { IfOk result (All (λ l. LinkIs graph.now.links l.from l.to l.number)) }
+    {
+        let roots = self.roots(graph, sccs, direction)?;
+        let starts = set_of(graph, roots.as_slice())?;
+        let edges = EdgeDfs::new(graph, &self.included, direction, &starts)?;
+        Ok(Links { edges })
+    }
+
     /// The set of the included positions.
     pub fn included(&self) -> &IxSet<G>
         ensures { result.now ≡ self.now }
     {
         &self.included
     }
+}
+
+/// The set of these positions of the graph.
+fn set_of<G: GraphSpec>(graph: &Graph<G>, ixs: &[G::Ix]) -> Result<IxSet<G>, AllocError>
+    requires { All (λ ix. G.Ix.index_of ix < length graph.now.nodes) ixs.now }
+    ensures count { IfOk result (λ set. length set ≡ length graph.now.nodes) }
+    ensures members { IfOk result (λ set. (p : ℕ) → IsIn set p ↔ Contains (map G.Ix.index_of ixs.now) p) }
+{
+    let set = IxSet::from_ixs(graph.alloc(), ixs.iter().copied(), graph.node_count())?;
+    Ok(set)
 }
 
 impl<G: GraphSpec> Clone for ResolveCore<G> {

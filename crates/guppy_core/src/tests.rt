@@ -48,6 +48,28 @@ fn set_from_repeats(rt: HostRuntime) -> Result<(), Fail> {
 }
 
 #[test]
+fn operations_over_words(rt: HostRuntime) -> Result<(), Fail> {
+    let first = set_of(rt.alloc(), &[ix(0), ix(64), ix(130)], 200)?;
+    let second = set_of(rt.alloc(), &[ix(64), ix(65), ix(199)], 200)?;
+    let mut set = first.clone()?;
+    set.union_with(&second);
+    assert_eq!(rt; set.len(), 5);
+    set.intersect_with(&second);
+    assert_eq!(rt; set.len(), 3);
+    assert!(rt; set.contains(ix(65)) && !set.contains(ix(0)));
+    set.symmetric_difference_with(&first);
+    assert_eq!(rt; set.len(), 4);
+    assert!(rt; set.contains(ix(130)) && !set.contains(ix(64)));
+    let rest = set.difference(&second)?;
+    assert_eq!(rt; rest.len(), 2);
+    assert!(rt; rest.contains(ix(0)) && !rest.contains(ix(199)));
+    assert!(rt; set.insert(ix(100)));
+    assert!(rt; !set.insert(ix(100)));
+    assert_eq!(rt; set.len(), 5);
+    Ok(())
+}
+
+#[test]
 fn ones_count_down(rt: HostRuntime) -> Result<(), Fail> {
     let set = set_of(rt.alloc(), &[ix(0), ix(2), ix(4)], 6)?;
     let mut ones = set.ones();

@@ -60,7 +60,7 @@ impl<G: GraphSpec> ReachCache<G> {
         ensures room { self.new ≡ self.old }
     {
         self.initials.clear();
-        self.initials.insert(from.index());
+        self.initials.insert_position(from.index());
         self.set.clear();
         self.waiting.clear();
         let mut visitor = AcceptAll;

@@ -97,7 +97,7 @@ pub(crate) fn search<G: GraphSpec, V: LinkVisitor>(
 }
 
 // Puts the position into the set and among those that wait, unless the set has it.
-fn include<G: GraphSpec>(set: &mut IxSet<G>, waiting: &mut Vec<usize>, position: usize)
+pub(crate) fn include<G: GraphSpec>(set: &mut IxSet<G>, waiting: &mut Vec<usize>, position: usize)
     requires in_range { position < length set.old }
     requires small { position < 2 ^ 32 }
     requires room { ¬ IsIn set.old position → vec_len waiting.old < vec_capacity waiting.old }
@@ -105,7 +105,7 @@ fn include<G: GraphSpec>(set: &mut IxSet<G>, waiting: &mut Vec<usize>, position:
         ⊎ (¬ IsIn set.old position × (set.new ≡ slice_set set.old position true) × (waiting.new.items ≡ waiting.old.items ++ position ∷ [])) }
     ensures capacity { vec_capacity waiting.new ≡ vec_capacity waiting.old }
 {
-    if set.insert(position) {
+    if set.insert_position(position) {
         waiting.push_reserved(position);
     }
 }

@@ -70,7 +70,7 @@ pub(crate) fn set_of(graph: &Graph<Plain>, start: Option<usize>) -> Result<IxSet
     let mut set = IxSet::empty(graph.alloc(), graph.node_count())?;
     if let Some(position) = start {
         if position < graph.node_count() && position < NEVER {
-            set.insert(position);
+            set.insert_position(position);
         }
     }
     Ok(set)

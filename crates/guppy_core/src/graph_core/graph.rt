@@ -1,4 +1,4 @@
-ghost use Rattle.std.specs.Prelude.{◌≡◌, ◌<◌, length, Some, slice_get, IfOk, IfErr, MatchOption};
+ghost use Rattle.std.specs.Prelude.{◌≡◌, ◌<◌, length, All, Some, slice_get, IfOk, IfErr, MatchOption};
 
 use crate::graph_core::build::{first_repeat, first_unknown, number_to, rows_of};
 use crate::graph_core::link::Link;
@@ -149,6 +149,7 @@ impl<G: GraphSpec> Graph<G> {
     pub fn links_of(&self, ix: G::Ix, direction: DependencyDirection) -> &[usize]
         requires { G.Ix.index_of ix < length self.now.nodes }
         ensures links { result.now ≡ links_at direction self.now.links (G.Ix.index_of ix) }
+        ensures within { All (λ n. n < length self.now.links) result.now }
         ensures graph { IsGraph self.now }
     {
         self.links_at(ix.index(), direction)

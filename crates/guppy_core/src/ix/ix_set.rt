@@ -2,6 +2,7 @@ ghost use Rattle.std.specs.Prelude.{◌≡◌, ◌↔◌, ◌==◌, ℕ, ◌<◌
 ghost use Rattle.std.specs.Iterator.{IsFinite, HoldsAlong, Drains};
 
 use crate::ix::index_type::{GraphSpec, IndexType};
+use crate::ix::words::{combine, count_set_bits};
 use std::alloc::{AllocError, Global};
 use std::marker::{Model, PhantomData};
 
@@ -26,7 +27,7 @@ impl<G: GraphSpec> Model for IxSet<G> {
 }
 
 impl<G: GraphSpec> IxSet<G> {
-    ghost use Rattle.guppy_core.specs.IxSet.{has, IsIn, member_count, positions_from, positions_in, IsFirstFrom};
+    ghost use Rattle.guppy_core.specs.IxSet.{has, IsIn, IsUnion, IsIntersection, IsDifference, IsSymmetricDifference, member_count, positions_from, positions_in, IsFirstFrom};
 
     /// The set with no position, for a graph of so many nodes.
     ///
@@ -61,7 +62,7 @@ impl<G: GraphSpec> IxSet<G> {
     {
         let mut set = Self::empty(alloc, node_count)?;
         for ix in ixs {
-            set.insert(ix.index());
+            set.insert_position(ix.index());
         }
         Ok(set)
     }
@@ -130,8 +131,18 @@ impl<G: GraphSpec> IxSet<G> {
         None
     }
 
+    /// Puts the position, which is below the node count, in, and says whether it is new. Takes the
+    /// same time at any set.
+    pub fn insert(&mut self, ix: G::Ix) -> bool
+        requires { G.Ix.index_of ix < length self.old }
+        ensures is_new { result ≡ not (has self.old (G.Ix.index_of ix)) }
+        ensures after { self.new ≡ slice_set self.old (G.Ix.index_of ix) true }
+    {
+        self.insert_position(ix.index())
+    }
+
     /// Puts the position in, and says whether it is new.
-    pub(crate) fn insert(&mut self, position: usize) -> bool
+    pub(crate) fn insert_position(&mut self, position: usize) -> bool
         requires in_range { position < length self.old }
         requires small { position < 2 ^ 32 }
         ensures is_new { result ≡ not (has self.old position) }
@@ -144,6 +155,58 @@ impl<G: GraphSpec> IxSet<G> {
         self.words[position / 64] = word | (1 << (position % 64));
         self.len += 1;
         true
+    }
+
+    /// Puts in the positions of the other set, which is of as many nodes.
+    ///
+    /// Time grows with the node count, 64 positions a step. Takes no memory.
+    pub fn union_with(&mut self, other: &Self)
+        requires { length other.now ≡ length self.old }
+        ensures count { length self.new ≡ length self.old }
+        ensures members { IsUnion self.old other.now self.new }
+    {
+        combine(&mut self.words, &other.words, |word, theirs| word | theirs);
+        self.len = count_set_bits(&self.words);
+    }
+
+    /// Takes out the positions that are not in the other set, which is of as many nodes.
+    ///
+    /// Time grows with the node count, 64 positions a step. Takes no memory.
+    pub fn intersect_with(&mut self, other: &Self)
+        requires { length other.now ≡ length self.old }
+        ensures count { length self.new ≡ length self.old }
+        ensures members { IsIntersection self.old other.now self.new }
+    {
+        combine(&mut self.words, &other.words, |word, theirs| word & theirs);
+        self.len = count_set_bits(&self.words);
+    }
+
+    /// Takes out the positions of the other set that are in this one, and puts in its others. The
+    /// other set is of as many nodes.
+    ///
+    /// Time grows with the node count, 64 positions a step. Takes no memory.
+    pub fn symmetric_difference_with(&mut self, other: &Self)
+        requires { length other.now ≡ length self.old }
+        ensures count { length self.new ≡ length self.old }
+        ensures members { IsSymmetricDifference self.old other.now self.new }
+    {
+        combine(&mut self.words, &other.words, |word, theirs| word ^ theirs);
+        self.len = count_set_bits(&self.words);
+    }
+
+    /// The positions that are not in the other set, which is of as many nodes.
+    ///
+    /// Time grows with the node count, 64 positions a step. Takes memory: one bit a node. Fails
+    /// only where there is none.
+    pub fn difference(&self, other: &Self) -> Result<Self, AllocError>
+        requires { length other.now ≡ length self.now }
+        ensures count { IfOk result (λ rest. length rest ≡ length self.now) }
+        ensures members { IfOk result (IsDifference self.now other.now) }
+    {
+        let mut rest = self.clone()?;
+        combine(&mut rest.words, &other.words, |word, theirs| word & !theirs);
+        rest.len = count_set_bits(&rest.words);
+        Ok(rest)
     }
 
     /// Takes every position out.

@@ -1,11 +1,12 @@
 //! Sets of small graphs.
-ghost use Rattle.std.specs.Prelude.{◌<◌, length, All};
+ghost use Rattle.std.specs.Prelude.{◌≡◌, ◌<◌, length, All, IfOk};
 
 use crate::dfs::tests::{Plain, graph_of, positions, set_of};
 use crate::graph_core::Graph;
 use crate::ix::{DependencyDirection, IndexType, PackageIx};
 use crate::resolve_core::ResolveCore;
-use std::alloc::AllocError;
+use std::alloc::{AllocError, Global};
+use std::process::Abort;
 use std::test::Fail;
 
 #[test]
@@ -45,6 +46,7 @@ fn all_nodes_and_none(rt: HostRuntime) -> Result<(), Fail> {
 
 fn of_ixs(graph: &Graph<Plain>, ixs: &[PackageIx]) -> Result<ResolveCore<Plain>, AllocError>
     requires { All (λ ix. ix.0 < length graph.now.nodes) ixs.now }
+    ensures { IfOk result (λ set. length set ≡ length graph.now.nodes) }
 {
     ResolveCore::from_ixs(graph, ixs.iter().copied())
 }
@@ -63,4 +65,45 @@ fn given_positions(rt: HostRuntime) -> Result<(), Fail> {
     let included = positions(rt.alloc(), set.included())?;
     assert_eq!(rt; included.as_slice(), [0, 2].as_slice());
     Ok(())
+}
+
+fn includes(
+    rt: &impl Abort,
+    alloc: Global,
+    set: &ResolveCore<Plain>,
+    expected: &[usize],
+) -> Result<(), Fail> {
+    let included = positions(alloc, set.included())?;
+    assert_eq!(rt; included.as_slice(), expected);
+    assert_eq!(rt; set.len(), expected.len());
+    Ok(())
+}
+
+fn set_operations_hold(
+    rt: &impl Abort,
+    alloc: Global,
+    first: &ResolveCore<Plain>,
+    second: &ResolveCore<Plain>,
+) -> Result<(), Fail>
+    requires { length second.now ≡ length first.now }
+{
+    let mut union = first.clone()?;
+    union.union_with(second);
+    includes(rt, alloc, &union, &[0, 1, 2])?;
+    let mut intersection = first.clone()?;
+    intersection.intersect_with(second);
+    includes(rt, alloc, &intersection, &[1])?;
+    let difference = first.difference(second)?;
+    includes(rt, alloc, &difference, &[0])?;
+    let mut either = first.clone()?;
+    either.symmetric_difference_with(second);
+    includes(rt, alloc, &either, &[0, 2])
+}
+
+#[test]
+fn set_operations(rt: HostRuntime) -> Result<(), Fail> {
+    let graph = graph_of(rt.alloc(), 3, [(0, 1)].as_slice())?;
+    let first = of_ixs(&graph, &[PackageIx::new(0), PackageIx::new(1)])?;
+    let second = of_ixs(&graph, &[PackageIx::new(1), PackageIx::new(2)])?;
+    set_operations_hold(&rt, rt.alloc(), &first, &second)
 }

@@ -28,7 +28,7 @@ fn claim_one<G: GraphSpec>(
         return Ok(());
     }
     stack.push(position)?;
-    seen.insert(position);
+    seen.insert_position(position);
     numbers[position] = number;
     Ok(())
 }

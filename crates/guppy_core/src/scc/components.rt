@@ -1,13 +1,15 @@
-ghost use Rattle.std.specs.Prelude.{◌≡◌, ◌↔◌, ℕ, ◌+◌, ◌*◌, ◌<◌, ◌≤◌, ◌^◌, Bool, true, length, IfOk};
+ghost use Rattle.std.specs.Prelude.{◌≡◌, ◌↔◌, ℕ, ◌+◌, ◌*◌, ◌<◌, ◌≤◌, ◌^◌, Bool, true, List, length, map, IfOk};
 ghost use Rattle.std.specs.List.{concat};
 ghost use Rattle.guppy_core.specs.declared.ix.direction.DependencyDirection.TheVariants.{Forward};
-ghost use Rattle.guppy_core.specs.Reach.{LinkStep, Step};
+ghost use Rattle.guppy_core.specs.Reach.{LinkStep, Step, MutualReach};
 ghost use Rattle.guppy_core.specs.Topo.{LeadsOn};
 ghost use Rattle.guppy_core.specs.Sccs.{AreSccs, InOneBlock, InLargeBlock, listed};
 ghost use Rattle.guppy_core.specs.Order.{IsOrder};
+ghost use Rattle.guppy_core.specs.Roots.{AreRoots};
 
-use crate::graph_core::CountedGraph;
-use crate::ix::{DependencyDirection, GraphSpec, IndexType};
+use crate::graph_core::{CountedGraph, Graph};
+use crate::ix::{DependencyDirection, GraphSpec, IndexType, IxSet};
+use crate::scc::externals::{entered, unentered};
 use crate::scc::group::group;
 use crate::scc::iter::{AllSccs, NodeIter};
 use crate::scc::layout::{Layout, lay_out};
@@ -88,6 +90,30 @@ impl<Ix: IndexType> Sccs<Ix> {
     {
         let number = self.numbers[position.index()];
         self.bounds[number + 1] - self.bounds[number] > 1
+    }
+
+    /// The roots of the set, ascending: its positions whose component no link inside the set, with
+    /// both ends in it, enters from another one, in the direction. All positions of the set that are
+    /// in such a component are roots, and links inside a component, self-links among them, don't
+    /// matter. The set, the graph and the components are of as many nodes.
+    ///
+    /// Time grows with the nodes and the links that leave the set's positions. Takes memory for a
+    /// byte a component and the list, and fails only where there is none.
+    pub fn externals<G: GraphSpec<Ix = Ix>>(
+        &self,
+        graph: &Graph<G>,
+        set: &IxSet<G>,
+        direction: DependencyDirection,
+    ) -> Result<Vec<Ix>, AllocError>
+        requires nodes { length set.now ≡ length graph.now.nodes }
+        requires sccs { length (concat self.now) ≡ length graph.now.nodes }
+        ensures roots { IfOk result (λ roots. AreRoots (LinkStep direction graph.now.links) (InOneBlock self.now) set.now (map Ix.index_of roots.items)) }
+        ensures reach { IfOk result (λ roots. (index : List ℕ) → AreSccs (LinkStep Forward graph.now.links) (length graph.now.nodes) index self.now →
+            AreRoots (LinkStep direction graph.now.links) (MutualReach Forward (λ _. true) graph.now.links) set.now (map Ix.index_of roots.items)) }
+    {
+        let numbers = self.numbers.as_slice();
+        let entered = entered(graph, set, numbers, self.bounds.len(), direction)?;
+        unentered(graph.alloc(), set, numbers, entered.as_slice())
     }
 
     /// All components, as slices of positions.

@@ -3,14 +3,16 @@ ghost use Rattle.std.specs.Prelude.{◌≡◌, length, IfOk};
 ghost use Rattle.std.specs.List.{concat};
 
 use crate::graph_core::{CountedGraph, Graph, Link};
-use crate::ix::{DependencyDirection, GraphSpec, IndexType, PackageIx};
+use crate::ix::{DependencyDirection, GraphSpec, IndexType, IxSet, PackageIx};
+use crate::resolve_core::ResolveCore;
 use crate::scc::Sccs;
 use crate::topo::TopoWithCycles;
 use std::alloc::{AllocError, Global};
+use std::process::Abort;
 use std::test::Fail;
 
 /// A graph whose links say whether they are dev-only.
-enum DevLinks {}
+pub(crate) enum DevLinks {}
 
 impl GraphSpec for DevLinks {
     type Node = ();
@@ -21,16 +23,18 @@ impl GraphSpec for DevLinks {
 }
 
 #[derive(Drop)]
-struct Ordered {
-    topo: TopoWithCycles<PackageIx>,
-    sccs: Sccs<PackageIx>,
+pub(crate) struct Ordered {
+    pub(crate) topo: TopoWithCycles<PackageIx>,
+    pub(crate) sccs: Sccs<PackageIx>,
     topo_looks: u64,
     looks: u64,
 }
 
 /// The index by the links that aren't dev-only, the components, and the looks for the first and
 /// for both.
-fn make_ordered(graph: &Graph<DevLinks>) -> Result<Ordered, AllocError> {
+pub(crate) fn make_ordered(graph: &Graph<DevLinks>) -> Result<Ordered, AllocError>
+    ensures { IfOk result (λ ordered. length (concat ordered.sccs) ≡ length graph.now.nodes) }
+{
     let mut counted = CountedGraph::new(graph);
     let _node_count = counted.node_count();
     let topo = TopoWithCycles::new(&mut counted, |is_dev_only: &bool| !*is_dev_only)?;
@@ -44,7 +48,7 @@ fn make_ordered(graph: &Graph<DevLinks>) -> Result<Ordered, AllocError> {
     })
 }
 
-fn graph_of(
+pub(crate) fn graph_of(
     alloc: Global,
     node_count: usize,
     ends: &[(usize, usize, bool)],
@@ -63,7 +67,7 @@ fn graph_of(
 
 /// The graph whose node at each position but the last has a link to the next one, with as many
 /// more links as are given.
-fn chain_of(
+pub(crate) fn chain_of(
     alloc: Global,
     node_count: usize,
     more: &[(usize, usize)],
@@ -272,4 +276,76 @@ fn chain_200000(rt: HostRuntime) -> Result<(), Fail> {
     assert_eq!(rt; forward.len(), 200_000);
     assert!(rt; ordered.looks <= 799_996);
     Ok(())
+}
+
+/// The set of those of the positions that the graph has.
+pub(crate) fn set_of(
+    graph: &Graph<DevLinks>,
+    positions: &[usize],
+) -> Result<IxSet<DevLinks>, AllocError>
+    ensures { IfOk result (λ set. length set ≡ length graph.now.nodes) }
+{
+    let mut set = IxSet::empty(graph.alloc(), graph.node_count())?;
+    for position in positions {
+        if *position < graph.node_count() && *position < 4_294_967_295 {
+            set.insert(PackageIx::new(*position));
+        }
+    }
+    Ok(set)
+}
+
+fn positions_of(alloc: Global, ixs: &[PackageIx]) -> Result<Vec<usize>, AllocError> {
+    ixs.iter().map(|ix| ix.index()).collect(alloc)
+}
+
+fn roots_hold(
+    rt: &impl Abort,
+    graph: &Graph<DevLinks>,
+    members: &[usize],
+    direction: DependencyDirection,
+    expected: &[usize],
+) -> Result<(), Fail> {
+    let ordered = make_ordered(graph)?;
+    let set = set_of(graph, members)?;
+    let externals = ordered.sccs.externals(graph, &set, direction)?;
+    let found = positions_of(graph.alloc(), externals.as_slice())?;
+    assert_eq!(rt; found.as_slice(), expected);
+    let roots = ResolveCore::from_included(set).roots(graph, &ordered.sccs, direction)?;
+    let found = positions_of(graph.alloc(), roots.as_slice())?;
+    assert_eq!(rt; found.as_slice(), expected);
+    Ok(())
+}
+
+#[test]
+fn cyclic_roots(rt: HostRuntime) -> Result<(), Fail> {
+    let links = [(0, 1, false), (1, 0, false), (0, 0, false), (0, 2, false)];
+    let graph = graph_of(rt.alloc(), 3, links.as_slice())?;
+    let all = [0, 1, 2];
+    roots_hold(&rt, &graph, &all, DependencyDirection::Forward, &[0, 1])?;
+    roots_hold(&rt, &graph, &all, DependencyDirection::Reverse, &[2])
+}
+
+#[test]
+fn cut_component(rt: HostRuntime) -> Result<(), Fail> {
+    let links = [(0, 1, false), (1, 3, false), (3, 2, false), (2, 1, false)];
+    let graph = graph_of(rt.alloc(), 4, links.as_slice())?;
+    let members = [0, 1, 2];
+    roots_hold(&rt, &graph, &members, DependencyDirection::Forward, &[0])?;
+    roots_hold(&rt, &graph, &members, DependencyDirection::Reverse, &[1, 2])
+}
+
+#[test]
+fn self_links(rt: HostRuntime) -> Result<(), Fail> {
+    let links = [(0, 0, false), (0, 1, false), (1, 1, false)];
+    let graph = graph_of(rt.alloc(), 2, links.as_slice())?;
+    roots_hold(&rt, &graph, &[0, 1], DependencyDirection::Forward, &[0])?;
+    roots_hold(&rt, &graph, &[0, 1], DependencyDirection::Reverse, &[1])
+}
+
+#[test]
+fn chain_with_self_links(rt: HostRuntime) -> Result<(), Fail> {
+    let graph = chain_of(rt.alloc(), 3, &[(0, 0), (1, 1), (2, 2)])?;
+    let all = [0, 1, 2];
+    roots_hold(&rt, &graph, &all, DependencyDirection::Forward, &[0])?;
+    roots_hold(&rt, &graph, &all, DependencyDirection::Reverse, &[2])
 }

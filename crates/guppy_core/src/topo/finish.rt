@@ -36,7 +36,7 @@ pub(crate) fn finish_order<G: GraphSpec, F: Fn(&G::Edge) -> bool>(
     let mut frames = Vec::new(alloc);
     let mut order = Vec::new(alloc);
     for start in starts {
-        if seen.insert(*start) {
+        if seen.insert_position(*start) {
             frames.push(Frame {
                 position: *start,
                 next: 0,
@@ -53,7 +53,7 @@ pub(crate) fn finish_order<G: GraphSpec, F: Fn(&G::Edge) -> bool>(
                     position: frame.position,
                     next: frame.next + 1,
                 })?;
-                if keep(edge) && seen.insert(far) {
+                if keep(edge) && seen.insert_position(far) {
                     frames.push(Frame {
                         position: far,
                         next: 0,

@@ -18,7 +18,7 @@ pub(crate) fn set_of<G: GraphSpec>(
 {
     let mut set = IxSet::empty(alloc, node_count)?;
     for position in list {
-        set.insert(*position);
+        set.insert_position(*position);
     }
     Ok(set)
 }

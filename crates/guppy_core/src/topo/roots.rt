@@ -32,7 +32,7 @@ fn enter_from<G: GraphSpec, F: Fn(&G::Edge) -> bool>(
     for k in 0..graph.leaving_at(position, DependencyDirection::Forward) {
         let (_number, far, edge) = graph.look_at(position, DependencyDirection::Forward, k);
         if far != position && keep(edge) {
-            set.insert(far);
+            set.insert_position(far);
         }
     }
 }

@@ -10,17 +10,17 @@ loop-position-init g c = record {
   filled = λ p h. absurd (omega arith);
 }
 
-pub insert-requires-clause-in_range : goal.insert-requires-clause-in_range
-insert-requires-clause-in_range g c = let size = c.loop-position.invariant.size in omega arith
+pub insert_position-requires-clause-in_range : goal.insert_position-requires-clause-in_range
+insert_position-requires-clause-in_range g c = let size = c.loop-position.invariant.size in omega arith
 
-pub insert-requires-clause-small : goal.insert-requires-clause-small
-insert-requires-clause-small g c = let few = c.node_count-count.ensures.graph.few_nodes in omega arith
+pub insert_position-requires-clause-small : goal.insert_position-requires-clause-small
+insert_position-requires-clause-small g c = let few = c.node_count-count.ensures.graph.few_nodes in omega arith
 
 pub loop-position-preserved : goal.loop-position-preserved
 loop-position-preserved g c =
     let size = c.loop-position.invariant.size in
     let within : c.loop-position.position < length c.loop-position.included = omega arith in
-    rw c.insert.ensures.after (record {
+    rw c.insert_position.ensures.after (record {
       size = length-set c.loop-position.included c.loop-position.position true ∙ size;
       filled = below_more _ _
           (λ p h. member-set_keeps c.loop-position.included c.loop-position.position p within (c.loop-position.invariant.filled p h))

@@ -4,7 +4,7 @@ use Rattle.guppy_core.proofs.Costs.{degree, fits_below}
 use Rattle.guppy_core.proofs.Finishing.{looked_from, looked_below, finishing_first, start_old, start_new, finishing_below, look_paid, finishing_done, link_skipped, link_old, link_new, finishing_all, finishing_positions, inserted_old, smaller_done, smaller_step, smaller_new}
 use Rattle.guppy_core.specs.declared.ix.direction.DependencyDirection.TheVariants.{Forward}
 use Rattle.guppy_core.proofs.Lists.{no_items}
-use Rattle.guppy_core.proofs.topo.finish.finish_order.Goals.{then-insert+in_ok-push, else-insert, else-keep-via-then-keep+else-insert-2, else-keep-via-else-keep}
+use Rattle.guppy_core.proofs.topo.finish.finish_order.Goals.{then-insert_position+in_ok-push, else-insert_position, else-keep-via-then-keep+else-insert_position-2, else-keep-via-else-keep}
 use Rattle.guppy_core.proofs.topo.finish.finish_order.Goals as goal
 
 pub loop-start-init : goal.loop-start-init
@@ -22,16 +22,16 @@ loop-frame-init g c =
     let K = g.kept in
     let graph = c.args.graph.now.graph in
     let s = rw (no_items _ c.loop-start.invariant.empty) at c.loop-start.invariant.search in
-    elim c.if-insert.branch [
-      | then-insert+in_ok-push w ↦
-          let lacks = not-true _ (sym c.insert.ensures.is_new ∙ w.if-insert.true) in
-          rw (w.frames-is, w.in_ok-push.ensures.items, no_items _ c.loop-start.invariant.empty, c.insert.ensures.after) (record {
+    elim c.if-insert_position.branch [
+      | then-insert_position+in_ok-push w ↦
+          let lacks = not-true _ (sym c.insert_position.ensures.is_new ∙ w.if-insert_position.true) in
+          rw (w.frames-is, w.in_ok-push.ensures.items, no_items _ c.loop-start.invariant.empty, c.insert_position.ensures.after) (record {
             search = start_new Forward K graph c.args.starts.now _ _ _ _ _ s _ refl c.loop-start-test.true (c.requires.1.1.1.1.1.0 c.loop-start.start-index 0 c.loop-start-test.true) lacks;
             graph = c.loop-start.invariant.graph;
           })
-      | else-insert w ↦
-          let old = not-false _ (sym c.insert.ensures.is_new ∙ w.if-insert.false) in
-          rw (w.frames-is, inserted_old _ _ _ _ c.insert.ensures.is_new c.insert.ensures.after w.if-insert.false) (record {
+      | else-insert_position w ↦
+          let old = not-false _ (sym c.insert_position.ensures.is_new ∙ w.if-insert_position.false) in
+          rw (w.frames-is, inserted_old _ _ _ _ c.insert_position.ensures.is_new c.insert_position.ensures.after w.if-insert_position.false) (record {
             search = start_old Forward K graph c.args.starts.now _ _ _ _ _ _ c.loop-start.invariant.search old;
             graph = c.loop-start.invariant.graph;
           })
@@ -61,8 +61,8 @@ look_at-number-requires-clause-room g c =
     let room = c.requires.1.1.1.1.1.1.0 in
     fits_below _ _ (look_paid Forward K graph c.args.starts.now (c.loop-start.start-index + 1) (c.args.graph.now.looks + length graph.links) _ _ _ _ _ s more) room
 
-pub insert-requires-then-keep : goal.insert-requires-then-keep
-insert-requires-then-keep g c =
+pub insert_position-requires-then-keep : goal.insert_position-requires-then-keep
+insert_position-requires-then-keep g c =
     let K = g.kept in
     let graph = c.args.graph.now.graph in
     let len : c.leaving_at.result ≡ degree {E = g.row.G-Edge.Denot} Forward graph.links c.in-Some.frame.position = rw (← c.loop-frame.invariant.graph) c.leaving_at.ensures.count in
@@ -83,8 +83,8 @@ returns-in_err-push-3-clause-looks g c =
     let more : c.in-Some.frame.next < degree {E = g.row.G-Edge.Denot} Forward graph.links c.in-Some.frame.position = rw (← len) c.if-frame-leaving_at.true in
     rw c.look_at-number.ensures.counted (look_paid Forward K graph c.args.starts.now (c.loop-start.start-index + 1) (c.args.graph.now.looks + length graph.links) _ _ _ _ _ s more)
 
-pub loop-frame-smaller-then-insert-2 : goal.loop-frame-smaller-then-insert-2
-loop-frame-smaller-then-insert-2 g c =
+pub loop-frame-smaller-then-insert_position-2 : goal.loop-frame-smaller-then-insert_position-2
+loop-frame-smaller-then-insert_position-2 g c =
     let K = g.kept in
     let graph = c.args.graph.now.graph in
     let len : c.leaving_at.result ≡ degree {E = g.row.G-Edge.Denot} Forward graph.links c.in-Some.frame.position = rw (← c.loop-frame.invariant.graph) c.leaving_at.ensures.count in
@@ -94,11 +94,11 @@ loop-frame-smaller-then-insert-2 g c =
     let below : c.look_at-number.result.1 < length graph.nodes = looked_below Forward K graph is_graph _ _ _ _ l in
     let same = c.loop-frame.invariant.search.state.limit_is in
     let within : c.look_at-number.result.1 < length c.loop-frame.seen = rw same below in
-    let lacks = not-true _ (sym c.insert-then-keep.ensures.is_new ∙ c.if-insert-2.true) in
-    rw c.insert-then-keep.ensures.after (smaller_new (degree {E = g.row.G-Edge.Denot} Forward graph.links) c.loop-frame.seen c.loop-frame.frames.items c.pop.new.self.items c.push-then-frame-leaving_at.new.self.items c.in-Some.frame c.in-Some.ensures.items more c.in_ok-push-2.ensures.items c.look_at-number.result.1 c.push-then-insert-2.new.self.items lacks within c.in_ok-push-3.ensures.items)
+    let lacks = not-true _ (sym c.insert_position-then-keep.ensures.is_new ∙ c.if-insert_position-2.true) in
+    rw c.insert_position-then-keep.ensures.after (smaller_new (degree {E = g.row.G-Edge.Denot} Forward graph.links) c.loop-frame.seen c.loop-frame.frames.items c.pop.new.self.items c.push-then-frame-leaving_at.new.self.items c.in-Some.frame c.in-Some.ensures.items more c.in_ok-push-2.ensures.items c.look_at-number.result.1 c.push-then-insert_position-2.new.self.items lacks within c.in_ok-push-3.ensures.items)
 
-pub loop-frame-preserved-then-insert-2 : goal.loop-frame-preserved-then-insert-2
-loop-frame-preserved-then-insert-2 g c =
+pub loop-frame-preserved-then-insert_position-2 : goal.loop-frame-preserved-then-insert_position-2
+loop-frame-preserved-then-insert_position-2 g c =
     let K = g.kept in
     let graph = c.args.graph.now.graph in
     let s = rw c.in-Some.ensures.items at c.loop-frame.invariant.search in
@@ -107,8 +107,8 @@ loop-frame-preserved-then-insert-2 g c =
     let l = looked_from {N = g.row.G-Node.Denot} {E = g.row.G-Edge.Denot} Forward K graph c.loop-frame.graph.graph c.loop-frame.invariant.graph c.in-Some.frame.position c.in-Some.frame.next c.look_at-number.result.0 c.look_at-number.result.1 c.look_at-number.result.2.now c.keep.result more c.look_at-number.ensures.number c.look_at-number.ensures.link (c.requires.1.1.1.1.1.1.1.1 _ _ c.keep.ensures) in
     let is_graph = rw c.loop-frame.invariant.graph at c.leaving_at.ensures.graph in
     let below : c.look_at-number.result.1 < length graph.nodes = looked_below Forward K graph is_graph _ _ _ _ l in
-    let lacks = not-true _ (sym c.insert-then-keep.ensures.is_new ∙ c.if-insert-2.true) in
-    rw (c.look_at-number.ensures.counted, c.insert-then-keep.ensures.after, c.in_ok-push-3.ensures.items, c.in_ok-push-2.ensures.items) (record {
+    let lacks = not-true _ (sym c.insert_position-then-keep.ensures.is_new ∙ c.if-insert_position-2.true) in
+    rw (c.look_at-number.ensures.counted, c.insert_position-then-keep.ensures.after, c.in_ok-push-3.ensures.items, c.in_ok-push-2.ensures.items) (record {
       search = link_new Forward K graph c.args.starts.now (c.loop-start.start-index + 1) (c.args.graph.now.looks + length graph.links) _ _ _ _ _ s c.look_at-number.result.1 c.keep.result l c.if-keep.true lacks below;
       graph = c.loop-frame.invariant.graph;
     })
@@ -119,7 +119,7 @@ loop-frame-smaller-else-keep g c =
     let len : c.leaving_at.result ≡ degree {E = g.row.G-Edge.Denot} Forward graph.links c.in-Some.frame.position = rw (← c.loop-frame.invariant.graph) c.leaving_at.ensures.count in
     let more : c.in-Some.frame.next < degree {E = g.row.G-Edge.Denot} Forward graph.links c.in-Some.frame.position = rw (← len) c.if-frame-leaving_at.true in
     let same : c.else-keep.seen ≡ c.loop-frame.seen = elim c.else-keep.branch [
-      | else-keep-via-then-keep+else-insert-2 w ↦ w.seen-is ∙ inserted_old _ _ _ _ w.insert-then-keep.ensures.is_new w.insert-then-keep.ensures.after w.if-insert-2.false
+      | else-keep-via-then-keep+else-insert_position-2 w ↦ w.seen-is ∙ inserted_old _ _ _ _ w.insert_position-then-keep.ensures.is_new w.insert_position-then-keep.ensures.after w.if-insert_position-2.false
       | else-keep-via-else-keep w ↦ w.seen-is
     ] in
     rw same (smaller_step (degree {E = g.row.G-Edge.Denot} Forward graph.links) c.loop-frame.seen c.loop-frame.frames.items c.pop.new.self.items c.push-then-frame-leaving_at.new.self.items c.in-Some.frame c.in-Some.ensures.items more c.in_ok-push-2.ensures.items)
@@ -133,9 +133,9 @@ loop-frame-preserved-else-keep g c =
     let more : c.in-Some.frame.next < degree {E = g.row.G-Edge.Denot} Forward graph.links c.in-Some.frame.position = rw (← len) c.if-frame-leaving_at.true in
     let l = looked_from {N = g.row.G-Node.Denot} {E = g.row.G-Edge.Denot} Forward K graph c.loop-frame.graph.graph c.loop-frame.invariant.graph c.in-Some.frame.position c.in-Some.frame.next c.look_at-number.result.0 c.look_at-number.result.1 c.look_at-number.result.2.now c.keep.result more c.look_at-number.ensures.number c.look_at-number.ensures.link (c.requires.1.1.1.1.1.1.1.1 _ _ c.keep.ensures) in
     elim c.else-keep.branch [
-      | else-keep-via-then-keep+else-insert-2 w ↦
-          let old = not-false _ (sym w.insert-then-keep.ensures.is_new ∙ w.if-insert-2.false) in
-          rw (w.seen-is, inserted_old _ _ _ _ w.insert-then-keep.ensures.is_new w.insert-then-keep.ensures.after w.if-insert-2.false, c.look_at-number.ensures.counted, c.in_ok-push-2.ensures.items) (record {
+      | else-keep-via-then-keep+else-insert_position-2 w ↦
+          let old = not-false _ (sym w.insert_position-then-keep.ensures.is_new ∙ w.if-insert_position-2.false) in
+          rw (w.seen-is, inserted_old _ _ _ _ w.insert_position-then-keep.ensures.is_new w.insert_position-then-keep.ensures.after w.if-insert_position-2.false, c.look_at-number.ensures.counted, c.in_ok-push-2.ensures.items) (record {
             search = link_old Forward K graph c.args.starts.now (c.loop-start.start-index + 1) (c.args.graph.now.looks + length graph.links) _ _ _ _ _ s c.look_at-number.result.1 c.keep.result l w.if-keep.true old;
             graph = c.loop-frame.invariant.graph;
           })

@@ -15,7 +15,7 @@ loop-k-preserved g c =
     elim c.if-far-position.branch [
       | then-far-position+then-keep w ↦
           let l = looked w.keep.result (c.requires.1.1.1.1.1.1.1.1.1 _ _ w.keep.ensures) in
-          rw (w.set-is, w.insert.ensures.after, look.ensures.counted) (record {
+          rw (w.set-is, w.insert_position.ensures.after, look.ensures.counted) (record {
             entering = from_more g.kept graph.links (length graph.nodes) c.args.position c.args.set.now c.loop-k.k c.loop-k.set c.loop-k.invariant.entering look.result.1 w.keep.result l w.if-keep.true w.if-far-position.true (looked_below Forward g.kept graph c.leaving_at-k-end.ensures.graph _ _ _ _ l);
             graph = c.loop-k.invariant.graph;
             looked = rw c.loop-k.invariant.looked (one_more _ _);

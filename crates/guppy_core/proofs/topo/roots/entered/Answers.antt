@@ -1,4 +1,4 @@
-use Rattle.std.proofs.Common.{◌<◌, ◌≤◌, ◌-◌, length, refl, subst, arith}
+use Rattle.std.proofs.Common.{◌+◌, ◌<◌, ◌≤◌, ◌-◌, ◌^◌, length, refl, subst, arith, rules}
 use Rattle.guppy_core.specs.declared.ix.direction.DependencyDirection.TheVariants.{Forward, Reverse}
 use Rattle.guppy_core.proofs.Costs.{degree, degrees_few, cost_from-next}
 use Rattle.guppy_core.proofs.Searching.{far_end_below}
@@ -40,3 +40,15 @@ returns-clause-members g c =
     entering_all g.kept graph.links (length graph.nodes) c.loop-position.position c.loop-position.set c.loop-position.invariant.entering
     (λ a p t. subst (λ z. z < length graph.nodes) t.near (far_end_below Reverse graph.links (length graph.nodes) t.number t.link t.found c.node_count-position-end.ensures.graph.ends))
     all
+
+pub enter_from-requires : goal.enter_from-requires
+enter_from-requires g c κs within =
+    let graph = c.args.graph.now.graph in
+    let inv = c.loop-position.invariant in
+    let below : c.loop-position.position < length c.args.graph.now.graph.nodes = let count = c.node_count-position-end.ensures.count in let t = c.loop-position-test.true in omega arith in
+    let room : c.loop-position.graph.looks + degree {E = g.row.G-Edge.Denot} Forward c.args.graph.now.graph.links c.loop-position.position < 2 ^ 64 =
+    let next = cost_from-next (degree {E = g.row.G-Edge.Denot} Forward graph.links) c.loop-position.position (length graph.nodes) below in
+    let paid = inv.paid in
+    let few = c.requires.1.1.1.1.1.0 in
+    omega arith in
+    (within.0, (within.1.0, (within.1.1.0, (within.1.1.1.0, (within.1.1.1.1, (rw inv.graph below, (rw inv.graph inv.entering.limit_is, (rw inv.graph room, (search rules, search rules)))))))))

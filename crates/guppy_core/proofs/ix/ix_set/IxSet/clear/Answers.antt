@@ -1,7 +1,7 @@
 use Rattle.std.proofs.Common.{sym, ◌∙◌, ◌≡◌, arith, ap, false, replicate, length}
 use Rattle.std.proofs.Math.ListN.{length-replicate}
 use Rattle.guppy_core.specs.IxSet.{member_count}
-use Rattle.guppy_core.proofs.Marks.{length-marks_of, marks_of-zeros}
+use Rattle.guppy_core.proofs.Marks.{length-marks_of, marks_of-zeros, zeros_clear}
 use Rattle.guppy_core.proofs.Members.{member_count-replicate, has-replicate}
 use Rattle.guppy_core.proofs.ix.ix_set.IxSet.clear.Goals as goal
 
@@ -14,6 +14,7 @@ invariant_of-self g c =
       small = c.self.invariant.small;
       counted = sym (ap member_count (marks_of-zeros _ i.count) ∙ member_count-replicate i.count);
       fit = λ p h. let none = has-replicate i.count p in let is_in = rw marks_of-zeros at h in absurd (cc);
+      clear = λ k h. zeros_clear _ k;
     })
 
 pub returns : goal.returns

@@ -3,8 +3,8 @@ use Rattle.std.specs.Prelude.{bit_or}
 use Rattle.std.proofs.Math.ListN.{set, length-set}
 use Rattle.guppy_core.specs.IxSet.{has, member_count, marks_of}
 use Rattle.guppy_core.proofs.Members.{member_count-lt-length, member_count-set, fits-set}
-use Rattle.guppy_core.proofs.Marks.{below_count, word_within, length-marks_of, marks_of-write}
-use Rattle.guppy_core.proofs.ix.ix_set.IxSet.insert.Goals as goal
+use Rattle.guppy_core.proofs.Marks.{below_count, word_within, length-marks_of, marks_of-write, clear-write}
+use Rattle.guppy_core.proofs.ix.ix_set.IxSet.insert_position.Goals as goal
 
 pub index-word-requires : goal.index-word-requires
 index-word-requires g c =
@@ -46,6 +46,7 @@ invariant_of-self g c =
       small = c.self.invariant.small;
       counted = ap (λ n. n + 1) c.self.invariant.counted ∙ sym (ap member_count write ∙ more);
       fit = rw write (fits-set (marks_of i.words.items i.count) c.args.position c.requires.small c.self.invariant.fit);
+      clear = clear-write i.words.items i.count c.args.position c.index-word.result.now below within c.index-word.ensures c.self.invariant.clear;
     }
 
 pub returns-clause-after : goal.returns-clause-after

@@ -1,0 +1,82 @@
+ghost use Rattle.std.specs.Prelude.{◌≡◌, ◌↔◌, ◌⊎◌, ℕ, ◌<◌, false, length, map, slice_index, IfOk, All};
+ghost use Rattle.guppy_core.specs.IxSet.{has, IsIn};
+ghost use Rattle.guppy_core.specs.Listing.{Stands, Ascends};
+ghost use Rattle.guppy_core.specs.Reach.{LinkStep};
+ghost use Rattle.guppy_core.specs.Roots.{EntersFrom, IsEntered, HasNumber};
+
+use crate::graph_core::Graph;
+use crate::ix::{DependencyDirection, GraphSpec, IndexType, IxSet};
+use std::alloc::{AllocError, Global};
+
+/// Marks the components that links from the position to others of the set enter.
+fn mark_entered_from<G: GraphSpec>(
+    graph: &Graph<G>,
+    set: &IxSet<G>,
+    numbers: &[usize],
+    position: usize,
+    direction: DependencyDirection,
+    entered: &mut Vec<bool>,
+)
+    requires nodes { length set.now ≡ length graph.now.nodes }
+    requires numbers { length numbers.now ≡ length graph.now.nodes }
+    requires position { position < length graph.now.nodes }
+    requires below { All (λ c. c < length entered.old.items) numbers.now }
+    ensures count { length entered.new.items ≡ length entered.old.items }
+    ensures marked { (c : ℕ) → IsIn entered.new.items c ↔
+        (IsIn entered.old.items c ⊎ EntersFrom (LinkStep direction graph.now.links) (HasNumber numbers.now) set.now position c) }
+{
+    let own = numbers[position];
+    for number in graph.links_at(position, direction) {
+        let far = graph.link(*number).far_end(direction);
+        if set.has_position(far) && numbers[far] != own {
+            entered[numbers[far]] = true;
+        }
+    }
+}
+
+/// For each component whether a link inside the set enters it from another one. There are at most
+/// `count` components.
+pub(crate) fn entered<G: GraphSpec>(
+    graph: &Graph<G>,
+    set: &IxSet<G>,
+    numbers: &[usize],
+    count: usize,
+    direction: DependencyDirection,
+) -> Result<Vec<bool>, AllocError>
+    requires nodes { length set.now ≡ length graph.now.nodes }
+    requires numbers { length numbers.now ≡ length graph.now.nodes }
+    requires below { All (λ c. c < count) numbers.now }
+    ensures count { IfOk result (λ entered. length entered.items ≡ count) }
+    ensures marked { IfOk result (λ entered. (c : ℕ) → IsIn entered.items c ↔
+        IsEntered (LinkStep direction graph.now.links) (HasNumber numbers.now) set.now c) }
+{
+    let mut entered = vec![in graph.alloc(); false; count]?;
+    for position in 0..set.node_count() {
+        if set.has_position(position) {
+            mark_entered_from(graph, set, numbers, position, direction, &mut entered);
+        }
+    }
+    Ok(entered)
+}
+
+/// The positions of the set whose components are not entered, ascending.
+pub(crate) fn unentered<G: GraphSpec>(
+    alloc: Global,
+    set: &IxSet<G>,
+    numbers: &[usize],
+    entered: &[bool],
+) -> Result<Vec<G::Ix>, AllocError>
+    requires numbers { length numbers.now ≡ length set.now }
+    requires below { All (λ c. c < length entered.now) numbers.now }
+    ensures ascends { IfOk result (λ list. Ascends (map G.Ix.index_of list.items)) }
+    ensures members { IfOk result (λ list. (x : ℕ) → Stands (map G.Ix.index_of list.items) x ↔
+        (IsIn set.now x × (has entered.now (slice_index numbers.now x) ≡ false))) }
+{
+    let mut list = Vec::new(alloc);
+    for position in 0..set.node_count() {
+        if set.has_position(position) && !entered[numbers[position]] {
+            list.push(G::Ix::new(position))?;
+        }
+    }
+    Ok(list)
+}
