@@ -19,4 +19,11 @@ pub mod Visiting
 pub mod PackageNames
 pub mod Listed
 pub mod OnCycles
+pub mod CyclicComponents
 pub mod TargetLists
+pub mod Verifying
+pub mod Asked
+pub mod Halves
+pub mod Rooted
+pub mod Walking
+pub mod Same

@@ -4,10 +4,13 @@ use Rattle.std.specs.Prelude.{IsSomeAnd, option_map}
 use Rattle.std.specs.List.{filter_map, cons_option}
 use Rattle.std.proofs.lemmas.List.Elements.{All-tail}
 use Rattle.guppy_data.specs.declared.records.PackageRecord.{PackageRecord}
+use Rattle.std.specs.Vec.Iter.{into_iter_items}
 use Rattle.guppy.specs.declared.set.lists.ListedPackageIds.{ListedPackageIds}
+use Rattle.guppy.specs.declared.set.roots.RootIds.{RootIds}
 use Rattle.guppy.specs.Graph.{GraphData}
-use Rattle.guppy.specs.Ids.{id_at}
-use Rattle.guppy.specs.Listed.{id_of, ids_to_come, packages_to_come}
+use Rattle.guppy.specs.Ids.{id_at, ix_position}
+use Rattle.guppy.specs.Listed.{id_of, ids_at, ids_to_come, packages_to_come}
+use Rattle.guppy.specs.Rooted.{roots_to_come, root_ids_to_come}
 
 pub id_found : (o : Option PackageRecord) (id : List ℕ) → IsSomeAnd o (λ r. id ≡ r.id) → option_map (λ r. r.id) o ≡ Some id
 id_found None id h = absurd h
@@ -19,12 +22,28 @@ id_there (r ∷ rs) zero h = (r.id, refl)
 id_there (r ∷ rs) (suc p) h = id_there rs p (omega arith)
 
 -- each package of a graph has an ID
-ids_count : (g : GraphData) (ps : List ℕ) → All (λ p. p < length g.packages) ps → length (filter_map id_of (map (λ p. (g, p)) ps)) ≡ length {A = GraphData × ℕ} (map (λ p. (g, p)) ps)
-ids_count g [] below = refl
-ids_count g (p ∷ ps) below =
-    let first = id_there g.packages p (below 0 0 (omega arith)) in
-    ap (λ o. length (cons_option o (filter_map id_of (map (λ q. (g, q)) ps)))) first.1
-    ∙ ap suc (ids_count g ps (All-tail (λ q. q < length g.packages) p ps below))
+pub ids_at-count : (packages : List PackageRecord) (ps : List ℕ) → All (λ p. p < length packages) ps → length (ids_at packages ps) ≡ length ps
+ids_at-count packages [] below = refl
+ids_at-count packages (p ∷ ps) below =
+    let first = id_there packages p (below 0 0 (omega arith)) in
+    ap (λ o. length (cons_option o (ids_at packages ps))) first.1
+    ∙ ap suc (ids_at-count packages ps (All-tail (λ q. q < length packages) p ps below))
+
+-- so has each that is seen with its graph
+ids_count : {X : Type 0} (f : X → ℕ) (g : GraphData) (xs : List X) → All (λ x. f x < length g.packages) xs → length (filter_map id_of (map (λ x. (g, f x)) xs)) ≡ length {A = GraphData × ℕ} (map (λ x. (g, f x)) xs)
+ids_count f g [] below = refl
+ids_count f g (x ∷ xs) below =
+    let first = id_there g.packages (f x) (below 0 x (omega arith)) in
+    ap (λ o. length (cons_option o (filter_map id_of (map (λ y. (g, f y)) xs)))) first.1
+    ∙ ap suc (ids_count f g xs (All-tail (λ y. f y < length g.packages) x xs below))
+
+-- the IDs of packages that are seen with their graph
+pub ids_of_seen : (g : GraphData) (ps : List ℕ) → filter_map id_of (map (λ p. (g, p)) ps) ≡ ids_at g.packages ps
+ids_of_seen g [] = refl
+ids_of_seen g (p ∷ ps) = ap (cons_option (id_at g.packages p)) (ids_of_seen g ps)
 
 pub ids_to_come-count : (s : ListedPackageIds) → length (ids_to_come s) ≡ length (packages_to_come s.packages)
-ids_to_come-count s = ids_count s.packages.graph.now s.packages.rest s.packages.in_graph
+ids_to_come-count s = ids_count (λ p. p) s.packages.graph.now s.packages.rest s.packages.in_graph
+
+pub root_ids_to_come-count : (s : RootIds) → length (root_ids_to_come s) ≡ length (roots_to_come s.packages)
+root_ids_to_come-count s = ids_count ix_position s.packages.graph.now (into_iter_items s.packages.rest) s.packages.in_graph

@@ -29,20 +29,20 @@ some_key None h = absurd (cc)
 some_key (Some k) h = tt
 
 member_within : (packages : List PackageRecord) (p : ℕ) → IsMember packages p → p < length packages
-member_within packages p h = key_within (λ r. member_path r.source) packages p (λ _. Unit {0}) (some_key (path_at packages p) h)
+member_within packages p h = key_within member_path packages p (λ _. Unit {0}) (some_key (path_at packages p) h)
 
 is_some-map : {A B : Type 0} (f : A → B) (o : Option A) → is_some (option_map f o) ≡ is_some o
 is_some-map f None = refl
 is_some-map f (Some x) = refl
 
 -- a package has a name as a member exactly where it has a path
-named_alike : (o : Option PackageRecord) → is_some (option_and_then member_name o) ≡ is_some (option_and_then (λ r. member_path r.source) o)
+named_alike : (o : Option PackageRecord) → is_some (option_and_then member_name o) ≡ is_some (option_and_then member_path o)
 named_alike None = refl
-named_alike (Some r) = is_some-map _ (member_path r.source)
+named_alike (Some r) = is_some-map _ (member_path r)
 
 module _ (packages : List PackageRecord) where
   pub path_within : (path : List ℕ) (p : ℕ) → HasPath packages path p → p < length packages
-  path_within path p h = key_within (λ r. member_path r.source) packages p _ h
+  path_within path p h = key_within member_path packages p _ h
 
   pub name_within : (name : List ℕ) (p : ℕ) → HasName packages name p → p < length packages
   name_within name p h = key_within member_name packages p _ h

@@ -34,6 +34,10 @@ two_below i j zero a b ne = absurd (omega arith)
 two_below i j (suc zero) a b ne = absurd (ne (omega arith))
 two_below i j (suc (suc n)) a b ne = omega arith
 
+-- two or more members, or a step from one to itself
+abbrev pub IsCyclicBlock : (ℕ → ℕ → Type 0) → List ℕ → Type 0
+IsCyclicBlock R b = (1 < length b) ⊎ ((x : ℕ) × Stands b x × R x x)
+
 module _ (R : ℕ → ℕ → Type 0) (n : ℕ) (index : List ℕ) (blocks : List (List ℕ)) (are : AreSccs R n index blocks) where
   -- different positions are on a cycle where they stand in one block
   pub cycle_of_two : (p q : ℕ) → p < n → q < n → (p ≡ q → ⊥) → InOneBlock blocks p q ↔ HaveCycle R p q
@@ -69,6 +73,35 @@ module _ (R : ℕ → ℕ → Type 0) (n : ℕ) (index : List ℕ) (blocks : Lis
     λ h. ⊎_elim (λ l. let r = round p l in (r, r)) (λ r. ((p, here, r), (p, here, r))) h,
     λ h. ⊎_elim (λ e. inr (subst (λ v. R v p) e h.0.2)) (λ ne. inl (large p low h.0.0 ne (below h.0.0 p h.0.2) h.0.1 h.0.2)) (cases_eq h.0.0 p),
   )
+
+  -- positions that are on a cycle stand in one block, which is large or has a step from one of it to itself
+  pub block_of_cycle : ((x y : ℕ) → R x y → x < n) → (p q : ℕ) → p < n → q < n → HaveCycle R p q
+      → (c : ℕ) × (b : List ℕ) × (slice_get blocks c ≡ Some b) × Stands b p × Stands b q × IsCyclicBlock R b
+  block_of_cycle below p q low_p low_q h = ⊎_elim
+      (λ same. ⊎_elim
+      (λ l. (l.0, l.1, l.2, l.3, subst (Stands l.1) same l.3, inl l.4))
+      (λ r. let s = are.covers p low_p in (s.0, s.1, s.2, s.3, subst (Stands s.1) same s.3, inr (p, s.3, r)))
+      ((cycle_of_one below p low_p).1 (subst (λ v. HaveCycle R p v) (sym same) h)))
+      (λ apart. let o = (cycle_of_two p q low_p low_q apart).1 h in
+      (o.0, o.1, o.2, o.3, o.4, inl (large_block q p o.0 o.1 o.2 o.4 o.3 apart)))
+      (cases_eq p q)
+
+  -- those of such a block are on a cycle
+  pub cycle_of_block : ((x y : ℕ) → R x y → x < n) → (c : ℕ) (b : List ℕ) (p q : ℕ) → slice_get blocks c ≡ Some b → Stands b p → Stands b q → IsCyclicBlock R b → HaveCycle R p q
+  cycle_of_block below c b p q at has_p has_q cyclic =
+      let low_p = are.below c b p at has_p in
+      ⊎_elim
+      (λ same. subst (λ v. HaveCycle R p v) same ((cycle_of_one below p low_p).0 (⊎_elim
+      (λ long. inl (c, b, at, has_p, long))
+      (λ l. ⊎_elim (λ e. inr (subst (λ v. R v v) e l.2)) (λ ne. inl (c, b, at, has_p, large_block p l.0 c b at has_p l.1 ne)) (cases_eq l.0 p))
+      cyclic)))
+      (λ apart. (cycle_of_two p q low_p (are.below c b q at has_q) apart).0 (c, b, at, has_p, has_q))
+      (cases_eq p q)
+
+  -- the members of the blocks are positions
+  pub blocks_below : All (All (λ p. p < n)) blocks
+  blocks_below c b within i p within_b =
+      are.below c (get_or blocks c b) (get_or (get_or blocks c b) i p) (slice_get-get_or blocks c b within) (i, slice_get-get_or (get_or blocks c b) i p within_b)
 
 -- the position that a link leaves is one of the graph
 pub near_below : {E : Type 0} (n : ℕ) (links : List (Link E)) → All (EndsBelow n) links → (x y : ℕ) → LinkStep Forward links x y → x < n

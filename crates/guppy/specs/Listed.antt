@@ -4,6 +4,7 @@ use Rattle.std.specs.List.{concat, filter, filter_map}
 use Rattle.guppy_core.specs.declared.ix.direction.DependencyDirection.{DependencyDirection}
 use Rattle.guppy_core.specs.IxSet.{has}
 use Rattle.guppy_core.specs.Sccs.{listed}
+use Rattle.guppy_data.specs.declared.records.PackageRecord.{PackageRecord}
 use Rattle.guppy.specs.declared.package_graph.types.PackageMetadata.{PackageMetadata}
 use Rattle.guppy.specs.declared.set.lists.ListedPackages.{ListedPackages}
 use Rattle.guppy.specs.declared.set.lists.ListedPackageIds.{ListedPackageIds}
@@ -27,9 +28,9 @@ packages_listed d s = map (λ p. (s.graph, p)) (positions_listed d s)
 abbrev pub id_of : GraphData × ℕ → Option (List ℕ)
 id_of seen = id_at seen.0.packages seen.1
 
--- their IDs
-abbrev pub ids_listed : DependencyDirection → SetData → List (List ℕ)
-ids_listed d s = filter_map id_of (packages_listed d s)
+-- the IDs of the packages at the positions
+abbrev pub ids_at : List PackageRecord → List ℕ → List (List ℕ)
+ids_at packages positions = filter_map (id_at packages) positions
 
 abbrev pub packages_to_come : ListedPackages → List (GraphData × ℕ)
 packages_to_come s = map (λ p. (s.graph.now, p)) s.rest

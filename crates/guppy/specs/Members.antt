@@ -1,5 +1,5 @@
 -- The members of the workspace, their paths and their names.
-use Rattle.std.specs.Prelude.{◌≡◌, ℕ, List, length, map, Option, Some, None, option_map, slice_get, is_some, true, IsSomeAnd}
+use Rattle.std.specs.Prelude.{◌≡◌, ℕ, List, length, map, Option, option_map, slice_get, is_some, true, IsSomeAnd}
 use Rattle.std.specs.Option.{option_and_then}
 use Rattle.std.specs.List.Sorted.{IsPermutation, IsStrictlySortedBy}
 use Rattle.std.specs.Ordering.{nat_cmp}
@@ -7,23 +7,20 @@ use Rattle.std.specs.Cmp.Lexicographic.{slice_cmp}
 use Rattle.std.specs.String.{string_bytes}
 use Rattle.guppy_data.specs.Path.{path_cmp}
 use Rattle.guppy_data.specs.declared.records.PackageRecord.{PackageRecord}
-use Rattle.guppy_data.specs.declared.records.PackageSourceRecord.{PackageSourceRecord}
-use Rattle.guppy_data.specs.declared.records.PackageSourceRecord.TheVariants.{Workspace, Path, External}
+use Rattle.guppy_data.specs.PackageSource.{workspace_path, recorded_origin}
 use Rattle.guppy.specs.Keys.{or_empty, keyed, HasKey}
 
--- the path of a source that is in the workspace
-abbrev pub member_path : PackageSourceRecord → Option (List ℕ)
-member_path (Workspace path) = Some path
-member_path (Path path) = None
-member_path (External text) = None
+-- the path of a package that is in the workspace
+abbrev pub member_path : PackageRecord → Option (List ℕ)
+member_path r = workspace_path (recorded_origin r.source)
 
 -- the name of a package that is in the workspace
 abbrev pub member_name : PackageRecord → Option (List ℕ)
-member_name r = option_map (λ _. string_bytes r.name) (member_path r.source)
+member_name r = option_map (λ _. string_bytes r.name) (member_path r)
 
 -- the path of the member at the position
 abbrev pub path_at : List PackageRecord → ℕ → Option (List ℕ)
-path_at packages p = option_and_then (λ r. member_path r.source) (slice_get packages p)
+path_at packages p = option_and_then member_path (slice_get packages p)
 
 -- the name of the member at the position
 abbrev pub name_at : List PackageRecord → ℕ → Option (List ℕ)

@@ -21,7 +21,7 @@ pub mod set;
 mod tests;
 pub mod workspace;
 
-pub use cycles::Cycles;
+pub use cycles::{AllCycles, CycleIds, Cycles};
 pub use link::PackageLink;
 pub use metadata::{
     BuildTargets, FeatureIndexInPackage, NamedFeatures, NamedFeaturesFull, OptionalDepsFull,
@@ -29,7 +29,7 @@ pub use metadata::{
 };
 pub use package_graph::{AllPackages, DependsCache, PackageGraph, PackageIds, Packages};
 pub use query::{PackageLinkContext, PackageLinkVisitor, PackageQuery, Recorder};
-pub use set::{ListedPackageIds, ListedPackages, PackageSet};
+pub use set::{ListedPackageIds, ListedPackages, PackageSet, RootIds, RootPackages, WalkedLinks};
 pub use workspace::{
     DefaultMemberIds, DefaultMembers, MemberIds, Members, MembersByName, MembersByPath, Workspace,
 };

@@ -6,8 +6,9 @@ ghost use Rattle.std.specs.Prelude.{◌≡◌, ◌↔◌, IsTrue, IsSome};
 ghost use Rattle.std.specs.Option.{option_copied, option_map};
 ghost use Rattle.std.specs.String.{string_bytes};
 ghost use Rattle.guppy_data.specs.PackagePublish.{recorded_publish, seen_publish};
-ghost use Rattle.guppy_data.specs.PackageSource.{workspace_path, recorded_origin, seen_origin};
+ghost use Rattle.guppy_data.specs.PackageSource.{recorded_origin, seen_origin};
 ghost use Rattle.guppy_data.specs.Utf8Path.{path_text};
+ghost use Rattle.guppy.specs.Members.{member_path};
 ghost use Rattle.guppy.specs.Ids.{ix_position};
 ghost use Rattle.guppy.specs.Views.{OfPackage};
 
@@ -37,9 +38,7 @@ impl<'g> PackageMetadata<'g> {
     pub fn package_ix(self) -> PackageIx
         ensures { ix_position result ≡ self.entry.position }
     {
-        // The graph tells that it has fewer than 2^32 packages.
-        let _graph = self.graph.graph();
-        PackageIx::new(self.position)
+        self.graph.ix_at(self.position)
     }
 
     /// The ID, which no other package of the graph has.
@@ -100,7 +99,7 @@ impl<'g> PackageMetadata<'g> {
 
     /// Whether the package is a member of the workspace.
     pub fn in_workspace(self) -> bool
-        ensures { OfPackage self.entry (λ r. IsTrue result ↔ IsSome (workspace_path (recorded_origin r.source))) }
+        ensures { OfPackage self.entry (λ r. IsTrue result ↔ IsSome (member_path r)) }
     {
         self.source().is_workspace()
     }

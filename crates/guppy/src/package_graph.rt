@@ -7,6 +7,7 @@ mod keyed;
 mod keys;
 mod order;
 mod types;
+mod verify;
 
 pub use depends_cache::DependsCache;
 pub(crate) use dev_only::is_dev_only;

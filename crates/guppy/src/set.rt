@@ -5,15 +5,23 @@ ghost use Rattle.guppy.specs.Query.{IncludesId};
 ghost use Rattle.guppy.specs.Ids.{IsKnown};
 ghost use Rattle.guppy.specs.Refused.{NamesId, IsFirstUnknown};
 
+mod equal;
+mod filter;
+pub mod laws;
+mod links;
 mod lists;
 mod members;
 mod named;
+mod operations;
+mod roots;
 
 pub use crate::package_graph::PackageSet;
 use crate::package_graph::Packages;
 use guppy_core::IxSet;
 use guppy_data::{Error, PackageId};
+pub use links::WalkedLinks;
 pub use lists::{ListedPackageIds, ListedPackages};
+pub use roots::{RootIds, RootPackages};
 use std::alloc::AllocError;
 
 impl<'g> PackageSet<'g> {

@@ -21,14 +21,7 @@ impl<'g> PackageMetadata<'g> {
     pub fn build_target(self, id: &BuildTargetId<'_>) -> Option<BuildTarget<'g>>
         ensures { OfPackage self.entry (λ r. IsTargetOf r (seen_id id.now) result) }
     {
-        // The graph tells that each target has its name.
-        let _graph = self.graph.graph();
-        let targets = self
-            .graph
-            .package_at(self.position)
-            .build_targets
-            .as_slice();
-        match target_with_id(targets, *id) {
+        match target_with_id(self.graph.targets_of(self.position), *id) {
             Some(target) => Some(BuildTarget::new(target)),
             None => None,
         }
@@ -38,14 +31,8 @@ impl<'g> PackageMetadata<'g> {
     pub fn build_targets(self) -> BuildTargets<'g>
         ensures { OfPackage self.entry (λ r. AreTargetsById r.build_targets.items (targets_left result)) }
     {
-        // The graph tells that each target has its name, and that no two have one ID.
-        let _graph = self.graph.graph();
         BuildTargets {
-            targets: self
-                .graph
-                .package_at(self.position)
-                .build_targets
-                .as_slice(),
+            targets: self.graph.targets_of(self.position),
             rest: self.graph.targets_by_id(self.position).iter(),
         }
     }

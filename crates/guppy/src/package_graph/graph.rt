@@ -13,7 +13,8 @@ use guppy_core::{
     reachable,
 };
 use guppy_data::{
-    ConstructFault, Error, LinkRecord, PackageId, PackageRecord, Utf8Path, WorkspaceRecord,
+    BuildTargetRecord, ConstructFault, Error, LinkRecord, PackageId, PackageRecord, Utf8Path,
+    WorkspaceRecord,
 };
 use std::alloc::Global;
 use std::marker::Model;
@@ -101,6 +102,8 @@ impl PackageGraph {
     ghost use Rattle.guppy.specs.Ids.{HasId, IsKnown, ids_of, ix_position};
     ghost use Rattle.guppy.specs.Graph.{Holds, IsPackageGraph};
     ghost use Rattle.guppy.specs.Indexes.{IsTargetIndex};
+    ghost use Rattle.guppy.specs.Keys.{DifferBelow};
+    ghost use Rattle.guppy.specs.Targets.{HasTarget, IsNamed};
     ghost use Rattle.guppy.specs.Depends.{DependsOn, DirectlyDependsOn};
     ghost use Rattle.guppy.specs.Cycles.{HaveCycle};
     ghost use Rattle.guppy_core.specs.Reach.{LinkStep};
@@ -279,12 +282,34 @@ impl PackageGraph {
         self.indexes.by_target[position].as_slice()
     }
 
+    /// The build targets of the package at the position: each has its name, and no two have one ID.
+    pub(crate) fn targets_of(&self, position: usize) -> &[BuildTargetRecord]
+        requires { position < length self.now.packages }
+        ensures targets { IsSomeAnd (slice_get self.now.packages position) (λ r. result.now ≡ r.build_targets.items) }
+        ensures named { All IsNamed result.now }
+        ensures distinct { DifferBelow (HasTarget result.now) (length result.now) }
+    {
+        self.graph
+            .node(self.ix_at(position))
+            .build_targets
+            .as_slice()
+    }
+
+    /// The position of a package as its index type has it.
+    pub(crate) fn ix_at(&self, position: usize) -> PackageIx
+        requires { position < length self.now.packages }
+        ensures { ix_position result ≡ position }
+    {
+        prove!(position < self.graph.node_count());
+        PackageIx::new(position)
+    }
+
     /// The record of the package at the position.
     pub(crate) fn package_at(&self, position: usize) -> &PackageRecord
         requires { position < length self.now.packages }
         ensures { slice_get self.now.packages position ≡ Some result.now }
     {
-        self.graph.node(PackageIx::new(position))
+        self.graph.node(self.ix_at(position))
     }
 
     /// The link of the number, between positions of packages.

@@ -7,11 +7,11 @@ use guppy_data::PackageId;
 
 impl<'g> PackageSet<'g> {
     ghost use Rattle.guppy.specs.Ordered.{IsOrdered};
-    ghost use Rattle.guppy.specs.Listed.{packages_listed, packages_to_come, ids_listed, ids_to_come};
+    ghost use Rattle.guppy.specs.Listed.{positions_listed, packages_listed, packages_to_come, ids_at, ids_to_come};
 
     /// The IDs of the set's packages, listed as `packages` lists them. Takes no memory.
     pub fn package_ids(&self, direction: DependencyDirection) -> ListedPackageIds<'_, 'g>
-        ensures left { ids_to_come result ≡ ids_listed direction self.now }
+        ensures left { ids_to_come result ≡ ids_at self.now.graph.packages (positions_listed direction self.now) }
         ensures count { length (ids_to_come result) ≡ member_count self.now.included }
         ensures ordered { IsOrdered (length self.now.graph.packages) self.now.graph.links self.now.graph.index self.now.graph.components }
     {

@@ -75,11 +75,9 @@ impl PackageGraph {
     fn ixs_of_members(&self) -> Result<Vec<PackageIx>, AllocError>
         ensures { IfOk result (λ ixs. AreMembersByPath self.now.packages (map ix_position ixs.items)) }
     {
-        // The graph tells that it has fewer than 2^32 packages.
-        let _graph = self.graph();
         let mut ixs = Vec::new(self.alloc());
         for position in self.members_by_path() {
-            ixs.push(PackageIx::new(*position))?;
+            ixs.push(self.ix_at(*position))?;
         }
         Ok(ixs)
     }

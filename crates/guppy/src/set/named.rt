@@ -100,11 +100,10 @@ impl PackageGraph {
     fn ixs_with_name(&self, name: &str) -> Result<Vec<PackageIx>, AllocError>
         ensures { IfOk result (λ ixs. (p : ℕ) → Contains (map ix_position ixs.items) p ↔ HasPackageName self.now.packages name.now p) }
     {
-        let graph = self.graph();
-        let mut found = Vec::new(graph.alloc());
-        for position in 0..graph.node_count() {
+        let mut found = Vec::new(self.alloc());
+        for position in 0..self.package_count() {
             if self.is_named(position, name) {
-                found.push(PackageIx::new(position))?;
+                found.push(self.ix_at(position))?;
             }
         }
         Ok(found)

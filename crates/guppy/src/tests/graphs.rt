@@ -60,9 +60,6 @@ fn first_faults(rt: HostRuntime) -> Result<(), Fail> {
 #[test]
 fn counts(rt: HostRuntime) -> Result<(), Fail> {
     let alloc = rt.alloc();
-    let empty = graph(alloc, &[], &[])?;
-    assert_eq!(rt; (empty.package_count(), empty.link_count()), (0, 0));
-    assert_eq!(rt; empty.package_ids().len(), 0);
     let graph = graph(alloc, &LETTERS, &[("a", "a"), ("a", "c")])?;
     assert_eq!(rt; (graph.package_count(), graph.link_count()), (4, 2));
     Ok(())

@@ -108,10 +108,8 @@ impl PackageGraph {
         ensures known { IsMemberPath self.now.packages (path_text path.entry) → IsOk result }
         ensures unknown { IfErr result (NamesPath (IsFirstUnknownPath self.now.packages (path_text path.entry ∷ []))) }
     {
-        // The graph tells that it has fewer than 2^32 packages.
-        let _graph = self.graph();
         match self.position_of_path(path) {
-            Some(position) => Ok(PackageIx::new(position)),
+            Some(position) => Ok(self.ix_at(position)),
             None => {
                 let text = String::from_str(self.alloc(), path.as_str())?;
                 Err(Error::UnknownWorkspacePath(Utf8PathBuf::new(text)))
@@ -125,10 +123,8 @@ impl PackageGraph {
         ensures known { IsMemberName self.now.packages name.now → IsOk result }
         ensures unknown { IfErr result (NamesName (IsFirstUnknownName self.now.packages (name.now ∷ []))) }
     {
-        // The graph tells that it has fewer than 2^32 packages.
-        let _graph = self.graph();
         match self.position_of_name(name) {
-            Some(position) => Ok(PackageIx::new(position)),
+            Some(position) => Ok(self.ix_at(position)),
             None => {
                 let name = String::from_str(self.alloc(), name)?;
                 Err(Error::UnknownWorkspaceName(name))

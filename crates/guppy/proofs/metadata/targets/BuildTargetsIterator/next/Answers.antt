@@ -1,9 +1,8 @@
-use Rattle.std.proofs.Common.{All, ◌≡◌, ◌∙◌, ◌<◌, ◌∷◌, ap, arith, ℕ, length, refl, subst, sym, Some, None, slice_get}
+use Rattle.std.proofs.Common.{All, ◌∙◌, ◌<◌, ◌∷◌, ap, arith, ℕ, length, refl, subst, sym, Some, None, slice_get}
 use Rattle.std.specs.List.{cons_option, filter_map}
 use Rattle.std.specs.Slice.Iter.{iter_rest, iter_steps}
 use Rattle.std.proofs.lemmas.List.Elements.{All-head, All-tail}
 use Rattle.std.proofs.lemmas.Option.{slice_get_read}
-use Rattle.guppy_data.specs.BuildTarget.{seen_target}
 use Rattle.guppy.specs.TargetIterators.{targets_left}
 use Rattle.guppy.proofs.metadata.targets.BuildTargetsIterator.next.Goals as goal
 

@@ -1,0 +1,20 @@
+-- The cycles of a graph as lists of IDs.
+use Rattle.std.specs.Prelude.{List, ℕ, map}
+use Rattle.std.specs.List.{filter}
+use Rattle.std.specs.Slice.Iter.{iter_rest}
+use Rattle.guppy.specs.declared.cycles.AllCycles.{AllCycles}
+use Rattle.guppy.specs.declared.cycles.CycleIds.{CycleIds}
+use Rattle.guppy.specs.Ids.{ix_position}
+use Rattle.guppy.specs.Graph.{GraphData}
+use Rattle.guppy.specs.Listed.{ids_at}
+use Rattle.guppy.specs.Cycles.{is_cyclic_component, cyclic_components}
+
+-- the cyclic components, in the order of the graph
+abbrev pub cycles_of : GraphData → List (List (List ℕ))
+cycles_of g = map (ids_at g.packages) (cyclic_components g)
+
+abbrev pub cycles_to_come : AllCycles → List (List (List ℕ))
+cycles_to_come s = map (ids_at s.graph.now.packages) (filter (is_cyclic_component s.graph.now.links) s.rest)
+
+abbrev pub cycle_to_come : CycleIds → List (List ℕ)
+cycle_to_come s = ids_at s.graph.now.packages (map ix_position (iter_rest s.rest))

@@ -1,0 +1,33 @@
+-- The roots of a set of packages.
+use Rattle.std.specs.Prelude.{◌≡◌, ℕ, true, List, map}
+use Rattle.std.specs.List.{filter_map}
+use Rattle.std.specs.Vec.Iter.{into_iter_items}
+use Rattle.guppy_core.specs.declared.ix.direction.DependencyDirection.{DependencyDirection}
+use Rattle.guppy_core.specs.declared.ix.direction.DependencyDirection.TheVariants.{Forward}
+use Rattle.guppy_core.specs.Reach.{LinkStep, MutualReach}
+use Rattle.guppy_core.specs.Roots.{AreRoots}
+use Rattle.guppy.specs.declared.set.roots.RootPackages.{RootPackages}
+use Rattle.guppy.specs.declared.set.roots.RootIds.{RootIds}
+use Rattle.guppy.specs.Ids.{ix_position}
+use Rattle.guppy.specs.Graph.{GraphData}
+use Rattle.guppy.specs.Query.{SetData}
+use Rattle.guppy.specs.Listed.{id_of}
+
+-- the positions of the set's roots, ascending: those whose component no link inside the set enters, in the direction, from outside it; a component is a class of mutual reach over all links of the graph
+abbrev pub AreRootsOf : DependencyDirection → SetData → List ℕ → Type 0
+AreRootsOf d s = AreRoots (LinkStep d s.graph.links) (MutualReach Forward (λ _. true) s.graph.links) s.included
+
+-- the packages are the set's roots
+abbrev pub AreRootPackages : DependencyDirection → SetData → List (GraphData × ℕ) → Type 0
+AreRootPackages d s packages = (roots : List ℕ) × AreRootsOf d s roots × (packages ≡ map (λ p. (s.graph, p)) roots)
+
+-- the IDs are those of the set's roots
+abbrev pub AreRootIds : DependencyDirection → SetData → List (List ℕ) → Type 0
+AreRootIds d s ids = (packages : List (GraphData × ℕ)) × AreRootPackages d s packages × (ids ≡ filter_map id_of packages)
+
+-- the roots that are still to come
+abbrev pub roots_to_come : RootPackages → List (GraphData × ℕ)
+roots_to_come r = map (λ ix. (r.graph.now, ix_position ix)) (into_iter_items r.rest)
+
+abbrev pub root_ids_to_come : RootIds → List (List ℕ)
+root_ids_to_come r = filter_map id_of (roots_to_come r.packages)

@@ -1,0 +1,17 @@
+//! Laws on sets of packages, each stated by the contract of a function.
+ghost use Rattle.std.specs.Prelude.{List, Bool};
+ghost use Rattle.guppy_core.specs.declared.ix.direction.DependencyDirection.{DependencyDirection};
+ghost use Rattle.guppy_core.specs.Reach.{IsPlainResolve};
+ghost use Rattle.guppy.specs.Query.{SetData};
+ghost use Rattle.guppy.specs.Walked.{IsWhole};
+
+use crate::package_graph::Packages;
+use guppy_core::walk::laws::plain_resolve_holds_components;
+
+/// What a plain resolve includes holds each component that it touches.
+pub fn resolved_sets_are_whole()
+    ensures { (d : DependencyDirection) (initials : List Bool) (set : SetData) →
+        IsPlainResolve d set.graph.links initials set.included → IsWhole set }
+{
+    plain_resolve_holds_components::<Packages>();
+}

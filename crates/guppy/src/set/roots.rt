@@ -1,0 +1,117 @@
+//! The roots of a set.
+ghost use Rattle.std.specs.Prelude.{◌≡◌, ◌<◌, All, length, IfOk, IsOkUnless};
+ghost use Rattle.std.specs.Vec.Iter.{into_iter_items};
+ghost use Rattle.guppy.specs.Ids.{ix_position};
+
+use crate::package_graph::{PackageGraph, PackageMetadata, PackageSet};
+use guppy_core::{DependencyDirection, IndexType, PackageIx};
+use guppy_data::{Error, PackageId};
+use std::vec;
+
+impl<'g> PackageSet<'g> {
+    ghost use Rattle.guppy.specs.Rooted.{AreRootPackages, AreRootIds, roots_to_come, root_ids_to_come};
+
+    /// The IDs of the set's roots, as `root_packages` gives them.
+    pub fn root_ids(&self, direction: DependencyDirection) -> Result<RootIds<'g>, Error>
+        ensures roots { IfOk result (λ roots. AreRootIds direction self.now (root_ids_to_come roots)) }
+        ensures error { IsOkUnless result Error.OutOfMemory }
+    {
+        let packages = self.root_packages(direction)?;
+        Ok(RootIds { packages })
+    }
+
+    /// The roots of the set, by position: its packages whose component no link inside the set enters
+    /// from another component. A component is a class of packages that depend on each other, over all
+    /// links of the graph; so all members of a root component that are in the set are roots, and links
+    /// from a package to itself don't matter. Forward, a link enters the component of the dependency;
+    /// Reverse, that of the dependent.
+    ///
+    /// Time grows with the packages, and the links that leave packages of the set. Takes memory for a
+    /// byte a component and a number a root, and fails, with `OutOfMemory`, only where there is none.
+    /// The iterator takes none.
+    pub fn root_packages(&self, direction: DependencyDirection) -> Result<RootPackages<'g>, Error>
+        ensures roots { IfOk result (λ roots. AreRootPackages direction self.now (roots_to_come roots)) }
+        ensures error { IsOkUnless result Error.OutOfMemory }
+    {
+        let graph = self.graph;
+        let roots = self.core.roots(graph.graph(), graph.sccs(), direction)?;
+        Ok(RootPackages {
+            graph,
+            rest: roots.into_iter(),
+        })
+    }
+}
+
+/// The roots of a set that are still to come, by position. Its `len` is exact.
+#[derive(Drop)]
+pub struct RootPackages<'g> {
+    graph: &'g PackageGraph,
+    rest: vec::IntoIter<PackageIx>,
+    ghost in_graph: { All (λ ix. ix_position ix < length graph.now.packages) (into_iter_items rest) },
+}
+
+impl<'g> Iterator for RootPackages<'g> {
+    ghost use Rattle.std.specs.Iterator.{YieldsFirstBy, item_count};
+    ghost use Rattle.guppy.specs.Listed.{package_in};
+    ghost use Rattle.guppy.specs.Rooted.{roots_to_come};
+
+    type Item = PackageMetadata<'g>;
+
+    ghost next_gives = { YieldsFirstBy package_in roots_to_come };
+
+    ghost remaining = { item_count roots_to_come };
+
+    fn next(&mut self) -> Option<PackageMetadata<'g>> {
+        match self.rest.next() {
+            Some(ix) => Some(PackageMetadata {
+                graph: self.graph,
+                position: ix.index(),
+            }),
+            None => None,
+        }
+    }
+
+    fn size_hint(&self) -> (usize, Option<usize>) {
+        self.rest.size_hint()
+    }
+}
+
+impl ExactSizeIterator for RootPackages<'_> {
+    fn len(&self) -> usize {
+        self.rest.len()
+    }
+}
+
+/// The IDs of a set's roots that are still to come, by position. Its `len` is exact.
+#[derive(Drop)]
+pub struct RootIds<'g> {
+    packages: RootPackages<'g>,
+}
+
+impl<'g> Iterator for RootIds<'g> {
+    ghost use Rattle.std.specs.Iterator.{YieldsFirstRef, item_count};
+    ghost use Rattle.guppy.specs.Rooted.{root_ids_to_come};
+
+    type Item = &'g PackageId;
+
+    ghost next_gives = { YieldsFirstRef root_ids_to_come };
+
+    ghost remaining = { item_count root_ids_to_come };
+
+    fn next(&mut self) -> Option<&'g PackageId> {
+        match self.packages.next() {
+            Some(package) => Some(package.id()),
+            None => None,
+        }
+    }
+
+    fn size_hint(&self) -> (usize, Option<usize>) {
+        self.packages.size_hint()
+    }
+}
+
+impl ExactSizeIterator for RootIds<'_> {
+    fn len(&self) -> usize {
+        self.packages.len()
+    }
+}
