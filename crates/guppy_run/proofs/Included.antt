@@ -2,7 +2,7 @@
 use Rattle.std.proofs.Common.{◌≡◌, ◌↔◌, ℕ, zero, suc, List, [], ◌∷◌, ◌++◌, length, map, Contains, refl, sym, subst, ⊎_elim, arith}
 use Rattle.std.proofs.lemmas.List.Elements.{Contains-append_left, Contains-push, Contains-push_cases}
 use Rattle.std.proofs.lemmas.Iterator.Consumers.{YieldsList-from_first, YieldsList-turn, YieldsList-end}
-use Rattle.std.specs.Iterator.{Yields, YieldsFirstRef}
+use Rattle.std.specs.Iterator.{Yields, YieldsFirstBy, YieldsFirstRef}
 use Rattle.std.specs.Prelude.{Some, None}
 use denote.Ref.{Bor}
 use Rattle.guppy_data.specs.declared.records.PackageRecord.{PackageRecord}
@@ -49,9 +49,9 @@ module _ {S : Type 0} (rest : S → List (List ℕ)) (s t u : S) (given : List (
       let turn = YieldsList-turn (YieldsList-from_first (λ (r : Bor (List ℕ)). r.now) rest {s = s} (rest s) refl) given t gave (Some x) u x refl step in
       (length given, turn.0, sym turn.1)
 
-  -- where no item is left, all that were left at first were given
-  pub all_given : YieldsFirstRef rest t None u → map (λ r. r.now) given ≡ rest s
-  all_given step = (YieldsList-end (YieldsList-from_first (λ (r : Bor (List ℕ)). r.now) rest {s = s} (rest s) refl) given t gave None u refl step).0
+-- where no item is left, all that were left at first were given
+pub all_given : {S A B : Type 0} (view : A → B) (rest : S → List B) (s t u : S) (given : List A) → Yields (YieldsFirstBy view rest) s given t → YieldsFirstBy view rest t None u → map view given ≡ rest s
+all_given view rest s t u given gave step = (YieldsList-end (YieldsList-from_first view rest {s = s} (rest s) refl) given t gave None u refl step).0
 
 -- the kept elements are those of which P holds, where each of these was given
 pub AreThoseOf-all : {X : Type 0} (P : X → Type 0) (kept given : List X) → AreThoseOf P kept given → ((x : X) → P x → Contains given x) → (x : X) → Contains kept x ↔ P x

@@ -5,4 +5,6 @@ pub mod Loading
 pub mod Writing
 pub mod Included
 pub mod Reached
+pub mod Ordering
 pub mod Running
+pub mod Whole

@@ -6,11 +6,10 @@ use Rattle.std.proofs.KnownBytes.{Consumes-whole}
 use Rattle.guppy_data.specs.declared.texts.error.Error.{Error}
 use Rattle.guppy_data.specs.declared.texts.error.Error.TheVariants.{PackageGraphConstructError, UnknownPackageId, UnknownFeatureId, UnknownWorkspacePath, UnknownWorkspaceName, PackageGraphInternalError, FeatureGraphInternalError, OutOfMemory}
 use Rattle.guppy.specs.Graph.{GraphData}
-use Rattle.guppy.specs.Refused.{NamesId}
 use Rattle.guppy_run.specs.Command.{Command, command_of}
 use Rattle.guppy_run.specs.Loaded.{IsLoaded}
-use Rattle.guppy_run.specs.Answer.{IsAnswer, IsFirstUnknownNamed}
-use Rattle.guppy_run.specs.Run.{IsAnswered, IsBegun, IsUnknownId, IsLibraryRefusal, OfWholeInput}
+use Rattle.guppy_run.specs.Answer.{IsAnswer, IsCommandRefusal}
+use Rattle.guppy_run.specs.Run.{IsAnswered, IsBegun, IsUnknownId, IsFaultFound, IsLibraryRefusal, OfWholeInput}
 
 module _ (args : List (List ℕ)) (old new : Option (List ℕ)) (input : List ℕ) (command : Command) (g : GraphData)
     (bytes : Consumes old new input) (end : IsAtEnd new) (asked : command_of args ≡ Some command) (loaded : IsLoaded input g) where
@@ -28,16 +27,20 @@ module _ (args : List (List ℕ)) (old new : Option (List ℕ)) (input : List �
         (front, rest, record { command = command; asked = asked; graph = g; loaded = loaded; answer = rw (← parts) answer }, holds),
   )
 
-  pub unknown_refused : (error : Error) → NamesId (IsFirstUnknownNamed command g) error → IsLibraryRefusal args old new error
-  unknown_refused (PackageGraphConstructError f) names = absurd names
-  unknown_refused (UnknownPackageId id) names = (
+  pub command_refused : (error : Error) → IsCommandRefusal command g error → IsLibraryRefusal args old new error
+  command_refused (PackageGraphConstructError f) refused = absurd refused
+  command_refused (UnknownPackageId id) first = (
     end,
     Consumes-whole old new input (λ i. IsUnknownId args i id) bytes end
-        (record { command = command; asked = asked; graph = g; loaded = loaded; first = names }),
+        (record { command = command; asked = asked; graph = g; loaded = loaded; first = first }),
   )
-  unknown_refused (UnknownFeatureId id feature) names = absurd names
-  unknown_refused (UnknownWorkspacePath path) names = absurd names
-  unknown_refused (UnknownWorkspaceName name) names = absurd names
-  unknown_refused (PackageGraphInternalError f) names = absurd names
-  unknown_refused (FeatureGraphInternalError text) names = absurd names
-  unknown_refused OutOfMemory names = tt
+  command_refused (UnknownFeatureId id feature) refused = absurd refused
+  command_refused (UnknownWorkspacePath path) refused = absurd refused
+  command_refused (UnknownWorkspaceName name) refused = absurd refused
+  command_refused (PackageGraphInternalError fault) first = (
+    end,
+    Consumes-whole old new input (λ i. IsFaultFound args i fault) bytes end
+        (record { command = command; asked = asked; graph = g; loaded = loaded; first = first }),
+  )
+  command_refused (FeatureGraphInternalError text) refused = absurd refused
+  command_refused OutOfMemory refused = tt

@@ -4,10 +4,15 @@ use Rattle.std.specs.Str.{bytes_eq}
 use Rattle.guppy_core.specs.declared.ix.direction.DependencyDirection.{DependencyDirection}
 use Rattle.guppy_core.specs.declared.ix.direction.DependencyDirection.TheVariants.{Forward, Reverse}
 
--- the packages that these reach in a direction, or whether the first depends on the second
+-- the packages that these reach in a direction, whether the first depends on the second, the packages in their order, the roots of all packages or the links walked from them in a direction, the cycles, or whether the graph is a verified one
 pub data Command : Type 0 where
   reach : DependencyDirection → List (List ℕ) → Command
   depends : List ℕ → List ℕ → Command
+  order : Command
+  roots : DependencyDirection → Command
+  links : DependencyDirection → Command
+  cycles : Command
+  verify : Command
 
 -- `forward` or `reverse`
 abbrev pub direction_of : List ℕ → Option DependencyDirection
@@ -23,7 +28,23 @@ abbrev pub depends_of : List (List ℕ) → Option Command
 depends_of (from ∷ to ∷ []) = Some (depends from to)
 depends_of _ = None
 
+-- `forward` or `reverse`, with no word behind it
+abbrev pub lone_direction_of : List (List ℕ) → Option DependencyDirection
+lone_direction_of (word ∷ []) = direction_of word
+lone_direction_of _ = None
+
+-- the command, with no word behind it
+abbrev pub alone : Command → List (List ℕ) → Option Command
+alone command [] = Some command
+alone command _ = None
+
 -- the command that the words give, if they give one
 abbrev pub command_of : List (List ℕ) → Option Command
 command_of [] = None
-command_of (word ∷ words) = if bytes_eq word (codes "reach") then reach_of words else (if bytes_eq word (codes "depends") then depends_of words else None)
+command_of (word ∷ words) = if bytes_eq word (codes "reach") then reach_of words
+    else (if bytes_eq word (codes "depends") then depends_of words
+    else (if bytes_eq word (codes "order") then alone order words
+    else (if bytes_eq word (codes "roots") then option_map roots (lone_direction_of words)
+    else (if bytes_eq word (codes "links") then option_map links (lone_direction_of words)
+    else (if bytes_eq word (codes "cycles") then alone cycles words
+    else (if bytes_eq word (codes "verify") then alone verify words else None))))))

@@ -3,12 +3,13 @@ use Rattle.std.specs.Prelude.{◌≡◌, ℕ, List, ◌++◌, Option, Some, IfSo
 use Rattle.std.specs.Io.KnownBytes.{IsAtEnd}
 use Rattle.guppy_data.specs.declared.texts.error.Error.{Error}
 use Rattle.guppy_data.specs.declared.texts.error.Error.TheVariants.{PackageGraphConstructError, UnknownPackageId, UnknownFeatureId, UnknownWorkspacePath, UnknownWorkspaceName, PackageGraphInternalError, FeatureGraphInternalError, OutOfMemory}
+use Rattle.guppy_data.specs.declared.texts.fault.VerifyFault.{VerifyFault}
 use Rattle.guppy.specs.Graph.{GraphData}
 use Rattle.guppy_run.specs.declared.fault.RunFault.{RunFault}
 use Rattle.guppy_run.specs.declared.fault.RunFault.TheVariants.{Library, BadArguments, BadLine, InputFailed, OutputFailed}
 use Rattle.guppy_run.specs.Command.{Command, command_of}
 use Rattle.guppy_run.specs.Loaded.{IsLoaded, IsRecordFault}
-use Rattle.guppy_run.specs.Answer.{IsAnswer, IsFirstUnknownNamed}
+use Rattle.guppy_run.specs.Answer.{IsAnswer, IsFirstUnknownNamed, IsVerifyFault}
 
 -- the output is an answer to the arguments and the input
 pub record IsProgramAnswer (args : List (List ℕ)) (input output : List ℕ) : Type 0 where
@@ -34,6 +35,14 @@ pub record IsUnknownId (args : List (List ℕ)) (input id : List ℕ) : Type 0 w
   pub loaded : IsLoaded input graph
   pub first : IsFirstUnknownNamed command graph id
 
+-- every line is good, the records are accepted, and the fault is the first of the graph, which the command asks for
+pub record IsFaultFound (args : List (List ℕ)) (input : List ℕ) (fault : VerifyFault) : Type 0 where
+  pub command : Command
+  pub asked : command_of args ≡ Some command
+  pub graph : GraphData
+  pub loaded : IsLoaded input graph
+  pub first : IsVerifyFault command graph fault
+
 -- the source has come to its end, and P holds of all that it had
 abbrev pub OfWholeInput : Option (List ℕ) → Option (List ℕ) → (List ℕ → Type 0) → Type 0
 OfWholeInput old new P = IsAtEnd new × IfSome old P
@@ -45,7 +54,7 @@ IsLibraryRefusal args old new (UnknownPackageId id) = OfWholeInput old new (λ i
 IsLibraryRefusal args old new (UnknownFeatureId id feature) = ⊥
 IsLibraryRefusal args old new (UnknownWorkspacePath path) = ⊥
 IsLibraryRefusal args old new (UnknownWorkspaceName name) = ⊥
-IsLibraryRefusal args old new (PackageGraphInternalError fault) = ⊥
+IsLibraryRefusal args old new (PackageGraphInternalError fault) = OfWholeInput old new (λ input. IsFaultFound args input fault)
 IsLibraryRefusal args old new (FeatureGraphInternalError text) = ⊥
 IsLibraryRefusal args old new OutOfMemory = Unit {0}
 

@@ -4,9 +4,9 @@ use Rattle.std.specs.String.{string_bytes}
 use Rattle.guppy_run.specs.declared.statements.Statement.{Statement}
 use Rattle.guppy_run.specs.declared.statements.Statement.TheVariants.{Package, Link}
 use Rattle.guppy_run.specs.declared.command.Command.{Command as GivenCommand}
-use Rattle.guppy_run.specs.declared.command.Command.TheVariants.{Reach, Depends}
+use Rattle.guppy_run.specs.declared.command.Command.TheVariants.{Reach, Depends, Order, Roots, Links, Cycles, Verify}
 use Rattle.guppy_run.specs.Text.{Entry, a_package, a_link}
-use Rattle.guppy_run.specs.Command.{Command, reach, depends}
+use Rattle.guppy_run.specs.Command.{Command, reach, depends, order, roots, links, cycles, verify}
 
 abbrev pub entry_shown : Statement → Entry
 entry_shown (Package id) = a_package id.now
@@ -15,3 +15,8 @@ entry_shown (Link from to section) = a_link from.now to.now section
 abbrev pub command_shown : GivenCommand → Command
 command_shown (Reach direction ids) = reach direction (map string_bytes ids.now)
 command_shown (Depends from to) = depends from.now to.now
+command_shown Order = order
+command_shown (Roots direction) = roots direction
+command_shown (Links direction) = links direction
+command_shown Cycles = cycles
+command_shown Verify = verify

@@ -261,10 +261,105 @@ fn command_to_come(rt: HostRuntime) -> Result<(), Fail> {
         "reach reverse",
         "reach forward",
         "depends a b c",
-        "order",
+        "order a",
+        "roots",
+        "roots backward",
+        "roots forward a",
+        "links",
+        "links backward",
+        "links reverse a",
+        "cycles a",
+        "verify a",
         "",
     ] {
         assert_refuses(&rt, rt.alloc(), line, input, "error: bad arguments", 2)?;
+    }
+    Ok(())
+}
+
+const BACKS: &str = "package D\npackage C\npackage B\npackage A\n\
+    link A B normal\nlink B A dev\nlink B C normal\nlink C D normal\nlink D C dev\n";
+
+#[test]
+fn four_with_dev_backs(rt: HostRuntime) -> Result<(), Fail> {
+    let input = BACKS.as_bytes();
+    assert_prints(&rt, rt.alloc(), "order", input, "A\nB\nC\nD\n")?;
+    assert_prints(&rt, rt.alloc(), "cycles", input, "A B\nC D\n")?;
+    Ok(())
+}
+
+#[test]
+fn dev_link_orders(rt: HostRuntime) -> Result<(), Fail> {
+    let input = b"package Y\npackage X\nlink X Y dev\n".as_slice();
+    assert_prints(&rt, rt.alloc(), "order", input, "X\nY\n")?;
+    Ok(())
+}
+
+#[test]
+fn no_cycle(rt: HostRuntime) -> Result<(), Fail> {
+    assert_prints(&rt, rt.alloc(), "cycles", FIRST.as_bytes(), "")?;
+    Ok(())
+}
+
+#[test]
+fn empty_graph(rt: HostRuntime) -> Result<(), Fail> {
+    for line in [
+        "order",
+        "roots forward",
+        "roots reverse",
+        "links forward",
+        "links reverse",
+        "cycles",
+    ] {
+        assert_prints(&rt, rt.alloc(), line, b"".as_slice(), "")?;
+    }
+    Ok(())
+}
+
+#[test]
+fn self_links(rt: HostRuntime) -> Result<(), Fail> {
+    let input = b"package a\npackage b\nlink a a dev\nlink a b normal\nlink b b build\n".as_slice();
+    assert_prints(&rt, rt.alloc(), "cycles", input, "a\nb\n")?;
+    Ok(())
+}
+
+#[test]
+fn cyclic_roots(rt: HostRuntime) -> Result<(), Fail> {
+    let input = b"package a\npackage b\npackage c\n\
+        link a b normal\nlink b a dev\nlink a a dev\nlink a c build\n"
+        .as_slice();
+    assert_prints(&rt, rt.alloc(), "roots forward", input, "a\nb\n")?;
+    assert_prints(&rt, rt.alloc(), "roots reverse", input, "c\n")?;
+    Ok(())
+}
+
+#[test]
+fn links_of_a_chain(rt: HostRuntime) -> Result<(), Fail> {
+    let input = b"package a\npackage b\npackage c\nlink a b normal\nlink b c normal\n".as_slice();
+    assert_prints(&rt, rt.alloc(), "links forward", input, "a b\nb c\n")?;
+    assert_prints(&rt, rt.alloc(), "links reverse", input, "b c\na b\n")?;
+    Ok(())
+}
+
+#[test]
+fn links_of_a_loop(rt: HostRuntime) -> Result<(), Fail> {
+    let input = b"package r\npackage a\npackage b\npackage c\n\
+        link r a normal\nlink a c normal\nlink c b normal\nlink b a normal\n"
+        .as_slice();
+    assert_prints(
+        &rt,
+        rt.alloc(),
+        "links forward",
+        input,
+        "r a\na c\nc b\nb a\n",
+    )?;
+    Ok(())
+}
+
+#[test]
+fn verify(rt: HostRuntime) -> Result<(), Fail> {
+    for input in [FIRST, BACKS, ""] {
+        assert_prints(&rt, rt.alloc(), "verify", input.as_bytes(), "ok\n")?;
     }
     Ok(())
 }

@@ -1,4 +1,4 @@
-use Rattle.std.proofs.Common.{subst, IsOk}
+use Rattle.std.proofs.Common.{subst, IsOk, ℕ, List, Bor}
 use Rattle.std.proofs.lemmas.List.{map_push}
 use Rattle.std.proofs.lemmas.List.Sorted.{IsPermutation-sym, Contains-permutation}
 use Rattle.guppy.specs.Ids.{IsKnown}
@@ -24,6 +24,6 @@ loop-id-preserved c = rw map_push (AreThoseOf-left _ _ _ _ c.loop-id.invariant (
 pub returns-clause-ok : goal.returns-clause-ok
 returns-clause-ok c =
     let gave = rw c.into_iter-id-iterator.ensures.into_iter_gives at c.loop-id.yielded_by in
-    let all = all_given ids_left c.package_ids-id-items.result _ c.next.new.self _ gave c.in-None.ensures.steps in
+    let all = all_given (λ (r : Bor (List ℕ)). r.now) ids_left c.package_ids-id-items.result _ c.next.new.self _ gave c.in-None.ensures.steps in
     AreThoseOf-all (IncludesId c.args.set.now) _ _ c.loop-id.invariant
     (λ id includes. rw all (Contains-permutation _ _ _ c.package_ids-id-items.ensures (listed-HasId _ _ _ (rw c.requires at includes.1))))

@@ -1,14 +1,14 @@
 use Rattle.std.proofs.Common.{◌≡◌, sym, ◌∙◌, string_bytes}
 use Rattle.std.specs.Io.KnownBytes.{Appends}
 use Rattle.std.proofs.lemmas.Result.{err_from_is_err_and}
-use Rattle.guppy_run.proofs.Running.{answered, begun, unknown_refused}
+use Rattle.guppy_run.proofs.Running.{answered, begun, command_refused}
 use Rattle.guppy_run.proofs.run.run.Goals as goal
 
 pub returns-in_err-text-clause-library : goal.returns-in_err-text-clause-library
 returns-in_err-text-clause-library g c error is =
     let passed_on = err_from_is_err_and c.from_residual-in_err-text.result c.from_residual-in_err-text.ensures.1 in
     let same : error ≡ c.in_err-text.field-0.0 = cc in
-    rw same (unknown_refused _ _ _ c.in_ok-input.input.items _ _ c.in_ok-input.ensures.bytes c.in_ok-input.ensures.end (sym c.in-Some.ensures)
+    rw same (command_refused _ _ _ c.in_ok-input.input.items _ _ c.in_ok-input.ensures.bytes c.in_ok-input.ensures.end (sym c.in-Some.ensures)
     (rw c.as_slice.ensures.value at c.in_ok-graph.ensures.ok) _ c.in_err-text.ensures.err)
 
 pub returns-in-Ok-clause-ok : goal.returns-in-Ok-clause-ok
