@@ -41,8 +41,19 @@ GRAPHS = [("chain", chain), ("scattered", scattered), ("star", star)]
 
 
 def commands(count):
+    """What is measured, with its label."""
     last = f"p{count - 1}"
-    return [["reach", "forward", "p0"], ["depends", "p0", last], ["depends", last, "p0"]]
+    return {
+        "reach forward": ["reach", "forward", "p0"],
+        "reach reverse": ["reach", "reverse", last],
+        "depends": ["depends", "p0", last],
+        "depends back": ["depends", last, "p0"],
+        "order": ["order"],
+        "cycles": ["cycles"],
+        "roots": ["roots", "forward"],
+        "links": ["links", "forward"],
+        "verify": ["verify"],
+    }
 
 
 def write_input(path, graph):
@@ -89,11 +100,10 @@ def main():
             before = {}
             for count in (largest // 4, largest // 2, largest):
                 links = make_input(name, count, path)
-                for place, words in enumerate(commands(count)):
+                for label, words in commands(count).items():
                     seconds, memory = min(measure(words, path) for _ in range(3))
-                    growth = f"{math.log2(seconds / before[place]):7.2f}" if place in before else ""
-                    before[place] = seconds
-                    label = " ".join(words[:2]) if words[0] == "reach" else "depends" + (" back" if words[2] == "p0" else "")
+                    growth = f"{math.log2(seconds / before[label]):7.2f}" if label in before else ""
+                    before[label] = seconds
                     print(f"{name:10} {label:16} {count:9} {links:9} {seconds:8.3f} {memory:7.1f} {growth:>7}", flush=True)
 
 
