@@ -1,6 +1,6 @@
 -- The components that are cycles, and the IDs of their packages.
-use Rattle.std.proofs.Common.{◌≡◌, ◌⊎◌, ◌∙◌, sym, ap, refl, subst, ⊎_elim, inl, inr, arith, ℕ, zero, suc, ◌<◌, Bool, true, false, cond, List, [], ◌∷◌, ◌++◌, length, Option, Some, None, map, slice_get, get_or}
-use Rattle.std.specs.Prelude.{◌↔◌, ◌==◌, ◌&&◌, MatchOption, IsSomeAnd, is_some, option_map}
+use Rattle.std.proofs.Common.{◌≡◌, ◌⊎◌, ◌∙◌, sym, ap, refl, subst, ⊎_elim, inl, inr, arith, ℕ, zero, suc, ◌<◌, Bool, true, false, cond, List, [], ◌∷◌, ◌++◌, length, Option, Some, None, map, slice_get}
+use Rattle.std.specs.Prelude.{◌==◌, ◌&&◌, MatchOption, IsSomeAnd, is_some, option_map}
 use Rattle.std.specs.List.{Contains, filter, filter_map, cons_option}
 use Rattle.std.specs.Slice.Iter.{iter_rest}
 use Rattle.std.proofs.lemmas.Bool.{and_parts, and_from, or_cases, or_left, or_right, eqb-true, eq-eqb, ltb-true, lt-ltb, false_from_ne_true}
@@ -11,7 +11,6 @@ use Rattle.std.proofs.lemmas.Option.{slice_get_within, slice_get-get_or, get_or_
 use Rattle.guppy_core.specs.declared.graph_core.link.Link.{Link}
 use Rattle.guppy_core.specs.declared.ix.direction.DependencyDirection.TheVariants.{Forward}
 use Rattle.guppy_core.specs.Graph.{NoLink, LinkIs}
-use Rattle.guppy_core.specs.Listing.{Stands}
 use Rattle.guppy_core.specs.Reach.{LinkStep}
 use Rattle.guppy_data.specs.declared.records.PackageRecord.{PackageRecord}
 use Rattle.guppy.specs.Cycles.{AreCyclic, AreOnOne, has_self_link, is_cyclic_component, cyclic_components}

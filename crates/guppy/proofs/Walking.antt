@@ -1,5 +1,5 @@
 -- Links that are seen with their graph.
-use Rattle.std.proofs.Common.{◌≡◌, ◌↔◌, ap, subst, ℕ, List, map, Contains}
+use Rattle.std.proofs.Common.{◌↔◌, ap, subst, ℕ, List, map, Contains}
 use Rattle.guppy.specs.Graph.{GraphData}
 use Rattle.guppy.proofs.CyclicComponents.{Contains-map, from_map}
 

@@ -17,8 +17,6 @@ pub mod metadata;
 pub mod package_graph;
 pub mod query;
 pub mod set;
-#[cfg(test)]
-mod tests;
 pub mod workspace;
 
 pub use cycles::{AllCycles, CycleIds, Cycles};

@@ -1,5 +1,5 @@
 -- The roots of a set, found by marking the components that links enter.
-use Rattle.std.proofs.Common.{◌≡◌, ◌⊎◌, ◌↔◌, ℕ, ◌+◌, ◌<◌, ◌≤◌, Bool, true, false, not, ◌||◌, List, ◌∷◌, [], ◌++◌, length, map, get_or, replicate, refl, sym, ◌∙◌, subst, arith, inl, inr, ⊎_elim, eqb}
+use Rattle.std.proofs.Common.{◌≡◌, ◌⊎◌, ◌↔◌, ℕ, ◌+◌, ◌<◌, ◌≤◌, Bool, true, false, not, ◌||◌, List, ◌∷◌, [], ◌++◌, length, map, get_or, replicate, refl, sym, ◌∙◌, subst, arith, inl, inr, ⊎_elim}
 use Rattle.std.specs.Prelude.{Result, Ok, Err, IfOk}
 use Rattle.std.specs.List.{range_with_len}
 use Rattle.std.proofs.Math.ListN.{set, length-set, length-replicate}
@@ -12,7 +12,7 @@ use Rattle.guppy_core.specs.Reach.{LinkStep, Walk}
 use Rattle.guppy_core.specs.IxSet.{has, IsIn}
 use Rattle.guppy_core.specs.Listing.{Stands, Ascends, IsAbsence}
 use Rattle.guppy_core.specs.Sccs.{AreSccs, AreNumbered, InOneBlock}
-use Rattle.guppy_core.specs.Roots.{EntersFrom, IsEntered, IsRoot, AreRoots, HasNumber}
+use Rattle.guppy_core.specs.Roots.{EntersFrom, IsEntered, AreRoots, HasNumber}
 use Rattle.guppy_core.proofs.Inserted.{has-set_kept, has-set_cases}
 use Rattle.guppy_core.proofs.Members.{has-replicate, IsIn-below}
 use Rattle.guppy_core.proofs.Listings.{absence_skipped, absence_more}

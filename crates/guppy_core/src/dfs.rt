@@ -6,8 +6,6 @@ mod filtered;
 pub mod laws;
 mod recorder;
 mod search;
-#[cfg(test)]
-pub(crate) mod tests;
 mod visitor;
 
 pub use buffered::{reachable_buffered, reachable_buffered_mut};

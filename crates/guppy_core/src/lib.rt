@@ -17,8 +17,6 @@ pub mod graph_core;
 pub mod ix;
 pub mod resolve_core;
 pub mod scc;
-#[cfg(test)]
-mod tests;
 pub mod topo;
 pub mod walk;
 

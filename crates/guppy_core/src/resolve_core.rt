@@ -24,8 +24,6 @@ use std::alloc::{AllocError, Global};
 use std::marker::Model;
 
 mod links;
-#[cfg(test)]
-mod tests;
 mod topo;
 
 pub use links::Links;

@@ -6,8 +6,6 @@ mod group;
 mod iter;
 mod layout;
 mod numbers;
-#[cfg(test)]
-pub(crate) mod tests;
 
 pub use components::Sccs;
 pub use iter::{AllSccs, NodeIter};

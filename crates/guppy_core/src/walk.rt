@@ -2,7 +2,5 @@
 mod edge_dfs;
 mod inside;
 pub mod laws;
-#[cfg(test)]
-mod tests;
 
 pub use edge_dfs::EdgeDfs;

@@ -5,5 +5,3 @@ pub mod spec;
 pub mod status;
 pub mod target;
 pub mod ternary;
-#[cfg(test)]
-mod tests;

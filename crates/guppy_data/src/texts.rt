@@ -9,6 +9,4 @@ pub mod package_id;
 pub mod path;
 pub mod path_buf;
 pub mod sorted_set;
-#[cfg(test)]
-mod tests;
 pub mod warning;

@@ -8,5 +8,3 @@ pub mod enabled_status;
 pub mod external_source;
 pub mod publish;
 pub mod source;
-#[cfg(test)]
-mod tests;

@@ -9,9 +9,6 @@ use crate::graph_core::Graph;
 use crate::ix::{DependencyDirection, GraphSpec, IndexType, IxSet};
 use std::alloc::AllocError;
 
-#[cfg(test)]
-mod tests;
-
 /// The positions that the initial ones lead to over the links that the filter hands back, the
 /// initial ones among them.
 ///

@@ -1,4 +1,4 @@
-use Rattle.std.proofs.Common.{◌∙◌, ap, ◌+◌, count_ones, get_or, sym, arith}
+use Rattle.std.proofs.Common.{count_ones, arith}
 use Rattle.std.proofs.lemmas.List.Sums.{sum_by_more, sum_by_more_le}
 use Rattle.guppy_core.proofs.ix.words.count_set_bits.Goals as goal
 

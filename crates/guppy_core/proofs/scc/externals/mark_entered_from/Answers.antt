@@ -1,4 +1,4 @@
-use Rattle.std.proofs.Common.{◌≡◌, ◌<◌, ◌≤◌, true, length, get_or, refl, sym, ◌∙◌, arith}
+use Rattle.std.proofs.Common.{◌≤◌, true, length, get_or, refl, sym, ◌∙◌, arith}
 use Rattle.guppy_core.proofs.Costs.{degree}
 use Rattle.guppy_core.proofs.Rows.{row_within}
 use Rattle.guppy_core.proofs.Searching.{far_end_below}

@@ -1,5 +1,0 @@
-use Rattle.std.specs.Prelude.{not}
-use Rattle.guppy.proofs.tests.lists.counted_looks.Given as goal
-
-abbrev pub ghost-new : goal.ghost-new
-ghost-new a = not

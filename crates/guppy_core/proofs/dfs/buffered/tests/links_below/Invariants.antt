@@ -1,5 +1,0 @@
-use Rattle.std.proofs.Common.{◌<◌, All}
-use Rattle.guppy_core.proofs.dfs.buffered.tests.links_below.Given as goal
-
-abbrev pub invariant-loop-link : goal.invariant-loop-link
-invariant-loop-link l = All (λ n. n < l.link_count) l.handed.items

@@ -1,5 +1,0 @@
-use Rattle.std.specs.Prelude.{not}
-use Rattle.guppy_core.proofs.scc.tests.make_ordered.Given as goal
-
-abbrev pub ghost-new : goal.ghost-new
-ghost-new a = not

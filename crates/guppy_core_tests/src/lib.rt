@@ -1,0 +1,17 @@
+//! Tests of `guppy_core` through its public calls alone.
+//!
+//! They stand beside the library and not in it: a crate with tests is proved twice, with them and without.
+#![tactic(auto)]
+
+#[cfg(test)]
+mod buffered;
+#[cfg(test)]
+mod dfs;
+#[cfg(test)]
+mod graphs;
+#[cfg(test)]
+mod resolve_core;
+#[cfg(test)]
+mod scc;
+#[cfg(test)]
+mod walk;

@@ -1,0 +1,11 @@
+//! Tests of `guppy_data` through its public calls alone.
+//!
+//! They stand beside the library and not in it: a crate with tests is proved twice, with them and without.
+#![tactic(auto)]
+
+#[cfg(test)]
+mod platform;
+#[cfg(test)]
+mod texts;
+#[cfg(test)]
+mod views;
