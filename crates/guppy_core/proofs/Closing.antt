@@ -42,8 +42,8 @@ popped_below R IsStart limit seen stack stack' x b e =
 
 module _ {N E : Type 0} (d : DependencyDirection) (graph : GraphValue N E) (IsStart : ℕ → Type 0) where
   -- the row of x begins
-  pub within_first : (x : ℕ) (row : List ℕ) (seen : List Bool) (stack stack' : List ℕ) → Between (Step d (λ _. true) graph.links) IsStart (length graph.nodes) seen stack → stack ≡ stack' ++ x ∷ [] → row ≡ links_at d graph.links x → Within d graph IsStart x row 0 (fuel seen stack') seen stack'
-  within_first x row seen stack stack' b e row_is =
+  pub within_first : (x : ℕ) (leaving : List ℕ) (seen : List Bool) (stack stack' : List ℕ) → Between (Step d (λ _. true) graph.links) IsStart (length graph.nodes) seen stack → stack ≡ stack' ++ x ∷ [] → leaving ≡ links_at d graph.links x → Within d graph IsStart x leaving 0 (fuel seen stack') seen stack'
+  within_first x leaving seen stack stack' b e row_is =
       let was : Reaching (Step d (λ _. true) graph.links) IsStart (λ _. ⊥) (length graph.nodes) seen (stack' ++ x ∷ []) = rw (← e) b.searching in
       record {
         searching = opened (Step d (λ _. true) graph.links) IsStart (length graph.nodes) seen stack' x was;
