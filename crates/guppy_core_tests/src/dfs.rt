@@ -1,10 +1,8 @@
 //! Searches of small graphs.
-ghost use Rattle.std.specs.Prelude.{◌≡◌, ℕ, ◌<◌, ◌||◌, Bool, false, not, nat_lt, List, length, All, IfOk, slice_index_or};
-ghost use Rattle.guppy_core.specs.Resolve.{JudgesResolve};
+ghost use Rattle.std.specs.Prelude.{◌≡◌, ◌<◌, ◌||◌, not, nat_lt, length, All, IfOk};
 
-use guppy_core::dfs::{
-    LinkVisitor, Recorder, reachable, reachable_filtered, reachable_recorded, reachable_with_fn,
-};
+use crate::tables::by_table;
+use guppy_core::dfs::{LinkVisitor, Recorder, reachable, reachable_recorded, reachable_with_fn};
 use guppy_core::graph_core::{Graph, Link};
 use guppy_core::ix::{DependencyDirection, GraphSpec, IndexType, IxSet, PackageIx};
 use std::alloc::{AllocError, Global};
@@ -125,31 +123,6 @@ fn counting_visitor_is_lent(rt: HostRuntime) -> Result<(), Fail> {
     assert_eq!(rt; included.as_slice(), [2, 3].as_slice());
     assert_eq!(rt; calls, 4);
     Ok(())
-}
-
-// Over the links that are open by a table: each answer is the table's.
-fn by_table(
-    graph: &Graph<Plain>,
-    start: &IxSet<Plain>,
-    is_open: &[bool],
-) -> Result<IxSet<Plain>, AllocError>
-    requires count { length start.now ≡ length graph.now.nodes }
-    requires table { length is_open.now ≡ length graph.now.links }
-    ensures { IfOk result (λ set. (trace : List (ℕ × Bool))
-        × JudgesResolve DependencyDirection.Forward graph.now.links start.now trace set
-        × All (λ entry. entry.1 ≡ slice_index_or is_open.now entry.0 false) trace) }
-{
-    let forward = DependencyDirection::Forward;
-    let set = reachable_filtered(
-        graph,
-        start,
-        forward,
-        |link: usize| -> bool
-            requires { link < length is_open.now }
-            ensures { result ≡ slice_index_or is_open.entry.now link false }
-        { is_open[link] },
-    )?;
-    Ok(set)
 }
 
 #[test]

@@ -13,5 +13,6 @@ mod graphs;
 mod resolve_core;
 #[cfg(test)]
 mod scc;
+pub mod tables;
 #[cfg(test)]
 mod walk;

@@ -3,6 +3,7 @@
 //! They stand beside the library and not in it: a crate with tests is proved twice, with them and without.
 #![tactic(auto)]
 
+pub mod evaluators;
 #[cfg(test)]
 mod platform;
 #[cfg(test)]

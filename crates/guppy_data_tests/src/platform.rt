@@ -1,5 +1,6 @@
+use crate::evaluators::{ByTable, KnowsNothing, Machine};
 use guppy_data::{
-    EnabledTernary, PlatformSpec, PlatformStatus, PlatformStatusImpl, TargetEval, TargetSpec,
+    EnabledTernary, PlatformSpec, PlatformStatus, PlatformStatusImpl, TargetSpec,
     and_is_the_minimum, extended_is_either, or_is_the_maximum, platforms_together_are_either,
     questions_ascend, ternaries_ascend,
 };
@@ -13,13 +14,6 @@ const DISABLED: EnabledTernary = EnabledTernary::Disabled;
 const UNKNOWN: EnabledTernary = EnabledTernary::Unknown;
 
 const ENABLED: EnabledTernary = EnabledTernary::Enabled;
-
-/// What a platform answers to `cfg(windows)` and to any other text.
-#[derive(Clone, Copy)]
-struct Machine {
-    windows: Option<bool>,
-    other: Option<bool>,
-}
 
 const LINUX: Machine = Machine {
     windows: Some(false),
@@ -35,40 +29,6 @@ const WINDOWS_SSE: Machine = Machine {
     windows: Some(true),
     other: Some(true),
 };
-
-struct ByTable;
-
-impl TargetEval for ByTable {
-    ghost use Rattle.std.specs.Prelude.{nat_eq, codes, if◌then◌else◌};
-    ghost use Rattle.std.specs.Cmp.Lexicographic.{pointwise};
-
-    type Platform = Machine;
-
-    ghost answer = { λ _ text machine.
-        if (pointwise nat_eq text (codes "cfg(windows)")) then machine.windows else machine.other };
-
-    fn eval(&self, spec: &TargetSpec, machine: &Machine) -> Option<bool> {
-        if spec.as_str() == "cfg(windows)" {
-            machine.windows
-        } else {
-            machine.other
-        }
-    }
-}
-
-struct KnowsNothing;
-
-impl TargetEval for KnowsNothing {
-    ghost use Rattle.std.specs.Prelude.{None};
-
-    type Platform = ();
-
-    ghost answer = { λ _ _ _. None };
-
-    fn eval(&self, _spec: &TargetSpec, _platform: &()) -> Option<bool> {
-        None
-    }
-}
 
 fn target_spec(alloc: Global, text: &str) -> Result<TargetSpec, AllocError> {
     Ok(TargetSpec::new(String::from_str(alloc, text)?))

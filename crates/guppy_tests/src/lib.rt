@@ -1,7 +1,7 @@
 //! Tests of package graphs through the public calls of `guppy` alone.
 //!
 //! They stand beside the library and not in it: a crate with tests is proved twice, with them and without.
-//! The crate gives nothing; `records` builds the graphs that the other modules ask.
+//! `visitors` has a visitor with a stated meaning, and `records` builds the graphs that the tests ask.
 #![tactic(auto)]
 
 #[cfg(test)]
@@ -24,6 +24,7 @@ mod targets;
 mod verified;
 #[cfg(test)]
 mod views;
+pub mod visitors;
 #[cfg(test)]
 mod walks;
 #[cfg(test)]

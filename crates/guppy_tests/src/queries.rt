@@ -1,5 +1,6 @@
 //! Resolves with visitors.
 use crate::records::{LETTERS, assert_error, graph, graph_of, id, ids, package, packages, text};
+use crate::visitors::RefusesOnce;
 use guppy::{
     PackageGraph, PackageLink, PackageLinkContext, PackageLinkVisitor, PackageQuery, PackageSet,
 };
@@ -95,24 +96,10 @@ fn reverse_recorder(rt: HostRuntime) -> Result<(), Fail> {
     reverse_recorder_holds(&rt, &graph)
 }
 
-// Refuses the first link to the package d.
-#[derive(Drop)]
-struct RefusesOnce(bool);
-
-impl PackageLinkVisitor for RefusesOnce {
-    ghost visits = { λ _ _ _ _ _. Unit {0} };
-
-    fn visit_link(&mut self, _cx: &PackageLinkContext<'_>, link: PackageLink<'_>) -> bool {
-        if self.0 || link.to().name() != "d" {
-            return true;
-        }
-        self.0 = true;
-        false
-    }
-}
-
 fn diamond_with_refusal_holds(rt: &impl Abort, graph: &PackageGraph) -> Result<(), Fail> {
-    let (set, recorder) = forward(graph, "a")?.resolve_recorded(RefusesOnce(false))?;
+    let (set, recorder) = forward(graph, "a")?.resolve_recorded(RefusesOnce {
+        has_refused: false,
+    })?;
     assert_eq!(rt; set.len(), 4);
     let mut numbers = Vec::new(graph.alloc());
     for (number, _) in recorder.entries.iter() {

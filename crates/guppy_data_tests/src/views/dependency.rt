@@ -1,25 +1,12 @@
+use crate::evaluators::KnowsNothing;
 use crate::views::text;
 use guppy_data::{
     DepRequiredOrOptional, DependencyReq, DependencyReqImpl, EnabledStatus, EnabledTernary,
-    PlatformSpec, PlatformStatus, PlatformStatusImpl, TargetEval, TargetSpec,
+    PlatformSpec, PlatformStatus, PlatformStatusImpl, TargetSpec,
 };
 use std::alloc::{AllocError, Global};
 use std::collections::BTreeMap;
 use std::test::Fail;
-
-struct KnowsNothing;
-
-impl TargetEval for KnowsNothing {
-    ghost use Rattle.std.specs.Prelude.{None};
-
-    type Platform = ();
-
-    ghost answer = { λ _ _ _. None };
-
-    fn eval(&self, _spec: &TargetSpec, _platform: &()) -> Option<bool> {
-        None
-    }
-}
 
 fn part(alloc: Global, build_if: PlatformStatusImpl) -> DepRequiredOrOptional {
     DepRequiredOrOptional {

@@ -2,7 +2,7 @@ use Rattle.std.proofs.Common.{◌≡◌, ℕ, Bool, false, List, ◌∙◌, ap, 
 use Rattle.std.specs.List.{All, FoldsTo}
 use Rattle.std.proofs.lemmas.Fn.{chained_keeps}
 use Rattle.std.proofs.lemmas.List.Elements.{All-nil, All-push}
-use Rattle.guppy_core_tests.proofs.dfs.by_table.Goals as goal
+use Rattle.guppy_core_tests.proofs.tables.by_table.Goals as goal
 
 -- the answers of a closure whose states all have I, and which answers a test of the link
 answers_by_test : {F : Type 0} (calls : F → ℕ × Bool → F → Type 0) (test : ℕ → Bool) (I : F → Type 0)
@@ -14,7 +14,7 @@ answers_by_test calls test I step trace f last i h =
     trace f last (All-nil (λ (e : ℕ × Bool). e.1 ≡ test e.0), i) h).0
 
 pub returns : goal.returns
-returns c =
+returns g c =
     let s = c.in_ok-set.ensures.judged in (
       s.0,
       s.2,
