@@ -8,19 +8,19 @@ use Rattle.std.proofs.lemmas.List.{append-nil, length-map}
 use Rattle.std.proofs.lemmas.List.Elements.{All-contains, All-filter, All-contains_itself, filter-append, filter_passes, Contains-append_right}
 use Rattle.std.proofs.lemmas.List.Folds.{Any-from_list_any, list_any-from_Any}
 use Rattle.std.proofs.lemmas.Option.{slice_get_within, slice_get-get_or, get_or_from_slice_get}
-use Rattle.guppy_core.specs.declared.graph_core.link.Link.{Link}
-use Rattle.guppy_core.specs.declared.ix.direction.DependencyDirection.TheVariants.{Forward}
+use Rattle.guppy_search.specs.declared.graph_core.link.Link.{Link}
+use Rattle.guppy_search.specs.declared.ix.direction.DependencyDirection.TheVariants.{Forward}
 use Rattle.guppy_core.specs.Graph.{NoLink, LinkIs}
 use Rattle.guppy_core.specs.Reach.{LinkStep}
 use Rattle.guppy_data.specs.declared.records.PackageRecord.{PackageRecord}
-use Rattle.guppy.specs.Cycles.{AreCyclic, AreOnOne, has_self_link, is_cyclic_component, cyclic_components}
-use Rattle.guppy.specs.Graph.{GraphData, IsPackageGraph}
-use Rattle.guppy.specs.Ids.{HasId, id_at, ix_position}
+use Rattle.guppy_graph.specs.Cycles.{AreCyclic, AreOnOne, has_self_link, is_cyclic_component, cyclic_components}
+use Rattle.guppy_graph.specs.Graph.{GraphData, IsPackageGraph}
+use Rattle.guppy_graph.specs.Ids.{HasId, id_at, ix_position}
 use Rattle.guppy.specs.declared.cycles.CycleIds.{CycleIds}
 use Rattle.guppy.specs.Listed.{ids_at}
 use Rattle.guppy.specs.ListedCycles.{cycles_of, cycle_to_come}
 use Rattle.guppy.proofs.Listed.{ids_at-count}
-use Rattle.guppy.proofs.OnCycles.{IsCyclicBlock, block_of_cycle, cycle_of_block, near_below}
+use Rattle.guppy_graph.proofs.OnCycles.{IsCyclicBlock, block_of_cycle, cycle_of_block, near_below}
 
 module _ {E : Type 0} (links : List (Link E)) where
   self_link_leads : (p : ℕ) → has_self_link links p ≡ true → LinkStep Forward links p p

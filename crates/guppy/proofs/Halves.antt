@@ -4,8 +4,8 @@ use Rattle.std.specs.Prelude.{◌↔◌, option_map}
 use Rattle.std.specs.List.{Contains, filter, concat}
 use Rattle.std.proofs.lemmas.List.{get_or-reverse, length-reverse}
 use Rattle.std.proofs.lemmas.Option.{slice_get_within, slice_get-map, slice_get-get_or, get_or_from_slice_get}
-use Rattle.guppy_core.specs.declared.ix.direction.DependencyDirection.{DependencyDirection}
-use Rattle.guppy_core.specs.declared.ix.direction.DependencyDirection.TheVariants.{Forward, Reverse}
+use Rattle.guppy_search.specs.declared.ix.direction.DependencyDirection.{DependencyDirection}
+use Rattle.guppy_search.specs.declared.ix.direction.DependencyDirection.TheVariants.{Forward, Reverse}
 use Rattle.guppy_core.specs.IxSet.{has, IsIn}
 use Rattle.guppy_core.specs.Listing.{Stands, IsOnce, IsListing}
 use Rattle.guppy_core.specs.Sccs.{listed}

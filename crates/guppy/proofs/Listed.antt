@@ -7,8 +7,8 @@ use Rattle.guppy_data.specs.declared.records.PackageRecord.{PackageRecord}
 use Rattle.std.specs.Vec.Iter.{into_iter_items}
 use Rattle.guppy.specs.declared.set.lists.ListedPackageIds.{ListedPackageIds}
 use Rattle.guppy.specs.declared.set.roots.RootIds.{RootIds}
-use Rattle.guppy.specs.Graph.{GraphData}
-use Rattle.guppy.specs.Ids.{id_at, ix_position}
+use Rattle.guppy_graph.specs.Graph.{GraphData}
+use Rattle.guppy_graph.specs.Ids.{id_at, ix_position}
 use Rattle.guppy.specs.Listed.{id_of, ids_at, ids_to_come, packages_to_come}
 use Rattle.guppy.specs.Rooted.{roots_to_come, root_ids_to_come}
 

@@ -1,6 +1,6 @@
 -- Lists of IDs, and the positions of the packages that they name.
-use Rattle.std.proofs.Common.{◌≡◌, ◌∙◌, sym, refl, subst, ⊎_elim, zero, suc, ℕ, ◌<◌, List, [], ◌∷◌, ◌++◌, length, get_or, map, arith, Bool, true, All}
-use Rattle.std.specs.Prelude.{Option, Some, None, is_some, MatchOption, ◌↔◌}
+use Rattle.std.proofs.Common.{◌≡◌, refl, subst, ⊎_elim, zero, suc, ℕ, ◌<◌, List, [], ◌∷◌, ◌++◌, length, get_or, map, arith, Bool, All}
+use Rattle.std.specs.Prelude.{Option, Some, ◌↔◌}
 use denote.Ref.{Bor}
 use Rattle.std.specs.List.{AllZip, Contains}
 use Rattle.std.specs.Iterator.{Yields}
@@ -8,20 +8,15 @@ use Rattle.std.proofs.lemmas.List.Elements.{All-push, Contains-append_left, Cont
 use Rattle.std.proofs.Math.ListN.{get_or-map}
 use Rattle.std.proofs.lemmas.List.{length-map}
 use Rattle.guppy_core.specs.IxSet.{IsIn}
-use Rattle.guppy_core.specs.Reach.{LinkStep, Walk, ReachedFrom}
-use Rattle.guppy_core.specs.declared.ix.direction.DependencyDirection.TheVariants.{Forward}
-use Rattle.guppy_core.specs.declared.ix.index_type.PackageIx.{PackageIx}
+use Rattle.guppy_search.specs.declared.ix.index_type.PackageIx.{PackageIx}
 use Rattle.guppy_data.specs.declared.texts.error.Error.{Error}
 use Rattle.guppy_data.specs.declared.records.PackageRecord.{PackageRecord}
-use Rattle.guppy.specs.Ids.{HasId, IsKnown, DistinctBelow, ix_position}
-use Rattle.guppy.specs.Graph.{GraphData}
-use Rattle.guppy_core.specs.Graph.{NoLink, LinkIs}
-use Rattle.guppy.specs.Depends.{DependsOn, DirectlyDependsOn}
-use Rattle.guppy.specs.Keys.{DifferBelow}
+use Rattle.guppy_graph.specs.Ids.{HasId, IsKnown, DistinctBelow, ix_position}
+use Rattle.guppy_graph.specs.Keys.{DifferBelow}
 use Rattle.guppy.specs.Query.{AreNamed, IsSetNamed}
-use Rattle.guppy.specs.Refused.{NamesId, IsFirstUnknown}
-use Rattle.guppy.proofs.Named.{position_is, within_of}
-use Rattle.guppy.proofs.Unknown.{NamesId-along, first_unknown-next}
+use Rattle.guppy_graph.specs.Refused.{NamesId, IsFirstUnknown}
+use Rattle.guppy_graph.proofs.Named.{position_is, within_of}
+use Rattle.guppy_graph.proofs.Unknown.{NamesId-along, first_unknown-next}
 
 module _ (packages : List PackageRecord) (ids : List (List ℕ)) (positions : List ℕ) (are : AreNamed packages ids positions) where
   -- one more ID, and its position
@@ -56,28 +51,6 @@ pub unknown_next : {S : Type 0} (steps : S → Option (Bor (List ℕ)) → S →
 unknown_next {S} steps packages s t u named x e gave step known names =
     NamesId-along (IsFirstUnknown packages (x.now ∷ [])) (λ id. (named : List (Bor (List ℕ))) × (rest : S) × Yields steps s named rest × IsFirstUnknown packages (map (λ id. id.now) named) id) e
     (λ id first. first_unknown-next (IsKnown packages) steps (λ (id : Bor (List ℕ)). id.now) s t u named x id gave step known first) names
-
-module _ (g : GraphData) (distinct : DistinctBelow g.packages (length g.packages)) (a b : List ℕ) (p q : ℕ) (has_a : HasId g.packages a p) (has_b : HasId g.packages b q) (initials reached : List Bool) where
-  -- what the package of one ID reaches
-  pub depends_by_reach : ((s : ℕ) → IsIn initials s → s ≡ p) → IsIn initials p → ((t : ℕ) → (IsIn reached t → ReachedFrom (LinkStep Forward g.links) (IsIn initials) t) × (ReachedFrom (LinkStep Forward g.links) (IsIn initials) t → IsIn reached t)) → (IsIn reached q → DependsOn g a b) × (DependsOn g a b → IsIn reached q)
-  depends_by_reach only there reaches = (
-    λ h. let from = (reaches q).0 h in (p, q, has_a, has_b, subst (λ s. Walk (LinkStep Forward g.links) s q) (only from.0 from.1) from.2),
-    λ d. (reaches q).1 (p, there, subst (λ s. Walk (LinkStep Forward g.links) s q) (position_is g.packages distinct a _ p d.2 has_a) (subst (λ t. Walk (LinkStep Forward g.links) d.0 t) (position_is g.packages distinct b _ q d.3 has_b) d.4)),
-  )
-
-module _ (g : GraphData) (distinct : DistinctBelow g.packages (length g.packages)) (a b : List ℕ) (p q : ℕ) (has_a : HasId g.packages a p) (has_b : HasId g.packages b q) where
-  -- one package depends directly on another exactly where a link between their positions is found
-  pub directly_by_link : (number : Option ℕ) → MatchOption number (NoLink g.links p q) (LinkIs g.links p q) → (is_some number ≡ true → DirectlyDependsOn g a b) × (DirectlyDependsOn g a b → is_some number ≡ true)
-  directly_by_link (Some n) l = (
-    λ _. (p, q, has_a, has_b, record { number = n; link = l.0; found = l.1; near = l.2; far = l.3; kept = refl }),
-    λ _. refl,
-  )
-  directly_by_link None none = (
-    λ h. absurd (cc),
-    λ d. absurd (none d.4.number d.4.link d.4.found
-        (d.4.near ∙ position_is g.packages distinct a d.0 p d.2 has_a)
-        (d.4.far ∙ position_is g.packages distinct b d.1 q d.3 has_b)),
-  )
 
 -- texts, and the positions that they name one by one
 module _ (Names : List ℕ → ℕ → Type 0) where
@@ -120,7 +93,3 @@ module _ (Names : List ℕ → ℕ → Type 0) where
             (members p).1 (subst (Contains positions) same r.1),
       );
     }
-
-pub only_one : (s p : ℕ) → Contains (p ∷ []) s → s ≡ p
-only_one s p (zero, within, same) = sym same
-only_one s p (suc k, within, same) = absurd (omega arith)

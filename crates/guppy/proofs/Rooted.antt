@@ -3,10 +3,10 @@ use Rattle.std.proofs.Common.{◌≡◌, ◌∙◌, sym, ap, ℕ, ◌<◌, Bool,
 use Rattle.std.specs.Prelude.{option_map}
 use Rattle.std.proofs.lemmas.Simd.{map-map}
 use Rattle.std.proofs.lemmas.Option.{slice_get-map, slice_get-get_or}
-use Rattle.guppy_core.specs.declared.ix.index_type.PackageIx.{PackageIx}
+use Rattle.guppy_search.specs.declared.ix.index_type.PackageIx.{PackageIx}
 use Rattle.guppy_core.specs.Roots.{AreRoots}
-use Rattle.guppy.specs.Ids.{ix_position}
-use Rattle.guppy.specs.Graph.{GraphData}
+use Rattle.guppy_graph.specs.Ids.{ix_position}
+use Rattle.guppy_graph.specs.Graph.{GraphData}
 use Rattle.guppy.proofs.Halves.{member_below}
 
 -- roots are positions of the set's graph

@@ -4,7 +4,7 @@ use Rattle.std.specs.Prelude.{◌↔◌}
 use Rattle.std.specs.Cmp.{both_ways}
 use Rattle.std.proofs.lemmas.Slice.Eq.{slice_eq-Decides, bytes_eq-Decides}
 use Rattle.guppy_data.specs.declared.records.PackageRecord.{PackageRecord}
-use Rattle.guppy.specs.Ids.{ids_of}
+use Rattle.guppy_graph.specs.Ids.{ids_of}
 use Rattle.guppy.specs.Same.{same_ids}
 
 -- the lists are the same exactly where they are equal

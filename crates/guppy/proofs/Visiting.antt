@@ -1,17 +1,17 @@
 -- Links as visitors are shown them, and the states of visitors over a trace.
 use Rattle.std.proofs.Common.{◌≡◌, ◌∙◌, sym, refl, ap, subst, ℕ, ◌<◌, List, [], ◌∷◌, Bool, Some, slice_get}
 use Rattle.std.specs.List.{FoldsTo}
-use Rattle.guppy_core.specs.declared.ix.direction.DependencyDirection.{DependencyDirection}
-use Rattle.guppy_core.specs.declared.ix.direction.DependencyDirection.TheVariants.{Forward, Reverse}
-use Rattle.guppy_core.specs.declared.graph_core.link.Link.{Link}
+use Rattle.guppy_search.specs.declared.ix.direction.DependencyDirection.{DependencyDirection}
+use Rattle.guppy_search.specs.declared.ix.direction.DependencyDirection.TheVariants.{Forward, Reverse}
+use Rattle.guppy_search.specs.declared.graph_core.link.Link.{Link}
 use Rattle.guppy_core.specs.Links.{near_end}
 use Rattle.guppy_core.specs.Resolve.{Visits}
 use Rattle.guppy_data.specs.declared.records.PackageRecord.{PackageRecord}
 use Rattle.guppy_data.specs.declared.records.LinkRecord.{LinkRecord}
-use Rattle.guppy.specs.Ids.{HasId}
+use Rattle.guppy_graph.specs.Ids.{HasId}
 use Rattle.guppy.specs.Query.{QueryData, IncludesId, initials_of}
 use Rattle.guppy.specs.Visitors.{LinkData, StartsFromInitial}
-use Rattle.guppy.proofs.Named.{id_is}
+use Rattle.guppy_graph.proofs.Named.{id_is}
 
 -- the end that a link leaves lies between the same bounds as its ends
 pub near_end-below : {E : Type 0} (d : DependencyDirection) (l : Link E) (n : ℕ) → l.from < n → l.to < n → near_end d l < n

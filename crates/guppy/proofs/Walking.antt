@@ -1,6 +1,6 @@
 -- Links that are seen with their graph.
 use Rattle.std.proofs.Common.{◌↔◌, ap, subst, ℕ, List, map, Contains}
-use Rattle.guppy.specs.Graph.{GraphData}
+use Rattle.guppy_graph.specs.Graph.{GraphData}
 use Rattle.guppy.proofs.CyclicComponents.{Contains-map, from_map}
 
 -- a link is in the list exactly where its number is

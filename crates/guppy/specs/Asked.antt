@@ -3,7 +3,7 @@ use Rattle.std.specs.Prelude.{◌≡◌, ◌↔◌, ℕ, Bool, List, ◌∷◌, 
 use Rattle.std.specs.List.{Contains, FoldsTo}
 use Rattle.guppy_core.specs.IxSet.{IsIn, IsUnion}
 use Rattle.guppy.specs.declared.package_graph.types.PackageMetadata.{PackageMetadata}
-use Rattle.guppy.specs.Graph.{GraphData}
+use Rattle.guppy_graph.specs.Graph.{GraphData}
 use Rattle.guppy.specs.Listed.{package_in}
 
 -- A list of answers has the position of each package that was asked about, with the answer.

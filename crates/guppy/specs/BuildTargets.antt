@@ -1,9 +1,8 @@
 -- Which build targets a package has.
-use Rattle.std.specs.Prelude.{◌≡◌, ◌≢◌, List, Option, MatchOption, All, Any, map}
+use Rattle.std.specs.Prelude.{◌≡◌, ◌≢◌, List, Option, MatchOption, All, Any}
 use Rattle.std.specs.List.{Contains}
-use Rattle.std.specs.List.Sorted.{IsPermutation, IsStrictlySortedBy}
 use Rattle.guppy_data.specs.BuildTarget.{seen_target}
-use Rattle.guppy_data.specs.BuildTargetId.{TargetId, Library, BuildScript, recorded_id, target_id_cmp}
+use Rattle.guppy_data.specs.BuildTargetId.{TargetId, Library, BuildScript, recorded_id}
 use Rattle.guppy_data.specs.BuildTargetKind.{ProcMacro, recorded_kind}
 use Rattle.guppy_data.specs.declared.records.BuildTargetRecord.{BuildTargetRecord}
 use Rattle.guppy_data.specs.declared.records.PackageRecord.{PackageRecord}
@@ -28,8 +27,3 @@ NoTargetWith targets id = All (λ t. recorded_id t.id ≢ id) targets
 -- the package's target with the ID, if there is one
 abbrev pub IsTargetOf : PackageRecord → TargetId → Option BuildTarget → Type 0
 IsTargetOf r id found = MatchOption found (NoTargetWith r.build_targets.items id) (λ t. IsTargetWith r.build_targets.items id (seen_target t))
-
--- exactly the targets, each once, strictly ascending by ID
-pub record AreTargetsById (targets listed : List BuildTargetRecord) : Type 0 where
-  pub permutation : IsPermutation targets listed
-  pub ascend : IsStrictlySortedBy target_id_cmp (map (λ t. recorded_id t.id) listed)

@@ -1,12 +1,12 @@
 -- Links that leave one package.
 use Rattle.std.specs.Prelude.{◌≡◌, ℕ, List, Option, MatchOption, map, slice_get, IsSomeAnd}
 use Rattle.std.specs.Borrow.{Bor}
-use Rattle.guppy_core.specs.declared.ix.direction.DependencyDirection.{DependencyDirection}
+use Rattle.guppy_search.specs.declared.ix.direction.DependencyDirection.{DependencyDirection}
 use Rattle.guppy_core.specs.Links.{near_end, far_end, links_at}
 use Rattle.guppy.specs.declared.package_graph.types.PackageMetadata.{PackageMetadata}
 use Rattle.guppy.specs.declared.package_graph.types.PackageLink.{PackageLink}
-use Rattle.guppy.specs.Ids.{HasId}
-use Rattle.guppy.specs.Graph.{GraphData}
+use Rattle.guppy_graph.specs.Ids.{HasId}
+use Rattle.guppy_graph.specs.Graph.{GraphData}
 
 -- a link is seen as its graph and its number
 abbrev pub link_seen : PackageLink → Bor GraphData × ℕ

@@ -6,8 +6,8 @@ use Rattle.std.specs.Slice.Iter.{iter_rest}
 use Rattle.guppy.specs.declared.package_graph.graph.PackageIds.{PackageIds}
 use Rattle.guppy.specs.declared.package_graph.graph.AllPackages.{AllPackages}
 use Rattle.guppy.specs.declared.package_graph.types.PackageMetadata.{PackageMetadata}
-use Rattle.guppy.specs.Ids.{ids_of}
-use Rattle.guppy.specs.Graph.{GraphData}
+use Rattle.guppy_graph.specs.Ids.{ids_of}
+use Rattle.guppy_graph.specs.Graph.{GraphData}
 
 abbrev pub ids_left : PackageIds → List (List ℕ)
 ids_left s = ids_of (iter_rest s.rest)

@@ -1,15 +1,15 @@
 -- The lists of a set of packages.
 use Rattle.std.specs.Prelude.{ℕ, List, Option, map}
 use Rattle.std.specs.List.{concat, filter, filter_map}
-use Rattle.guppy_core.specs.declared.ix.direction.DependencyDirection.{DependencyDirection}
+use Rattle.guppy_search.specs.declared.ix.direction.DependencyDirection.{DependencyDirection}
 use Rattle.guppy_core.specs.IxSet.{has}
 use Rattle.guppy_core.specs.Sccs.{listed}
 use Rattle.guppy_data.specs.declared.records.PackageRecord.{PackageRecord}
 use Rattle.guppy.specs.declared.package_graph.types.PackageMetadata.{PackageMetadata}
 use Rattle.guppy.specs.declared.set.lists.ListedPackages.{ListedPackages}
 use Rattle.guppy.specs.declared.set.lists.ListedPackageIds.{ListedPackageIds}
-use Rattle.guppy.specs.Ids.{id_at}
-use Rattle.guppy.specs.Graph.{GraphData}
+use Rattle.guppy_graph.specs.Ids.{id_at}
+use Rattle.guppy_graph.specs.Graph.{GraphData}
 use Rattle.guppy.specs.Query.{SetData}
 
 -- the order of the graph, kept to the set: as it is, or from its end

@@ -4,10 +4,10 @@ use Rattle.std.specs.List.{filter}
 use Rattle.std.specs.Slice.Iter.{iter_rest}
 use Rattle.guppy.specs.declared.cycles.AllCycles.{AllCycles}
 use Rattle.guppy.specs.declared.cycles.CycleIds.{CycleIds}
-use Rattle.guppy.specs.Ids.{ix_position}
-use Rattle.guppy.specs.Graph.{GraphData}
+use Rattle.guppy_graph.specs.Ids.{ix_position}
+use Rattle.guppy_graph.specs.Graph.{GraphData}
 use Rattle.guppy.specs.Listed.{ids_at}
-use Rattle.guppy.specs.Cycles.{is_cyclic_component, cyclic_components}
+use Rattle.guppy_graph.specs.Cycles.{is_cyclic_component, cyclic_components}
 
 -- the cyclic components, in the order of the graph
 abbrev pub cycles_of : GraphData → List (List (List ℕ))

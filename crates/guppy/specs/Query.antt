@@ -1,11 +1,11 @@
 -- Sets of packages and queries as values.
 use Rattle.std.specs.Prelude.{◌≡◌, ◌↔◌, ℕ, Bool, List, length, All}
 use Rattle.std.specs.List.{Contains}
-use Rattle.guppy_core.specs.declared.ix.direction.DependencyDirection.{DependencyDirection}
+use Rattle.guppy_search.specs.declared.ix.direction.DependencyDirection.{DependencyDirection}
 use Rattle.guppy_core.specs.IxSet.{IsIn}
 use Rattle.guppy_data.specs.declared.records.PackageRecord.{PackageRecord}
-use Rattle.guppy.specs.Ids.{HasId, IsKnown}
-use Rattle.guppy.specs.Graph.{GraphData}
+use Rattle.guppy_graph.specs.Ids.{HasId, IsKnown}
+use Rattle.guppy_graph.specs.Graph.{GraphData}
 
 -- a set of packages of a graph, as the set of their positions
 pub record SetData : Type 0 where

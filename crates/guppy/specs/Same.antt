@@ -6,7 +6,7 @@ use Rattle.std.specs.Cmp.Lexicographic.{pointwise}
 use Rattle.std.specs.Str.{bytes_eq}
 use Rattle.guppy_data.specs.declared.records.PackageRecord.{PackageRecord}
 use Rattle.guppy.specs.declared.package_graph.types.PackageMetadata.{PackageMetadata}
-use Rattle.guppy.specs.Ids.{ids_of}
+use Rattle.guppy_graph.specs.Ids.{ids_of}
 use Rattle.guppy.specs.Query.{SetData}
 
 -- whether the lists of the packages' IDs are equal, position by position

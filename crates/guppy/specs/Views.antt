@@ -1,6 +1,6 @@
 -- What a view of a package or a link shows.
 use Rattle.std.specs.Prelude.{slice_get, IsSomeAnd}
-use Rattle.guppy_core.specs.declared.graph_core.link.Link.{Link}
+use Rattle.guppy_search.specs.declared.graph_core.link.Link.{Link}
 use Rattle.guppy_data.specs.declared.records.PackageRecord.{PackageRecord}
 use Rattle.guppy_data.specs.declared.records.LinkRecord.{LinkRecord}
 use Rattle.guppy.specs.declared.package_graph.types.PackageMetadata.{PackageMetadata}

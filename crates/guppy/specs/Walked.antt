@@ -1,13 +1,13 @@
 -- The links of a set that are walked from its roots.
 use Rattle.std.specs.Prelude.{◌≡◌, ◌↔◌, ℕ, true, List, map, Contains}
-use Rattle.guppy_core.specs.declared.ix.direction.DependencyDirection.{DependencyDirection}
-use Rattle.guppy_core.specs.declared.ix.direction.DependencyDirection.TheVariants.{Forward}
+use Rattle.guppy_search.specs.declared.ix.direction.DependencyDirection.{DependencyDirection}
+use Rattle.guppy_search.specs.declared.ix.direction.DependencyDirection.TheVariants.{Forward}
 use Rattle.guppy_core.specs.Reach.{LinkStep, MutualReach}
 use Rattle.guppy_core.specs.Roots.{IsRoot}
 use Rattle.guppy_core.specs.Walked.{AreWalked, IsLinkInside, HoldsComponents, numbers_of}
 use Rattle.guppy.specs.declared.package_graph.types.PackageLink.{PackageLink}
 use Rattle.guppy.specs.declared.set.links.WalkedLinks.{WalkedLinks}
-use Rattle.guppy.specs.Graph.{GraphData}
+use Rattle.guppy_graph.specs.Graph.{GraphData}
 use Rattle.guppy.specs.Query.{SetData}
 
 -- the position is a root of the set: no link inside the set enters its component, in the direction, from outside it; a component is a class of mutual reach over all links of the graph

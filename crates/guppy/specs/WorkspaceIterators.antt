@@ -11,10 +11,10 @@ use Rattle.guppy.specs.declared.workspace.members.MembersByName.{MembersByName}
 use Rattle.guppy.specs.declared.workspace.members.MemberIds.{MemberIds}
 use Rattle.guppy.specs.declared.workspace.default_members.DefaultMemberIds.{DefaultMemberIds}
 use Rattle.guppy.specs.declared.workspace.default_members.DefaultMembers.{DefaultMembers}
-use Rattle.guppy.specs.Keys.{or_empty}
-use Rattle.guppy.specs.Ids.{id_at}
-use Rattle.guppy.specs.Members.{path_at, name_at}
-use Rattle.guppy.specs.Graph.{GraphData}
+use Rattle.guppy_graph.specs.Keys.{or_empty}
+use Rattle.guppy_graph.specs.Ids.{id_at}
+use Rattle.guppy_graph.specs.Members.{path_at, name_at}
+use Rattle.guppy_graph.specs.Graph.{GraphData}
 
 -- a member is seen as its graph and its position
 abbrev pub member_seen : PackageMetadata → Bor GraphData × ℕ

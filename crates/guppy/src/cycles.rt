@@ -3,9 +3,9 @@ ghost use Rattle.std.specs.Prelude.{◌≡◌, ◌↔◌, ◌<◌, ℕ, List, []
 ghost use Rattle.std.specs.List.{filter};
 ghost use Rattle.std.specs.Iterator.{YieldsFirstBy, YieldsLastBy};
 ghost use Rattle.std.specs.Slice.Iter.{iter_rest};
-ghost use Rattle.guppy.specs.Ids.{IsKnown, ix_position};
-ghost use Rattle.guppy.specs.Refused.{NamesId, IsFirstUnknown};
-ghost use Rattle.guppy.specs.Cycles.{AreCyclic, has_self_link, is_cyclic_component};
+ghost use Rattle.guppy_graph.specs.Ids.{IsKnown, ix_position};
+ghost use Rattle.guppy_graph.specs.Refused.{NamesId, IsFirstUnknown};
+ghost use Rattle.guppy_graph.specs.Cycles.{AreCyclic, has_self_link, is_cyclic_component};
 
 pub use crate::package_graph::Cycles;
 use crate::package_graph::PackageGraph;
@@ -23,8 +23,8 @@ impl PackageGraph {
 }
 
 impl<'g> Cycles<'g> {
-    ghost use Rattle.guppy.specs.Ordered.{IsOrdered};
-    ghost use Rattle.guppy.specs.Cycles.{AreOnOne};
+    ghost use Rattle.guppy_graph.specs.Ordered.{IsOrdered};
+    ghost use Rattle.guppy_graph.specs.Cycles.{AreOnOne};
     ghost use Rattle.guppy.specs.ListedCycles.{cycles_of, cycles_to_come};
 
     /// Whether the two packages are on one cycle: whether at least one link leads from the first to

@@ -2,22 +2,33 @@
 //!
 //! No call takes memory. What is borrowed lives as long as the borrow of the graph, also where the
 //! view of the link is gone.
-ghost use Rattle.std.specs.Prelude.{◌≡◌};
+ghost use Rattle.std.specs.Prelude.{◌≡◌, ◌<◌, length, Some, slice_get};
 ghost use Rattle.std.specs.Option.{option_copied, option_map};
 ghost use Rattle.std.specs.String.{string_bytes};
 ghost use Rattle.guppy_data.specs.DependencyReq.{seen_req};
 ghost use Rattle.guppy_data.specs.Utf8Path.{path_text};
-ghost use Rattle.guppy.specs.DevOnly.{is_dev_only};
-ghost use Rattle.guppy.specs.Sections.{section_of};
+ghost use Rattle.guppy_graph.specs.DevOnly.{is_dev_only};
+ghost use Rattle.guppy_graph.specs.Sections.{section_of};
 ghost use Rattle.guppy.specs.Views.{OfLink};
 
 use crate::metadata::{path_of, text_of};
 pub use crate::package_graph::PackageLink;
-use crate::package_graph::{PackageMetadata, is_dev_only};
-use guppy_data::{DependencyKind, DependencyReq, Utf8Path};
+use crate::package_graph::PackageMetadata;
+use guppy_core::Link;
+use guppy_data::{DependencyKind, DependencyReq, LinkRecord, Utf8Path};
+use guppy_graph::is_dev_only;
 use semver::VersionReq;
 
 impl<'g> PackageLink<'g> {
+    // The link between positions, with its record.
+    fn link(self) -> &'g Link<LinkRecord>
+        ensures at { slice_get self.entry.graph.now.links self.entry.number ≡ Some result.now }
+        ensures from { result.now.from < length self.entry.graph.now.packages }
+        ensures to { result.now.to < length self.entry.graph.now.packages }
+    {
+        self.graph.link_at(self.number)
+    }
+
     /// The package that depends.
     pub fn from(self) -> PackageMetadata<'g>
         ensures graph { result.graph ≡ self.entry.graph }
@@ -25,7 +36,7 @@ impl<'g> PackageLink<'g> {
     {
         PackageMetadata {
             graph: self.graph,
-            position: self.graph.link_at(self.number).from,
+            position: self.link().from,
         }
     }
 
@@ -36,7 +47,7 @@ impl<'g> PackageLink<'g> {
     {
         PackageMetadata {
             graph: self.graph,
-            position: self.graph.link_at(self.number).to,
+            position: self.link().to,
         }
     }
 
@@ -60,56 +71,56 @@ impl<'g> PackageLink<'g> {
     pub fn dep_name(self) -> &'g str
         ensures { OfLink self.entry (λ l. result.now ≡ string_bytes l.edge.dep_name) }
     {
-        self.graph.link_at(self.number).edge.dep_name.as_str()
+        self.link().edge.dep_name.as_str()
     }
 
     /// The dependency's name in the code.
     pub fn resolved_name(self) -> &'g str
         ensures { OfLink self.entry (λ l. result.now ≡ string_bytes l.edge.resolved_name) }
     {
-        self.graph.link_at(self.number).edge.resolved_name.as_str()
+        self.link().edge.resolved_name.as_str()
     }
 
     /// The versions that are asked for.
     pub fn version_req(self) -> &'g VersionReq
         ensures { OfLink self.entry (λ l. result.now ≡ l.edge.version_req) }
     {
-        &self.graph.link_at(self.number).edge.version_req
+        &self.link().edge.version_req
     }
 
     /// The registry that is asked for.
     pub fn registry(self) -> Option<&'g str>
         ensures { OfLink self.entry (λ l. option_copied result ≡ option_map string_bytes l.edge.registry) }
     {
-        text_of(&self.graph.link_at(self.number).edge.registry)
+        text_of(&self.link().edge.registry)
     }
 
     /// The path that is asked for.
     pub fn path(self) -> Option<Utf8Path<'g>>
         ensures { OfLink self.entry (λ l. option_map path_text result ≡ l.edge.path) }
     {
-        path_of(&self.graph.link_at(self.number).edge.path)
+        path_of(&self.link().edge.path)
     }
 
     /// The dependency as a normal one.
     pub fn normal(self) -> DependencyReq<'g>
         ensures { OfLink self.entry (λ l. seen_req result ≡ l.edge.normal) }
     {
-        DependencyReq::new(&self.graph.link_at(self.number).edge.normal)
+        DependencyReq::new(&self.link().edge.normal)
     }
 
     /// The dependency as a build dependency.
     pub fn build(self) -> DependencyReq<'g>
         ensures { OfLink self.entry (λ l. seen_req result ≡ l.edge.build) }
     {
-        DependencyReq::new(&self.graph.link_at(self.number).edge.build)
+        DependencyReq::new(&self.link().edge.build)
     }
 
     /// The dependency as a dev-dependency.
     pub fn dev(self) -> DependencyReq<'g>
         ensures { OfLink self.entry (λ l. seen_req result ≡ l.edge.dev) }
     {
-        DependencyReq::new(&self.graph.link_at(self.number).edge.dev)
+        DependencyReq::new(&self.link().edge.dev)
     }
 
     /// The dependency as one of the kind.
@@ -128,6 +139,6 @@ impl<'g> PackageLink<'g> {
     pub fn dev_only(self) -> bool
         ensures { OfLink self.entry (λ l. result ≡ is_dev_only l.edge) }
     {
-        is_dev_only(&self.graph.link_at(self.number).edge)
+        is_dev_only(&self.link().edge)
     }
 }

@@ -2,14 +2,14 @@
 //!
 //! No call takes memory, but for the error that names an unknown ID. What is borrowed lives as long
 //! as the borrow of the graph, also where the view of the package is gone.
-ghost use Rattle.std.specs.Prelude.{◌≡◌, ◌↔◌, IsTrue, IsSome};
+ghost use Rattle.std.specs.Prelude.{◌≡◌, ◌↔◌, IsTrue, IsSome, Some, slice_get};
 ghost use Rattle.std.specs.Option.{option_copied, option_map};
 ghost use Rattle.std.specs.String.{string_bytes};
 ghost use Rattle.guppy_data.specs.PackagePublish.{recorded_publish, seen_publish};
 ghost use Rattle.guppy_data.specs.PackageSource.{recorded_origin, seen_origin};
 ghost use Rattle.guppy_data.specs.Utf8Path.{path_text};
-ghost use Rattle.guppy.specs.Members.{member_path};
-ghost use Rattle.guppy.specs.Ids.{ix_position};
+ghost use Rattle.guppy_graph.specs.Members.{member_path};
+ghost use Rattle.guppy_graph.specs.Ids.{ix_position};
 ghost use Rattle.guppy.specs.Views.{OfPackage};
 
 mod features;
@@ -20,7 +20,7 @@ use crate::package_graph::PackageGraph;
 pub use crate::package_graph::PackageMetadata;
 pub use features::{FeatureIndexInPackage, NamedFeatures, NamedFeaturesFull, OptionalDepsFull};
 use guppy_core::{IndexType, PackageIx};
-use guppy_data::{PackageId, PackagePublish, PackageSource, Utf8Path, Utf8PathBuf};
+use guppy_data::{PackageId, PackagePublish, PackageRecord, PackageSource, Utf8Path, Utf8PathBuf};
 pub use links::PackageLinks;
 use semver::Version;
 use serde_json::Value;
@@ -41,60 +41,67 @@ impl<'g> PackageMetadata<'g> {
         self.graph.ix_at(self.position)
     }
 
+    // The record of the package.
+    fn record(self) -> &'g PackageRecord
+        ensures { slice_get self.entry.graph.now.packages self.entry.position ≡ Some result.now }
+    {
+        self.graph.package_at(self.position)
+    }
+
     /// The ID, which no other package of the graph has.
     pub fn id(self) -> &'g PackageId
         ensures { OfPackage self.entry (λ r. result.now ≡ r.id) }
     {
-        &self.graph.package_at(self.position).id
+        &self.record().id
     }
 
     /// The name.
     pub fn name(self) -> &'g str
         ensures { OfPackage self.entry (λ r. result.now ≡ string_bytes r.name) }
     {
-        self.graph.package_at(self.position).name.as_str()
+        self.record().name.as_str()
     }
 
     /// The version.
     pub fn version(self) -> &'g Version
         ensures { OfPackage self.entry (λ r. result.now ≡ r.version) }
     {
-        &self.graph.package_at(self.position).version
+        &self.record().version
     }
 
     /// The authors.
     pub fn authors(self) -> &'g [String]
         ensures { OfPackage self.entry (λ r. result.now ≡ r.authors.items) }
     {
-        self.graph.package_at(self.position).authors.as_slice()
+        self.record().authors.as_slice()
     }
 
     /// The description.
     pub fn description(self) -> Option<&'g str>
         ensures { OfPackage self.entry (λ r. option_copied result ≡ option_map string_bytes r.description) }
     {
-        text_of(&self.graph.package_at(self.position).description)
+        text_of(&self.record().description)
     }
 
     /// The license, as an SPDX expression.
     pub fn license(self) -> Option<&'g str>
         ensures { OfPackage self.entry (λ r. option_copied result ≡ option_map string_bytes r.license) }
     {
-        text_of(&self.graph.package_at(self.position).license)
+        text_of(&self.record().license)
     }
 
     /// The path of the license's text, from the manifest.
     pub fn license_file(self) -> Option<Utf8Path<'g>>
         ensures { OfPackage self.entry (λ r. option_map path_text result ≡ r.license_file) }
     {
-        path_of(&self.graph.package_at(self.position).license_file)
+        path_of(&self.record().license_file)
     }
 
     /// Where the package comes from.
     pub fn source(self) -> PackageSource<'g>
         ensures { OfPackage self.entry (λ r. seen_origin result ≡ recorded_origin r.source) }
     {
-        PackageSource::new(&self.graph.package_at(self.position).source)
+        PackageSource::new(&self.record().source)
     }
 
     /// Whether the package is a member of the workspace.
@@ -108,91 +115,91 @@ impl<'g> PackageMetadata<'g> {
     pub fn manifest_path(self) -> Utf8Path<'g>
         ensures { OfPackage self.entry (λ r. path_text result ≡ r.manifest_path) }
     {
-        self.graph.package_at(self.position).manifest_path.as_path()
+        self.record().manifest_path.as_path()
     }
 
     /// The categories.
     pub fn categories(self) -> &'g [String]
         ensures { OfPackage self.entry (λ r. result.now ≡ r.categories.items) }
     {
-        self.graph.package_at(self.position).categories.as_slice()
+        self.record().categories.as_slice()
     }
 
     /// The keywords.
     pub fn keywords(self) -> &'g [String]
         ensures { OfPackage self.entry (λ r. result.now ≡ r.keywords.items) }
     {
-        self.graph.package_at(self.position).keywords.as_slice()
+        self.record().keywords.as_slice()
     }
 
     /// The path of the readme, from the manifest.
     pub fn readme(self) -> Option<Utf8Path<'g>>
         ensures { OfPackage self.entry (λ r. option_map path_text result ≡ r.readme) }
     {
-        path_of(&self.graph.package_at(self.position).readme)
+        path_of(&self.record().readme)
     }
 
     /// The URL of the repository.
     pub fn repository(self) -> Option<&'g str>
         ensures { OfPackage self.entry (λ r. option_copied result ≡ option_map string_bytes r.repository) }
     {
-        text_of(&self.graph.package_at(self.position).repository)
+        text_of(&self.record().repository)
     }
 
     /// The URL of the homepage.
     pub fn homepage(self) -> Option<&'g str>
         ensures { OfPackage self.entry (λ r. option_copied result ≡ option_map string_bytes r.homepage) }
     {
-        text_of(&self.graph.package_at(self.position).homepage)
+        text_of(&self.record().homepage)
     }
 
     /// The URL of the documentation.
     pub fn documentation(self) -> Option<&'g str>
         ensures { OfPackage self.entry (λ r. option_copied result ≡ option_map string_bytes r.documentation) }
     {
-        text_of(&self.graph.package_at(self.position).documentation)
+        text_of(&self.record().documentation)
     }
 
     /// The Rust edition.
     pub fn edition(self) -> &'g str
         ensures { OfPackage self.entry (λ r. result.now ≡ string_bytes r.edition) }
     {
-        self.graph.package_at(self.position).edition.as_str()
+        self.record().edition.as_str()
     }
 
     /// The manifest's free table `package.metadata`.
     pub fn metadata_table(self) -> &'g Value
         ensures { OfPackage self.entry (λ r. result.now ≡ r.metadata_table) }
     {
-        &self.graph.package_at(self.position).metadata_table
+        &self.record().metadata_table
     }
 
     /// The native library that the package links to.
     pub fn links(self) -> Option<&'g str>
         ensures { OfPackage self.entry (λ r. option_copied result ≡ option_map string_bytes r.links) }
     {
-        text_of(&self.graph.package_at(self.position).links)
+        text_of(&self.record().links)
     }
 
     /// Where the package may be published.
     pub fn publish(self) -> PackagePublish<'g>
         ensures { OfPackage self.entry (λ r. seen_publish result ≡ recorded_publish r.publish) }
     {
-        PackagePublish::new(&self.graph.package_at(self.position).publish)
+        PackagePublish::new(&self.record().publish)
     }
 
     /// The binary that `cargo run` runs.
     pub fn default_run(self) -> Option<&'g str>
         ensures { OfPackage self.entry (λ r. option_copied result ≡ option_map string_bytes r.default_run) }
     {
-        text_of(&self.graph.package_at(self.position).default_run)
+        text_of(&self.record().default_run)
     }
 
     /// The oldest Rust that builds the package.
     pub fn rust_version(self) -> Option<&'g Version>
         ensures { OfPackage self.entry (λ r. option_copied result ≡ r.rust_version) }
     {
-        self.graph.package_at(self.position).rust_version.as_ref()
+        self.record().rust_version.as_ref()
     }
 }
 

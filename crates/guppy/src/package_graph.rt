@@ -1,18 +1,12 @@
-//! The graph of packages, made of records that are checked once.
-mod build;
+//! The graph of packages: `RecordGraph` of `guppy_graph`, as its users see it.
 mod depends_cache;
-mod dev_only;
 mod graph;
-mod keyed;
-mod keys;
-mod order;
+mod positions;
 mod types;
-mod verify;
 
 pub use depends_cache::DependsCache;
-pub(crate) use dev_only::is_dev_only;
-pub use graph::{AllPackages, PackageGraph, PackageIds, Packages};
-pub(crate) use keys::{name_at, path_at};
+pub use graph::{AllPackages, PackageGraph, PackageIds};
+pub use guppy_graph::Packages;
 pub use types::{
     Cycles, PackageLink, PackageLinkContext, PackageMetadata, PackageQuery, PackageSet, Workspace,
 };

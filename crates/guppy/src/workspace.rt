@@ -6,7 +6,7 @@
 ghost use Rattle.std.specs.Prelude.{◌≡◌, ◌↔◌, IsTrue, length};
 ghost use Rattle.std.specs.Option.{option_map};
 ghost use Rattle.guppy_data.specs.Utf8Path.{path_text};
-ghost use Rattle.guppy.specs.Members.{IsMemberPath, IsMemberName, members_of};
+ghost use Rattle.guppy_graph.specs.Members.{IsMemberPath, IsMemberName, members_of};
 
 mod default_members;
 mod lookups;
@@ -16,7 +16,7 @@ use crate::metadata::path_of;
 use crate::package_graph::PackageGraph;
 pub use crate::package_graph::Workspace;
 pub use default_members::{DefaultMemberIds, DefaultMembers};
-use guppy_data::Utf8Path;
+use guppy_data::{Utf8Path, WorkspaceRecord};
 pub use members::{MemberIds, Members, MembersByName, MembersByPath};
 use serde_json::Value;
 
@@ -30,32 +30,39 @@ impl PackageGraph {
 }
 
 impl<'g> Workspace<'g> {
+    // The record of the workspace.
+    fn record(self) -> &'g WorkspaceRecord
+        ensures { result.now ≡ self.entry.graph.now.workspace }
+    {
+        self.graph.workspace_record()
+    }
+
     /// The path of the workspace's root.
     pub fn root(self) -> Utf8Path<'g>
         ensures { path_text result ≡ self.entry.graph.now.workspace.root }
     {
-        self.graph.workspace_record().root.as_path()
+        self.record().root.as_path()
     }
 
     /// The path that Cargo builds into.
     pub fn target_directory(self) -> Utf8Path<'g>
         ensures { path_text result ≡ self.entry.graph.now.workspace.target_directory }
     {
-        self.graph.workspace_record().target_directory.as_path()
+        self.record().target_directory.as_path()
     }
 
     /// The path of what Cargo makes on its way, where it is another one.
     pub fn build_directory(self) -> Option<Utf8Path<'g>>
         ensures { option_map path_text result ≡ self.entry.graph.now.workspace.build_directory }
     {
-        path_of(&self.graph.workspace_record().build_directory)
+        path_of(&self.record().build_directory)
     }
 
     /// The manifest's free table `workspace.metadata`.
     pub fn metadata_table(self) -> &'g Value
         ensures { result.now ≡ self.entry.graph.now.workspace.metadata_table }
     {
-        &self.graph.workspace_record().metadata_table
+        &self.record().metadata_table
     }
 
     /// How many members the workspace has. Takes constant time.

@@ -4,13 +4,13 @@ use Rattle.std.specs.Prelude.{slice_get}
 use Rattle.std.specs.List.{concat}
 use Rattle.std.proofs.lemmas.Bool.{cases_lt, cases_eq, cases_order, cases_Bool}
 use Rattle.std.proofs.lemmas.Option.{slice_get_within}
-use Rattle.guppy_core.specs.declared.ix.direction.DependencyDirection.TheVariants.{Forward}
-use Rattle.guppy_core.specs.declared.graph_core.link.Link.{Link}
-use Rattle.guppy_core.specs.Reach.{Step, Walk, here}
+use Rattle.guppy_search.specs.declared.ix.direction.DependencyDirection.TheVariants.{Forward}
+use Rattle.guppy_search.specs.declared.graph_core.link.Link.{Link}
+use Rattle.guppy_search.specs.Reach.{Step, Walk, here}
 use Rattle.guppy_core.specs.Listing.{Stands, IsOnce, IsListing}
 use Rattle.guppy_core.specs.Topo.{IsEntered, FromRoot, IsTopo, HasNoCycle, LeadsOn}
 use Rattle.guppy_core.specs.Sccs.{AreSccs}
-use Rattle.guppy_core.proofs.Walks.{walk_from}
+use Rattle.guppy_search.proofs.Walks.{walk_from}
 use Rattle.guppy_core.proofs.Lengths.{length_of_once}
 use Rattle.guppy_core.proofs.Blocks.{earlier, within, all_placed}
 

@@ -6,7 +6,7 @@ use Rattle.std.proofs.Math.Dec.{ltb}
 use Rattle.std.proofs.lemmas.Bool.{cases_order, eqb-true, eq-eqb, lt-ltb, ltb-true}
 use Rattle.std.proofs.lemmas.List.{length-drop, length-take-le, get_or_default}
 use Rattle.std.proofs.lemmas.Option.{slice_get_within}
-use Rattle.guppy_core.specs.Reach.{Walk}
+use Rattle.guppy_search.specs.Reach.{Walk}
 use Rattle.guppy_core.specs.Listing.{Stands, IsOnce, IsListing}
 use Rattle.guppy_core.specs.Order.{IsOrder}
 use Rattle.guppy_core.specs.Sccs.{AreSccs, AreNumbered, InOneBlock, InLargeBlock, IsCut, parts, parts_from}

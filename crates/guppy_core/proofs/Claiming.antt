@@ -3,8 +3,8 @@ use Rattle.std.proofs.Common.{◌≡◌, ◌⊎◌, ◌↔◌, ℕ, ◌<◌, Boo
 use Rattle.std.proofs.Math.ListN.{set, length-set}
 use Rattle.std.proofs.lemmas.Bool.{false_from_ne_true}
 use Rattle.std.proofs.lemmas.List.{get_or-set_same, get_or-set_other}
-use Rattle.guppy_core.specs.Reach.{Walk, here, step}
-use Rattle.guppy_core.specs.IxSet.{has}
+use Rattle.guppy_search.specs.Reach.{Walk, here, step}
+use Rattle.guppy_search.specs.IxSet.{has}
 use Rattle.guppy_core.specs.Mark.{Marks}
 use Rattle.guppy_core.proofs.Reaching.{Reaching, marked, complete}
 use Rattle.guppy_core.proofs.Inserted.{has-set_cases, has-set_kept}

@@ -1,19 +1,19 @@
 -- The row of a position that is taken link by link.
 use Rattle.std.proofs.Common.{◌≡◌, ◌⊎◌, ℕ, ◌+◌, ◌<◌, ◌≤◌, Bool, true, List, [], ◌∷◌, ◌++◌, length, get_or, refl, ◌∙◌, arith, inl, inr, ⊎_elim, subst, Some}
 use Rattle.std.specs.Prelude.{Contains, slice_get}
-use Rattle.guppy_core.specs.declared.ix.direction.DependencyDirection.{DependencyDirection}
-use Rattle.guppy_core.specs.declared.graph_core.link.Link.{Link}
-use Rattle.guppy_core.specs.Links.{near_end, far_end, links_at}
-use Rattle.guppy_core.proofs.Rows.{IsRowLink, row_links, row_has}
+use Rattle.guppy_search.specs.declared.ix.direction.DependencyDirection.{DependencyDirection}
+use Rattle.guppy_search.specs.declared.graph_core.link.Link.{Link}
+use Rattle.guppy_search.specs.Links.{near_end, far_end, links_at}
+use Rattle.guppy_search.proofs.Rows.{IsRowLink, row_links, row_has}
 use Rattle.std.proofs.lemmas.List.{get_or_default}
 use Rattle.std.proofs.lemmas.Bool.{cases_lt}
 use Rattle.std.proofs.lemmas.List.Elements.{Contains-push}
-use Rattle.guppy_core.specs.Graph.{GraphValue}
-use Rattle.guppy_core.specs.Reach.{Step, step, ReachedFrom}
-use Rattle.guppy_core.specs.IxSet.{has}
+use Rattle.guppy_search.specs.Graph.{GraphValue}
+use Rattle.guppy_search.specs.Reach.{Step, step, ReachedFrom}
+use Rattle.guppy_search.specs.IxSet.{has}
 use Rattle.guppy_core.specs.Mark.{Marks}
 use Rattle.guppy_core.proofs.Reaching.{Reaching, fuel, marked, opened, finished}
-use Rattle.guppy_core.proofs.Members.{IsIn-below}
+use Rattle.guppy_search.proofs.Members.{IsIn-below}
 
 -- no position is open
 pub record Between (R : ℕ → ℕ → Type 0) (IsStart : ℕ → Type 0) (limit : ℕ) (seen : List Bool) (stack : List ℕ) : Type 0 where

@@ -3,10 +3,10 @@ use Rattle.std.proofs.Common.{◌≡◌, ℕ, suc, zero, ◌+◌, ◌-◌, ◌<�
 use Rattle.std.proofs.Math.ListN.{set}
 use Rattle.std.specs.Prelude.{◌==◌}
 use Rattle.std.proofs.lemmas.Bool.{eqb-true}
-use Rattle.guppy_core.specs.declared.ix.direction.DependencyDirection.{DependencyDirection}
-use Rattle.guppy_core.specs.declared.graph_core.link.Link.{Link}
-use Rattle.guppy_core.specs.Links.{near_end, numbers_where, links_at}
-use Rattle.guppy_core.specs.IxSet.{has}
+use Rattle.guppy_search.specs.declared.ix.direction.DependencyDirection.{DependencyDirection}
+use Rattle.guppy_search.specs.declared.graph_core.link.Link.{Link}
+use Rattle.guppy_search.specs.Links.{near_end, numbers_where, links_at}
+use Rattle.guppy_search.specs.IxSet.{has}
 use Rattle.guppy_core.specs.Mark.{Marks}
 use Rattle.guppy_core.specs.Cost.{missing_cost}
 

@@ -3,14 +3,14 @@ use Rattle.std.proofs.Common.{◌≡◌, ◌⊎◌, ◌↔◌, ℕ, ◌+◌, ◌
 use Rattle.std.proofs.Math.ListN.{set, length-set, length-replicate}
 use Rattle.std.proofs.lemmas.Bool.{cases_lt, cases_eq, cases_Bool}
 use Rattle.std.proofs.lemmas.List.{get_or-set_same}
-use Rattle.guppy_core.specs.declared.graph_core.link.Link.{Link}
-use Rattle.guppy_core.specs.declared.ix.direction.DependencyDirection.TheVariants.{Forward}
-use Rattle.guppy_core.specs.Reach.{Step}
-use Rattle.guppy_core.specs.IxSet.{has, IsIn}
+use Rattle.guppy_search.specs.declared.graph_core.link.Link.{Link}
+use Rattle.guppy_search.specs.declared.ix.direction.DependencyDirection.TheVariants.{Forward}
+use Rattle.guppy_search.specs.Reach.{Step}
+use Rattle.guppy_search.specs.IxSet.{has, IsIn}
 use Rattle.guppy_core.specs.Listing.{Stands, IsAbsence}
 use Rattle.guppy_core.specs.Topo.{IsEntered, IsRoot, LeadsAway}
 use Rattle.guppy_core.proofs.Inserted.{has-set_kept, has-set_cases}
-use Rattle.guppy_core.proofs.Members.{has-replicate}
+use Rattle.guppy_search.proofs.Members.{has-replicate}
 use Rattle.guppy_core.proofs.Costs.{degree}
 use Rattle.guppy_core.proofs.Finishing.{LinkTo, Looked, step_place, looked_step, looked_only, looked_none}
 

@@ -5,18 +5,18 @@ use Rattle.std.proofs.Math.ListN.{set, length-replicate}
 use Rattle.std.proofs.lemmas.Bool.{cases_lt, not-false}
 use Rattle.std.proofs.lemmas.List.{get_or_default, set-get_or, get_or-set_same}
 use Rattle.std.proofs.lemmas.List.Elements.{All-nil, Contains-get_or}
-use Rattle.guppy_core.specs.declared.ix.direction.DependencyDirection.{DependencyDirection}
-use Rattle.guppy_core.specs.declared.graph_core.link.Link.{Link}
-use Rattle.guppy_core.specs.Links.{near_end, far_end, links_at}
-use Rattle.guppy_core.specs.Graph.{GraphValue, IsGraph}
-use Rattle.guppy_core.specs.Reach.{Step}
-use Rattle.guppy_core.proofs.Rows.{row_links, row_has}
-use Rattle.guppy_core.specs.IxSet.{has}
+use Rattle.guppy_search.specs.declared.ix.direction.DependencyDirection.{DependencyDirection}
+use Rattle.guppy_search.specs.declared.graph_core.link.Link.{Link}
+use Rattle.guppy_search.specs.Links.{near_end, far_end, links_at}
+use Rattle.guppy_search.specs.Graph.{GraphValue, IsGraph}
+use Rattle.guppy_search.specs.Reach.{Step}
+use Rattle.guppy_search.proofs.Rows.{row_links, row_has}
+use Rattle.guppy_search.specs.IxSet.{has}
 use Rattle.guppy_core.specs.Finish.{IsFinishList}
 use Rattle.guppy_core.specs.declared.topo.finish.Frame.{Frame}
 use Rattle.guppy_core.proofs.Inserted.{has-set_kept}
-use Rattle.guppy_core.proofs.Members.{IsIn-below, has-replicate}
-use Rattle.guppy_core.proofs.Searching.{far_end_below}
+use Rattle.guppy_search.proofs.Members.{IsIn-below, has-replicate}
+use Rattle.guppy_search.proofs.Searching.{far_end_below}
 use Rattle.std.proofs.lemmas.Option.{slice_get-get_or}
 use Rattle.guppy_core.specs.Cost.{missing_cost}
 use Rattle.guppy_core.proofs.Costs.{owed_first, degree}

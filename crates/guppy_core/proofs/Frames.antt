@@ -5,8 +5,8 @@ use Rattle.std.proofs.lemmas.List.{get_or-set_same}
 use Rattle.std.proofs.lemmas.Bool.{cases_lt}
 use Rattle.std.proofs.lemmas.List.Elements.{All-pop, All-push, All-weaker, All-nil}
 use Rattle.std.specs.Prelude.{All}
-use Rattle.guppy_core.specs.Reach.{Walk, here, step, ReachedFrom}
-use Rattle.guppy_core.specs.IxSet.{has}
+use Rattle.guppy_search.specs.Reach.{Walk, here, step, ReachedFrom}
+use Rattle.guppy_search.specs.IxSet.{has}
 use Rattle.guppy_core.specs.declared.topo.finish.Frame.{Frame}
 use Rattle.guppy_core.proofs.Inserted.{has-set_kept}
 use Rattle.guppy_core.specs.Cost.{missing_cost}

@@ -5,9 +5,9 @@ use Rattle.std.proofs.Math.ListN.{set}
 use Rattle.std.proofs.lemmas.Bool.{cases_lt}
 use Rattle.std.proofs.lemmas.List.{get_or-set_same}
 use Rattle.std.proofs.lemmas.Option.{slice_get_within}
-use Rattle.guppy_core.specs.Reach.{Walk, here, step, ReachedFrom}
-use Rattle.guppy_core.proofs.Walks.{walk_on, walk_from}
-use Rattle.guppy_core.specs.IxSet.{has}
+use Rattle.guppy_search.specs.Reach.{Walk, here, step, ReachedFrom}
+use Rattle.guppy_search.proofs.Walks.{walk_on, walk_from}
+use Rattle.guppy_search.specs.IxSet.{has}
 use Rattle.guppy_core.specs.Finish.{IsRooted, IsFinishList}
 use Rattle.guppy_core.specs.Listing.{Stands, StandsBefore}
 use Rattle.guppy_core.proofs.Inserted.{has-set_kept, has-set_cases}

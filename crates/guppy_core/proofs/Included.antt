@@ -6,12 +6,12 @@ use Rattle.std.proofs.Math.ListN.{set}
 use Rattle.std.proofs.lemmas.List.{get_or-set_same, get_or-set_other, length-reverse, reverse-append, append-nil}
 use Rattle.std.proofs.lemmas.List.Elements.{filter-append}
 use Rattle.std.proofs.lemmas.Option.{slice_get-get_or}
-use Rattle.guppy_core.specs.declared.ix.direction.DependencyDirection.{DependencyDirection}
-use Rattle.guppy_core.specs.declared.ix.direction.DependencyDirection.TheVariants.{Forward, Reverse}
-use Rattle.guppy_core.specs.IxSet.{has, IsIn, member_count}
+use Rattle.guppy_search.specs.declared.ix.direction.DependencyDirection.{DependencyDirection}
+use Rattle.guppy_search.specs.declared.ix.direction.DependencyDirection.TheVariants.{Forward, Reverse}
+use Rattle.guppy_search.specs.IxSet.{has, IsIn, member_count}
 use Rattle.guppy_core.specs.Listing.{Stands, IsOnce, IsListing}
 use Rattle.guppy_core.specs.Sccs.{listed}
-use Rattle.guppy_core.proofs.Members.{IsIn-below}
+use Rattle.guppy_search.proofs.Members.{IsIn-below}
 use Rattle.guppy_core.proofs.Listings.{stands_reversed}
 
 last_kept : {X : Type 0} (b : Bool) (x : X) (ys : List X) → reverse ys ++ cond b (x ∷ []) [] ≡ reverse (cond b (x ∷ ys) ys)

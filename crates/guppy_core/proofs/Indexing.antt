@@ -4,9 +4,9 @@ use Rattle.std.specs.Prelude.{slice_get, All, Contains}
 use Rattle.std.proofs.lemmas.Option.{slice_get-get_or}
 use Rattle.std.proofs.lemmas.List.Elements.{All-contains}
 use Rattle.std.proofs.lemmas.Bool.{cases_Bool, cases_order}
-use Rattle.guppy_core.specs.Reach.{step}
+use Rattle.guppy_search.specs.Reach.{step}
 use Rattle.std.proofs.lemmas.List.{length-reverse}
-use Rattle.guppy_core.specs.IxSet.{has}
+use Rattle.guppy_search.specs.IxSet.{has}
 use Rattle.guppy_core.specs.Finish.{IsFinishList}
 use Rattle.guppy_core.specs.Listing.{Stands, IsOnce, IsListing, IsAbsence}
 use Rattle.guppy_core.specs.Topo.{IsRoot, FromRoot, IsTopo}

@@ -1,8 +1,8 @@
 -- The members of a set after one insert.
 use Rattle.std.proofs.Common.{◌≡◌, ◌⊎◌, ℕ, suc, zero, Bool, true, List, [], ◌∷◌, refl, sym, inl, inr}
 use Rattle.std.proofs.Math.ListN.{set}
-use Rattle.guppy_core.specs.IxSet.{has}
-use Rattle.guppy_core.proofs.Members.{member-set_cases}
+use Rattle.guppy_search.specs.IxSet.{has}
+use Rattle.guppy_search.proofs.Members.{member-set_cases}
 
 pub has-set_kept : (s : List Bool) (p q : ℕ) → has s q ≡ true → has (set s p true) q ≡ true
 has-set_kept [] p q h = h

@@ -4,12 +4,12 @@ use Rattle.std.specs.Prelude.{slice_get, Contains}
 use Rattle.std.proofs.lemmas.Bool.{cases_lt, false_from_ne_true}
 use Rattle.std.proofs.lemmas.List.{length-reverse, reverse-reverse}
 use Rattle.std.proofs.lemmas.Option.{slice_get_within}
-use Rattle.guppy_core.specs.Reach.{Walk, here, step}
-use Rattle.guppy_core.proofs.Walks.{walk_on, walk_back}
-use Rattle.guppy_core.specs.IxSet.{has}
+use Rattle.guppy_search.specs.Reach.{Walk, here, step}
+use Rattle.guppy_search.proofs.Walks.{walk_on, walk_back}
+use Rattle.guppy_search.specs.IxSet.{has}
 use Rattle.guppy_core.specs.Finish.{IsFinishList}
 use Rattle.guppy_core.specs.Listing.{Stands}
-use Rattle.guppy_core.proofs.Members.{IsIn-below}
+use Rattle.guppy_search.proofs.Members.{IsIn-below}
 use Rattle.guppy_core.proofs.Listings.{stands_contains, at_reversed}
 use Rattle.guppy_core.specs.Claim.{IsClosed, Claims}
 use Rattle.guppy_core.specs.Components.{AreNumbers}

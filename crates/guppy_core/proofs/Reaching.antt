@@ -4,10 +4,10 @@ use Rattle.std.proofs.Math.ListN.{set, length-set}
 use Rattle.std.specs.Prelude.{Contains}
 use Rattle.std.proofs.lemmas.List.{get_or-set_same}
 use Rattle.std.proofs.lemmas.List.Elements.{Contains-append_left, Contains-push, Contains-push_cases}
-use Rattle.guppy_core.specs.Reach.{Walk, here, step, ReachedFrom}
-use Rattle.guppy_core.specs.IxSet.{has, member_count}
+use Rattle.guppy_search.specs.Reach.{Walk, here, step, ReachedFrom}
+use Rattle.guppy_search.specs.IxSet.{has, member_count}
 use Rattle.guppy_core.specs.Mark.{Marks}
-use Rattle.guppy_core.proofs.Members.{member_count-set, member_count-lt-length}
+use Rattle.guppy_search.proofs.Members.{member_count-set, member_count-lt-length}
 use Rattle.guppy_core.proofs.Inserted.{has-set_kept, has-set_cases}
 
 -- each step from q leads to a position that was seen

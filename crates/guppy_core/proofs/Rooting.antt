@@ -6,15 +6,15 @@ use Rattle.std.proofs.Math.ListN.{set, length-set, length-replicate}
 use Rattle.std.proofs.lemmas.Bool.{cases_lt, cases_Bool, eqb-true, eq-eqb}
 use Rattle.std.proofs.lemmas.List.{get_or-set_same, get_or_default}
 use Rattle.std.proofs.lemmas.List.FromFn.{get_or-map-range_with_len}
-use Rattle.guppy_core.specs.declared.graph_core.link.Link.{Link}
-use Rattle.guppy_core.specs.declared.ix.direction.DependencyDirection.{DependencyDirection}
-use Rattle.guppy_core.specs.Reach.{LinkStep, Walk}
-use Rattle.guppy_core.specs.IxSet.{has, IsIn}
+use Rattle.guppy_search.specs.declared.graph_core.link.Link.{Link}
+use Rattle.guppy_search.specs.declared.ix.direction.DependencyDirection.{DependencyDirection}
+use Rattle.guppy_search.specs.Reach.{LinkStep, Walk}
+use Rattle.guppy_search.specs.IxSet.{has, IsIn}
 use Rattle.guppy_core.specs.Listing.{Stands, Ascends, IsAbsence}
 use Rattle.guppy_core.specs.Sccs.{AreSccs, AreNumbered, InOneBlock}
 use Rattle.guppy_core.specs.Roots.{EntersFrom, IsEntered, AreRoots, HasNumber}
 use Rattle.guppy_core.proofs.Inserted.{has-set_kept, has-set_cases}
-use Rattle.guppy_core.proofs.Members.{has-replicate, IsIn-below}
+use Rattle.guppy_search.proofs.Members.{has-replicate, IsIn-below}
 use Rattle.guppy_core.proofs.Listings.{absence_skipped, absence_more}
 use Rattle.guppy_core.proofs.Costs.{degree}
 use Rattle.guppy_core.proofs.Finishing.{LinkTo, Looked, step_place, looked_step, looked_only}

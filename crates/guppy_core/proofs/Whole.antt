@@ -3,19 +3,19 @@ use Rattle.std.proofs.Common.{◌≡◌, ◌⊎◌, ◌↔◌, ℕ, zero, suc, �
 use Rattle.std.specs.Prelude.{slice_get, Contains}
 use Rattle.std.proofs.lemmas.Bool.{cases_eq}
 use Rattle.std.proofs.lemmas.Option.{slice_get_within}
-use Rattle.guppy_core.specs.declared.ix.direction.DependencyDirection.{DependencyDirection}
-use Rattle.guppy_core.specs.declared.ix.direction.DependencyDirection.TheVariants.{Forward, Reverse}
-use Rattle.guppy_core.specs.declared.graph_core.link.Link.{Link}
-use Rattle.guppy_core.specs.Links.{near_end}
-use Rattle.guppy_core.specs.IxSet.{IsIn}
+use Rattle.guppy_search.specs.declared.ix.direction.DependencyDirection.{DependencyDirection}
+use Rattle.guppy_search.specs.declared.ix.direction.DependencyDirection.TheVariants.{Forward, Reverse}
+use Rattle.guppy_search.specs.declared.graph_core.link.Link.{Link}
+use Rattle.guppy_search.specs.Links.{near_end}
+use Rattle.guppy_search.specs.IxSet.{IsIn}
 use Rattle.guppy_core.specs.Listing.{Stands}
-use Rattle.guppy_core.specs.Reach.{LinkStep, Walk, here, step, ReachedFrom, IsPlainResolve, MutualReach}
+use Rattle.guppy_search.specs.Reach.{LinkStep, Walk, here, step, ReachedFrom, MutualReach}
 use Rattle.guppy_core.specs.Roots.{IsRoot}
 use Rattle.guppy_core.specs.Sccs.{AreSccs}
-use Rattle.guppy_core.specs.Walked.{StepInside, IsLinkInside, HoldsComponents, AreWalked}
-use Rattle.guppy_core.proofs.Lists.{nothing_in, Contains-first, Contains-later, Contains-cons_cases}
-use Rattle.guppy_core.proofs.Walks.{walk_on, walk_from, walk_back, step_back, step_forth}
-use Rattle.guppy_core.proofs.Walking.{near_inside}
+use Rattle.guppy_search.specs.Walked.{StepInside, IsLinkInside, HoldsComponents, AreWalked}
+use Rattle.guppy_search.proofs.Lists.{nothing_in, Contains-first, Contains-later, Contains-cons_cases}
+use Rattle.guppy_search.proofs.Walks.{walk_on, walk_from, walk_back, step_back, step_forth}
+use Rattle.guppy_search.proofs.Walking.{near_inside}
 
 contains_or_not : (xs : List ℕ) (n : ℕ) → Contains xs n ⊎ (¬ Contains xs n)
 contains_or_not [] n = inr (nothing_in n)
@@ -26,15 +26,6 @@ contains_or_not (x ∷ xs) n = elim (cases_eq x n) [
     | inr absent ↦ inr (λ c. elim (Contains-cons_cases x n xs c) [ inl e ↦ differ e | inr k ↦ absent k ])
   ]
 ]
-
--- a plain resolve holds each component that it touches
-pub plain_resolve_holds : {E : Type 0} (d : DependencyDirection) (links : List (Link E)) (initials set : List Bool) → IsPlainResolve d links initials set → HoldsComponents links set
-plain_resolve_holds Forward links initials set is x y h both =
-    let r = (is x).0 h in
-    (is y).1 (r.0, r.1, walk_on r.2 both.0)
-plain_resolve_holds Reverse links initials set is x y h both =
-    let r = (is x).0 h in
-    (is y).1 (r.0, r.1, walk_on r.2 (walk_back (LinkStep Forward links) (LinkStep Reverse links) (step_back (λ _. true) links) both.1))
 
 module _ {E : Type 0} (links : List (Link E)) (set : List Bool) (holds : HoldsComponents links set) where
   -- a walk that leads back stays in the set

@@ -1,6 +1,6 @@
 -- What a claim of positions leaves.
 use Rattle.std.specs.Prelude.{◌≡◌, ◌⊎◌, ℕ, Bool, true, false, List, slice_index, slice_set}
-use Rattle.guppy_core.specs.IxSet.{has}
+use Rattle.guppy_search.specs.IxSet.{has}
 
 -- no step leads out of the set
 abbrev pub IsClosed : (ℕ → ℕ → Type 0) → List Bool → Type 0

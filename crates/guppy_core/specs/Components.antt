@@ -1,6 +1,6 @@
 -- Numbers for the components.
 use Rattle.std.specs.Prelude.{◌≡◌, ◌↔◌, ℕ, ◌<◌, ◌≤◌, List, length, slice_index}
-use Rattle.guppy_core.specs.Reach.{Walk}
+use Rattle.guppy_search.specs.Reach.{Walk}
 
 -- the number of each position below n is that of its class of mutual reach, and steps lead to no lower number
 pub record AreNumbers (R : ℕ → ℕ → Type 0) (n : ℕ) (numbers : List ℕ) (count : ℕ) : Type 0 where

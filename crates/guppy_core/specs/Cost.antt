@@ -1,8 +1,8 @@
 -- What it costs to follow the links of positions.
 use Rattle.std.specs.Prelude.{ℕ, ◌+◌, Bool, true, false, List, [], ◌∷◌, length}
-use Rattle.guppy_core.specs.declared.ix.direction.DependencyDirection.{DependencyDirection}
-use Rattle.guppy_core.specs.declared.graph_core.link.Link.{Link}
-use Rattle.guppy_core.specs.Links.{links_at}
+use Rattle.guppy_search.specs.declared.ix.direction.DependencyDirection.{DependencyDirection}
+use Rattle.guppy_search.specs.declared.graph_core.link.Link.{Link}
+use Rattle.guppy_search.specs.Links.{links_at}
 
 -- what the positions cost that are not in the set, where the list begins at the position i
 abbrev pub missing_cost : (ℕ → ℕ) → ℕ → List Bool → ℕ

@@ -1,6 +1,6 @@
 -- The order in which a depth-first search finishes.
 use Rattle.std.specs.Prelude.{◌≡◌, ◌⊎◌, ◌↔◌, ℕ, ◌+◌, List, Some, slice_get}
-use Rattle.guppy_core.specs.Reach.{Walk, ReachedFrom}
+use Rattle.guppy_search.specs.Reach.{Walk, ReachedFrom}
 use Rattle.guppy_core.specs.Listing.{Stands, StandsBefore}
 
 -- one that is in mutual reach with x stands last among all that x reaches

@@ -1,6 +1,6 @@
 -- Lists of positions.
 use Rattle.std.specs.Prelude.{◌≡◌, ◌==◌, ◌↔◌, ℕ, ◌+◌, ◌<◌, Bool, false, if◌then◌else◌, List, [], ◌∷◌, length, Some, slice_get}
-use Rattle.guppy_core.specs.IxSet.{has}
+use Rattle.guppy_search.specs.IxSet.{has}
 
 -- x stands in the list
 abbrev pub Stands : List ℕ → ℕ → Type 0

@@ -1,6 +1,6 @@
 -- The order of positions by components.
 use Rattle.std.specs.Prelude.{◌≡◌, ℕ, ◌<◌, List, Some, slice_get}
-use Rattle.guppy_core.specs.Reach.{Walk}
+use Rattle.guppy_search.specs.Reach.{Walk}
 use Rattle.guppy_core.specs.Listing.{IsListing}
 
 -- the order has the positions below n, component by component, dependents first, each component by the index

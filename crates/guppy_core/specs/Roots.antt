@@ -1,6 +1,6 @@
 -- The roots of a set of positions.
 use Rattle.std.specs.Prelude.{◌≡◌, ◌↔◌, ℕ, Bool, List, slice_index}
-use Rattle.guppy_core.specs.IxSet.{IsIn}
+use Rattle.guppy_search.specs.IxSet.{IsIn}
 use Rattle.guppy_core.specs.Listing.{Stands, Ascends}
 
 -- A step is a link that leads from one position to another in a direction; Same says who is in one component with x.

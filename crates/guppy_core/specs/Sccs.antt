@@ -1,9 +1,9 @@
 -- The components as lists, and how they are laid out.
 use Rattle.std.specs.Prelude.{◌≡◌, ◌↔◌, ℕ, ◌+◌, ◌-◌, ◌<◌, ◌≤◌, List, [], ◌∷◌, length, reverse, Some, slice_get, slice_index}
 use Rattle.std.specs.List.{slice_range, concat}
-use Rattle.guppy_core.specs.declared.ix.direction.DependencyDirection.{DependencyDirection}
-use Rattle.guppy_core.specs.declared.ix.direction.DependencyDirection.TheVariants.{Forward, Reverse}
-use Rattle.guppy_core.specs.Reach.{Walk}
+use Rattle.guppy_search.specs.declared.ix.direction.DependencyDirection.{DependencyDirection}
+use Rattle.guppy_search.specs.declared.ix.direction.DependencyDirection.TheVariants.{Forward, Reverse}
+use Rattle.guppy_search.specs.Reach.{Walk}
 use Rattle.guppy_core.specs.Listing.{Stands, StandsBefore}
 
 -- who stands first in the block stands first in the order

@@ -1,6 +1,6 @@
 -- Topological orders of positions, also where there are cycles.
 use Rattle.std.specs.Prelude.{◌≡◌, ℕ, ◌<◌, List, Some, slice_get}
-use Rattle.guppy_core.specs.Reach.{Walk, ReachedFrom}
+use Rattle.guppy_search.specs.Reach.{Walk, ReachedFrom}
 use Rattle.guppy_core.specs.Listing.{IsListing}
 
 -- a step leads from a to p, and these are different

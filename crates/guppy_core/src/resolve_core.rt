@@ -1,25 +1,23 @@
 //! Sets of positions that a resolve included, over any kind of graph.
 ghost use Rattle.std.specs.Prelude.{◌≡◌, ◌⊎◌, ◌↔◌, ◌==◌, ℕ, ◌<◌, Bool, true, false, List, length, map, replicate, IfOk, OnOk, OnErr, All, Contains};
 ghost use Rattle.std.specs.Iterator.{IsFinite, HoldsAlong, Drains};
-ghost use Rattle.guppy_core.specs.IxSet.{has, IsIn, IsUnion, IsIntersection, IsDifference, IsSymmetricDifference, member_count};
+ghost use Rattle.guppy_search.specs.IxSet.{has, IsIn, IsUnion, IsIntersection, IsDifference, IsSymmetricDifference, member_count};
 ghost use Rattle.std.specs.List.{concat, filter};
-ghost use Rattle.guppy_core.specs.Buffered.{Question, Answers, Asks, EndsInError, JudgesBuffered};
+ghost use Rattle.guppy_search.specs.Buffered.{Question, Answers, Asks, EndsInError, JudgesBuffered};
 ghost use Rattle.guppy_core.specs.Listing.{IsListing};
 ghost use Rattle.guppy_core.specs.Sccs.{listed, AreSccs, InOneBlock};
-ghost use Rattle.guppy_core.specs.declared.ix.direction.DependencyDirection.TheVariants.{Forward};
-ghost use Rattle.guppy_core.specs.Graph.{LinkIs};
-ghost use Rattle.guppy_core.specs.Reach.{IsPlainResolve, LinkStep, MutualReach};
+ghost use Rattle.guppy_search.specs.declared.ix.direction.DependencyDirection.TheVariants.{Forward};
+ghost use Rattle.guppy_search.specs.Graph.{LinkIs};
+ghost use Rattle.guppy_search.specs.Reach.{IsPlainResolve, LinkStep, MutualReach};
 ghost use Rattle.guppy_core.specs.Roots.{IsRoot, AreRoots};
-ghost use Rattle.guppy_core.specs.Walked.{AreWalked, HoldsComponents, IsLinkInside, numbers_of};
-ghost use Rattle.guppy_core.specs.Resolve.{JudgesResolve, AcceptsAll, Visits, IsCallableBelow};
+ghost use Rattle.guppy_search.specs.Walked.{AreWalked, HoldsComponents, IsLinkInside, numbers_of};
+ghost use Rattle.guppy_search.specs.Resolve.{JudgesResolve, AcceptsAll, Visits, IsCallableBelow};
 
-use crate::dfs::{
-    BufferedEdgeFilter, reachable, reachable_buffered, reachable_buffered_mut, reachable_filtered,
-};
-use crate::graph_core::Graph;
-use crate::ix::{DependencyDirection, GraphSpec, IndexType, IxSet};
 use crate::scc::Sccs;
-use crate::walk::EdgeDfs;
+use guppy_search::{
+    BufferedEdgeFilter, DependencyDirection, EdgeDfs, Graph, GraphSpec, IndexType, IxSet,
+    reachable, reachable_buffered, reachable_buffered_mut, reachable_filtered,
+};
 use std::alloc::{AllocError, Global};
 use std::marker::Model;
 

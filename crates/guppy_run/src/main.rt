@@ -1,35 +1,12 @@
 //! Answers questions on a graph of packages, which it reads as lines.
 //!
-//! The modules, from the bottom up:
-//!
-//! - `device`: what bytes are read from and written to;
-//! - `fault`: why there is no answer;
-//! - `transfer`: reading to the end, and writing all;
-//! - `statements`: what a line says;
-//! - `records` and `input`: the records that the lines of an input say;
-//! - `load`: the package graph of these records;
-//! - `command`: what the arguments ask;
-//! - `answer`: what a command prints;
-//! - `run`: the program over any source and sink.
+//! What it does is `guppy_program`'s `run`; here stand its arguments, its streams and its status.
 #![tactic(auto)]
 
-mod answer;
-mod command;
-mod device;
-mod fault;
-mod input;
-mod load;
-mod records;
-mod run;
-mod statements;
-#[cfg(test)]
-mod tests;
-mod transfer;
-
-use device::{IoSink, IoSource};
-use fault::RunFault;
 use guppy_data::Error;
-use run::run;
+use guppy_input::device::{IoSink, IoSource};
+use guppy_input::fault::RunFault;
+use guppy_program::run::run;
 use std::process::ExitCode;
 use std::{env, io};
 

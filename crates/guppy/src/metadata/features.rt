@@ -29,10 +29,7 @@ impl<'g> PackageMetadata<'g> {
     pub fn has_default_feature(self) -> bool
         ensures { OfPackage self.entry (λ r. IsTrue result ↔ HasFeature r (codes "default")) }
     {
-        self.graph
-            .package_at(self.position)
-            .named_features
-            .contains_key("default")
+        self.record().named_features.contains_key("default")
     }
 
     /// The names of the named features, in the order of the record.
@@ -40,7 +37,7 @@ impl<'g> PackageMetadata<'g> {
         ensures { OfPackage self.entry (λ r. names_left result ≡ map string_bytes (keys r.named_features)) }
     {
         NamedFeatures {
-            rest: self.graph.package_at(self.position).named_features.keys(),
+            rest: self.record().named_features.keys(),
         }
     }
 
@@ -51,7 +48,7 @@ impl<'g> PackageMetadata<'g> {
     {
         NamedFeaturesFull {
             place: 0,
-            rest: self.graph.package_at(self.position).named_features.iter(),
+            rest: self.record().named_features.iter(),
         }
     }
 
@@ -61,12 +58,7 @@ impl<'g> PackageMetadata<'g> {
     {
         OptionalDepsFull {
             place: 0,
-            rest: self
-                .graph
-                .package_at(self.position)
-                .optional_deps
-                .as_slice()
-                .iter(),
+            rest: self.record().optional_deps.as_slice().iter(),
         }
     }
 }

@@ -1,7 +1,7 @@
 ghost use Rattle.std.specs.Prelude.{◌≡◌, ℕ, ◌<◌, [], ◌∷◌, length, All, MatchOption, IfOk, IfErr, OnOk, IsOk};
 ghost use Rattle.std.specs.Slice.Iter.{iter_rest};
-ghost use Rattle.guppy.specs.Ids.{IsKnown, ix_position};
-ghost use Rattle.guppy.specs.Refused.{NamesId, IsFirstUnknown};
+ghost use Rattle.guppy_graph.specs.Ids.{IsKnown, ix_position};
+ghost use Rattle.guppy_graph.specs.Refused.{NamesId, IsFirstUnknown};
 
 use crate::package_graph::{PackageGraph, PackageLink, PackageMetadata};
 use guppy_core::{DependencyDirection, PackageIx};

@@ -3,7 +3,7 @@ ghost use Rattle.guppy_data.specs.BuildTargetId.{Library, BuildScript, recorded_
 ghost use Rattle.guppy_data.specs.BuildTargetKind.{ProcMacro, recorded_kind};
 ghost use Rattle.guppy.specs.Views.{OfPackage};
 ghost use Rattle.std.specs.Slice.Iter.{iter_rest};
-ghost use Rattle.guppy.specs.Targets.{IsNamed};
+ghost use Rattle.guppy_graph.specs.Targets.{IsNamed};
 ghost use Rattle.guppy.specs.BuildTargets.{IsProcMacro, HasBuildScript, IsTargetWith, NoTargetWith, IsTargetOf};
 
 use crate::package_graph::PackageMetadata;
@@ -13,7 +13,7 @@ use guppy_data::{
 use std::slice;
 
 impl<'g> PackageMetadata<'g> {
-    ghost use Rattle.guppy.specs.BuildTargets.{AreTargetsById};
+    ghost use Rattle.guppy_graph.specs.Targets.{AreTargetsById};
     ghost use Rattle.guppy.specs.TargetIterators.{targets_left};
 
     /// The build target with the ID, if the package has one; it has at most one. Looks at the targets
@@ -42,22 +42,14 @@ impl<'g> PackageMetadata<'g> {
     pub fn is_proc_macro(self) -> bool
         ensures { OfPackage self.entry (λ r. IsTrue result ↔ IsProcMacro r) }
     {
-        self.graph
-            .package_at(self.position)
-            .build_targets
-            .iter()
-            .any(is_macro_library)
+        self.record().build_targets.iter().any(is_macro_library)
     }
 
     /// Whether the package has a build script. Looks at the targets in turn.
     pub fn has_build_script(self) -> bool
         ensures { OfPackage self.entry (λ r. IsTrue result ↔ HasBuildScript r) }
     {
-        self.graph
-            .package_at(self.position)
-            .build_targets
-            .iter()
-            .any(is_build_script)
+        self.record().build_targets.iter().any(is_build_script)
     }
 }
 

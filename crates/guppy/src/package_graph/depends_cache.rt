@@ -1,12 +1,13 @@
 //! Many questions of dependence, with one room for their searches.
 ghost use Rattle.std.specs.Prelude.{◌≡◌, ◌↔◌, [], ◌∷◌, IsTrue, IfOk, IfErr, OnOk, IsOk, IsOkUnless};
-ghost use Rattle.guppy.specs.Ids.{IsKnown};
-ghost use Rattle.guppy.specs.Depends.{DependsOn};
-ghost use Rattle.guppy.specs.Refused.{IsFirstUnknown, NamesId};
+ghost use Rattle.guppy_graph.specs.Ids.{IsKnown};
+ghost use Rattle.guppy_graph.specs.Depends.{DependsOn};
+ghost use Rattle.guppy_graph.specs.Refused.{IsFirstUnknown, NamesId};
 
-use crate::package_graph::graph::{PackageGraph, Packages};
+use crate::package_graph::graph::PackageGraph;
 use guppy_core::{DependencyDirection, ReachCache};
 use guppy_data::{Error, PackageId};
+use guppy_graph::Packages;
 use std::marker::Model;
 
 /// Answers which packages of a graph depend on which. Its room is made once, for every question.
@@ -22,7 +23,7 @@ impl<'g> Model for DependsCache<'g> {
     ghost use Rattle.guppy_data.specs.contracts.records.LinkRecord as of_link;
     ghost use Rattle.guppy_data.specs.contracts.records.WorkspaceRecord as of_workspace;
     ghost use Rattle.std.specs.Coded.{codes};
-    ghost use Rattle.guppy.specs.Graph.{GraphData};
+    ghost use Rattle.guppy_graph.specs.Graph.{GraphData};
 
     // The graph that is asked about.
     ghost Value = { GraphData };

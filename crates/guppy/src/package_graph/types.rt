@@ -1,7 +1,8 @@
 ghost use Rattle.std.specs.Prelude.{◌<◌, length};
 
-use crate::package_graph::graph::{PackageGraph, Packages};
+use crate::package_graph::graph::PackageGraph;
 use guppy_core::{DependencyDirection, ResolveCore};
+use guppy_graph::Packages;
 use std::marker::Model;
 
 /// A package of a graph.

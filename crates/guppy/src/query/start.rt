@@ -3,8 +3,8 @@ ghost use Rattle.std.specs.Prelude.{◌≡◌, ◌↔◌, ℕ, List, IfOk, IfErr
 ghost use Rattle.std.specs.Iterator.{IsFinite, Drains, Yields};
 ghost use Rattle.guppy_data.specs.Utf8Path.{path_text};
 ghost use Rattle.guppy.specs.Query.{IsNamedSet, IsSetNamed, IsSetWhere, initials_of};
-ghost use Rattle.guppy.specs.Members.{HasPath, HasName, IsMember};
-ghost use Rattle.guppy.specs.Refused.{NamesId, NamesPath, NamesName, IsFirstUnknown, IsFirstUnknownPath, IsFirstUnknownName};
+ghost use Rattle.guppy_graph.specs.Members.{HasPath, HasName, IsMember};
+ghost use Rattle.guppy_graph.specs.Refused.{NamesId, NamesPath, NamesName, IsFirstUnknown, IsFirstUnknownPath, IsFirstUnknownName};
 
 use crate::package_graph::{PackageGraph, PackageMetadata, PackageQuery, PackageSet};
 use guppy_core::DependencyDirection;

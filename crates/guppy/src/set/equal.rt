@@ -8,7 +8,7 @@ use guppy_core::{IndexType, PackageIx};
 use guppy_data::PackageRecord;
 
 impl PackageGraph {
-    ghost use Rattle.guppy.specs.Ids.{ids_of};
+    ghost use Rattle.guppy_graph.specs.Ids.{ids_of};
 
     /// Whether the other graph has the same packages: whether the lists of their IDs are equal,
     /// position by position.
@@ -39,7 +39,7 @@ fn have_same_ids(packages: &[PackageRecord], others: &[PackageRecord]) -> bool
 }
 
 impl<'g> PackageSet<'g> {
-    ghost use Rattle.guppy.specs.Ids.{ids_of};
+    ghost use Rattle.guppy_graph.specs.Ids.{ids_of};
 
     /// Whether the other set is of a graph with the same packages: whether the graphs' lists of
     /// package IDs are equal, position by position. It asks nothing of the members.

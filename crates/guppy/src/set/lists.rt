@@ -6,7 +6,7 @@ use guppy_core::{DependencyDirection, IndexType, Topo};
 use guppy_data::PackageId;
 
 impl<'g> PackageSet<'g> {
-    ghost use Rattle.guppy.specs.Ordered.{IsOrdered};
+    ghost use Rattle.guppy_graph.specs.Ordered.{IsOrdered};
     ghost use Rattle.guppy.specs.Listed.{positions_listed, packages_listed, packages_to_come, ids_at, ids_to_come};
 
     /// The IDs of the set's packages, listed as `packages` lists them. Takes no memory.

@@ -3,9 +3,9 @@ ghost use Rattle.std.specs.Prelude.{◌≡◌, List, IfOk, IfErr, IsOkUnless, ma
 ghost use Rattle.std.specs.Iterator.{IsFinite, Drains, Yields};
 ghost use Rattle.guppy_data.specs.Utf8Path.{path_text};
 ghost use Rattle.guppy.specs.Query.{IsSetNamed, IsSetWhere};
-ghost use Rattle.guppy.specs.Members.{HasPath, HasName, IsMember, AreMembersByPath};
-ghost use Rattle.guppy.specs.Ids.{ix_position};
-ghost use Rattle.guppy.specs.Refused.{NamesPath, NamesName, IsFirstUnknownPath, IsFirstUnknownName};
+ghost use Rattle.guppy_graph.specs.Members.{HasPath, HasName, IsMember, AreMembersByPath};
+ghost use Rattle.guppy_graph.specs.Ids.{ix_position};
+ghost use Rattle.guppy_graph.specs.Refused.{NamesPath, NamesName, IsFirstUnknownPath, IsFirstUnknownName};
 
 use crate::package_graph::{PackageGraph, PackageSet};
 use guppy_core::{IndexType, PackageIx};

@@ -4,10 +4,10 @@ ghost use Rattle.std.specs.List.{Contains};
 ghost use Rattle.std.specs.Iterator.{IsFinite, Drains, Yields};
 ghost use Rattle.guppy_core.specs.IxSet.{IsIn};
 ghost use Rattle.guppy.specs.Query.{AreNamed, IsNamedSet, IsSetWhere};
-ghost use Rattle.guppy.specs.Ids.{ix_position};
-ghost use Rattle.guppy.specs.Graph.{IsPackageGraph};
+ghost use Rattle.guppy_graph.specs.Ids.{ix_position};
+ghost use Rattle.guppy_graph.specs.Graph.{IsPackageGraph};
 ghost use Rattle.guppy.specs.PackageNames.{HasPackageName};
-ghost use Rattle.guppy.specs.Refused.{NamesId, IsFirstUnknown};
+ghost use Rattle.guppy_graph.specs.Refused.{NamesId, IsFirstUnknown};
 
 use crate::package_graph::{PackageGraph, PackageMetadata, PackageSet};
 use guppy_core::{IndexType, PackageIx, ResolveCore};

@@ -1,7 +1,7 @@
 //! Sets made of two sets.
 ghost use Rattle.std.specs.Prelude.{◌≡◌, IfOk, IsOkUnless};
 ghost use Rattle.guppy_core.specs.IxSet.{IsUnion, IsIntersection, IsDifference, IsSymmetricDifference};
-ghost use Rattle.guppy.specs.Ids.{ids_of};
+ghost use Rattle.guppy_graph.specs.Ids.{ids_of};
 
 use crate::package_graph::PackageSet;
 use guppy_data::Error;

@@ -1,7 +1,7 @@
 //! The roots of a set.
 ghost use Rattle.std.specs.Prelude.{◌≡◌, ◌<◌, All, length, IfOk, IsOkUnless};
 ghost use Rattle.std.specs.Vec.Iter.{into_iter_items};
-ghost use Rattle.guppy.specs.Ids.{ix_position};
+ghost use Rattle.guppy_graph.specs.Ids.{ix_position};
 
 use crate::package_graph::{PackageGraph, PackageMetadata, PackageSet};
 use guppy_core::{DependencyDirection, IndexType, PackageIx};

@@ -1,7 +1,7 @@
 //! The default members of a workspace.
 ghost use Rattle.std.specs.Prelude.{◌≡◌, All};
 ghost use Rattle.std.specs.Slice.Iter.{iter_rest};
-ghost use Rattle.guppy.specs.Ids.{IsKnown};
+ghost use Rattle.guppy_graph.specs.Ids.{IsKnown};
 
 use crate::package_graph::{PackageGraph, PackageMetadata, Workspace};
 use guppy_data::PackageId;

@@ -1,10 +1,11 @@
 //! Walks over the members of a workspace.
 ghost use Rattle.std.specs.Prelude.{◌≡◌, ℕ, ◌<◌, List, length, map, All};
 ghost use Rattle.std.specs.Slice.Iter.{iter_rest};
-ghost use Rattle.guppy.specs.Members.{AreMembersByPath, AreMembersByName};
+ghost use Rattle.guppy_graph.specs.Members.{AreMembersByPath, AreMembersByName};
 
-use crate::package_graph::{PackageGraph, PackageMetadata, Workspace, name_at, path_at};
+use crate::package_graph::{PackageGraph, PackageMetadata, Workspace};
 use guppy_data::{PackageId, Utf8Path};
+use guppy_graph::{name_at, path_at};
 use std::slice;
 
 impl<'g> Workspace<'g> {

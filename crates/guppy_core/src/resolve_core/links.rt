@@ -1,5 +1,4 @@
-use crate::ix::GraphSpec;
-use crate::walk::EdgeDfs;
+use guppy_search::{EdgeDfs, GraphSpec};
 use std::marker::Model;
 
 /// The links of a set that are walked from its roots, those that are still to come: each with its
@@ -11,7 +10,7 @@ pub struct Links<'g, G: GraphSpec> {
 
 impl<'g, G: GraphSpec> Model for Links<'g, G> {
     ghost use Rattle.std.specs.Prelude.{List};
-    ghost use Rattle.guppy_core.specs.Walked.{LinkEnds};
+    ghost use Rattle.guppy_search.specs.Walked.{LinkEnds};
 
     ghost Value = { List LinkEnds };
 
@@ -23,7 +22,7 @@ impl<G: GraphSpec> Iterator for Links<'_, G> {
 
     ghost use Rattle.std.specs.Prelude.{◌≡◌};
     ghost use Rattle.std.specs.Iterator.{YieldsFirstBy, item_count};
-    ghost use Rattle.guppy_core.specs.Walked.{LinkEnds};
+    ghost use Rattle.guppy_search.specs.Walked.{LinkEnds};
 
     ghost next_gives = { YieldsFirstBy (λ l. let ends : LinkEnds = record { from = G.Ix.index_of l.0; to = G.Ix.index_of l.1; number = l.2 } in ends) (λ s. s) };
 

@@ -1,12 +1,12 @@
 ghost use Rattle.std.specs.Prelude.{◌≡◌, ◌<◌, All, length};
 ghost use Rattle.std.specs.List.{concat, filter};
 ghost use Rattle.std.specs.Iterator.{YieldsFirstBy};
-ghost use Rattle.guppy_core.specs.IxSet.{has, member_count};
+ghost use Rattle.guppy_search.specs.IxSet.{has, member_count};
 ghost use Rattle.guppy_core.specs.Listing.{IsListing};
 ghost use Rattle.guppy_core.specs.Sccs.{listed};
 
-use crate::ix::{DependencyDirection, GraphSpec, IndexType, IxSet};
 use crate::scc::{NodeIter, Sccs};
+use guppy_search::{DependencyDirection, GraphSpec, IndexType, IxSet};
 use std::marker::Model;
 
 /// The positions of a set that are still to come, in the order of the components or from its end.
@@ -21,7 +21,7 @@ pub struct Topo<'s, G: GraphSpec> {
 impl<'s, G: GraphSpec> Model for Topo<'s, G> {
     ghost use Rattle.std.specs.Prelude.{◌≡◌, ◌<◌, List, ℕ, All, length};
     ghost use Rattle.std.specs.List.{filter};
-    ghost use Rattle.guppy_core.specs.IxSet.{has};
+    ghost use Rattle.guppy_search.specs.IxSet.{has};
 
     ghost Value = { List ℕ };
 

@@ -1,13 +1,12 @@
 ghost use Rattle.std.specs.Prelude.{◌≡◌, ◌⊎◌, ◌↔◌, ℕ, ◌<◌, ◌≤◌, ◌+◌, ◌^◌, Bool, true, false, List, length, OnOk};
-ghost use Rattle.guppy_core.specs.declared.ix.direction.DependencyDirection.TheVariants.{Reverse};
-ghost use Rattle.guppy_core.specs.IxSet.{IsIn};
+ghost use Rattle.guppy_search.specs.declared.ix.direction.DependencyDirection.TheVariants.{Reverse};
+ghost use Rattle.guppy_search.specs.IxSet.{IsIn};
 ghost use Rattle.guppy_core.specs.Mark.{Marks};
 ghost use Rattle.guppy_core.specs.Cost.{links_left};
-ghost use Rattle.guppy_core.specs.Reach.{LinkStep, Walk};
+ghost use Rattle.guppy_search.specs.Reach.{LinkStep, Walk};
 ghost use Rattle.guppy_core.specs.Claim.{IsClosed, Numbers, Claims};
 
-use crate::graph_core::CountedGraph;
-use crate::ix::{DependencyDirection, GraphSpec, IxSet};
+use guppy_search::{CountedGraph, DependencyDirection, GraphSpec, IxSet};
 use std::alloc::AllocError;
 
 /// Gives the number to a new position, and puts it onto the stack.

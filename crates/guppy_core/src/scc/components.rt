@@ -1,20 +1,19 @@
 ghost use Rattle.std.specs.Prelude.{◌≡◌, ◌↔◌, ℕ, ◌+◌, ◌*◌, ◌<◌, ◌≤◌, ◌^◌, Bool, true, List, length, map, IfOk};
 ghost use Rattle.std.specs.List.{concat};
-ghost use Rattle.guppy_core.specs.declared.ix.direction.DependencyDirection.TheVariants.{Forward};
-ghost use Rattle.guppy_core.specs.Reach.{LinkStep, Step, MutualReach};
+ghost use Rattle.guppy_search.specs.declared.ix.direction.DependencyDirection.TheVariants.{Forward};
+ghost use Rattle.guppy_search.specs.Reach.{LinkStep, Step, MutualReach};
 ghost use Rattle.guppy_core.specs.Topo.{LeadsOn};
 ghost use Rattle.guppy_core.specs.Sccs.{AreSccs, InOneBlock, InLargeBlock, listed};
 ghost use Rattle.guppy_core.specs.Order.{IsOrder};
 ghost use Rattle.guppy_core.specs.Roots.{AreRoots};
 
-use crate::graph_core::{CountedGraph, Graph};
-use crate::ix::{DependencyDirection, GraphSpec, IndexType, IxSet};
 use crate::scc::externals::{entered, unentered};
 use crate::scc::group::group;
 use crate::scc::iter::{AllSccs, NodeIter};
 use crate::scc::layout::{Layout, lay_out};
 use crate::scc::numbers::number_components;
 use crate::topo::TopoWithCycles;
+use guppy_search::{CountedGraph, DependencyDirection, Graph, GraphSpec, IndexType, IxSet};
 use std::alloc::AllocError;
 use std::marker::Model;
 

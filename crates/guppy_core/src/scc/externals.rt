@@ -1,11 +1,10 @@
 ghost use Rattle.std.specs.Prelude.{◌≡◌, ◌↔◌, ◌⊎◌, ℕ, ◌<◌, false, length, map, slice_index, IfOk, All};
-ghost use Rattle.guppy_core.specs.IxSet.{has, IsIn};
+ghost use Rattle.guppy_search.specs.IxSet.{has, IsIn};
 ghost use Rattle.guppy_core.specs.Listing.{Stands, Ascends};
-ghost use Rattle.guppy_core.specs.Reach.{LinkStep};
+ghost use Rattle.guppy_search.specs.Reach.{LinkStep};
 ghost use Rattle.guppy_core.specs.Roots.{EntersFrom, IsEntered, HasNumber};
 
-use crate::graph_core::Graph;
-use crate::ix::{DependencyDirection, GraphSpec, IndexType, IxSet};
+use guppy_search::{DependencyDirection, Graph, GraphSpec, IndexType, IxSet};
 use std::alloc::{AllocError, Global};
 
 /// Marks the components that links from the position to others of the set enter.

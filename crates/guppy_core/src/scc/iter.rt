@@ -1,6 +1,6 @@
 ghost use Rattle.std.specs.Prelude.{◌≡◌};
 
-use crate::ix::{DependencyDirection, IndexType};
+use guppy_search::{DependencyDirection, IndexType};
 use std::marker::Model;
 
 /// The components that are still to come, in their order. Its `len` and its `size_hint` are exact.

@@ -1,13 +1,12 @@
 ghost use Rattle.std.specs.Prelude.{◌≡◌, ℕ, ◌<◌, ◌≤◌, ◌+◌, ◌*◌, ◌^◌, length, IfOk, All};
-ghost use Rattle.guppy_core.specs.declared.ix.direction.DependencyDirection.TheVariants.{Forward};
+ghost use Rattle.guppy_search.specs.declared.ix.direction.DependencyDirection.TheVariants.{Forward};
 ghost use Rattle.guppy_core.specs.Listing.{Stands};
-ghost use Rattle.guppy_core.specs.Reach.{LinkStep};
+ghost use Rattle.guppy_search.specs.Reach.{LinkStep};
 ghost use Rattle.guppy_core.specs.Components.{AreNumbers};
 
-use crate::graph_core::CountedGraph;
-use crate::ix::{GraphSpec, IxSet};
 use crate::scc::claim::claim;
 use crate::topo::finish_order_of_all;
+use guppy_search::{CountedGraph, GraphSpec, IxSet};
 use std::alloc::AllocError;
 
 /// The number of each position's component, and how many components there are.

@@ -1,10 +1,9 @@
 ghost use Rattle.std.specs.Prelude.{◌≡◌, ℕ, ◌+◌, ◌<◌, ◌≤◌, ◌^◌, Bool, true, List, length, IfOk, All, Contains};
-ghost use Rattle.guppy_core.specs.declared.ix.direction.DependencyDirection.TheVariants.{Forward};
-ghost use Rattle.guppy_core.specs.Reach.{LinkStep, Step};
+ghost use Rattle.guppy_search.specs.declared.ix.direction.DependencyDirection.TheVariants.{Forward};
+ghost use Rattle.guppy_search.specs.Reach.{LinkStep, Step};
 ghost use Rattle.guppy_core.specs.Finish.{IsFinishList};
 
-use crate::graph_core::CountedGraph;
-use crate::ix::{DependencyDirection, GraphSpec, IxSet};
+use guppy_search::{CountedGraph, DependencyDirection, GraphSpec, IxSet};
 use std::alloc::AllocError;
 
 /// A position whose links are being followed, and the place of the next of them.

@@ -1,15 +1,14 @@
 ghost use Rattle.std.specs.Prelude.{◌≡◌, ℕ, ◌+◌, ◌*◌, ◌<◌, ◌≤◌, ◌^◌, Bool, length, IfOk, Some, slice_get};
 ghost use Rattle.std.specs.List.Sorted.{IsPermutation, IsNonDecreasingBy};
-ghost use Rattle.guppy_core.specs.declared.ix.direction.DependencyDirection.TheVariants.{Forward};
-ghost use Rattle.guppy_core.specs.Reach.{Step};
+ghost use Rattle.guppy_search.specs.declared.ix.direction.DependencyDirection.TheVariants.{Forward};
+ghost use Rattle.guppy_search.specs.Reach.{Step};
 ghost use Rattle.guppy_core.specs.Listing.{IsListing, place_in};
 ghost use Rattle.guppy_core.specs.Topo.{IsTopo, HasNoCycle, LeadsOn};
 
-use crate::graph_core::CountedGraph;
-use crate::ix::{GraphSpec, IndexType, IxSet};
 use crate::topo::finish::finish_order;
 use crate::topo::lists::{absent, places, set_of};
 use crate::topo::roots::roots;
+use guppy_search::{CountedGraph, GraphSpec, IndexType, IxSet};
 use std::alloc::AllocError;
 use std::marker::{Model, PhantomData};
 

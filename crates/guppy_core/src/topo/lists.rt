@@ -1,8 +1,8 @@
 ghost use Rattle.std.specs.Prelude.{◌≡◌, ◌↔◌, ℕ, ◌<◌, ◌≤◌, ◌^◌, List, length, IfOk, All};
-ghost use Rattle.guppy_core.specs.IxSet.{IsIn};
+ghost use Rattle.guppy_search.specs.IxSet.{IsIn};
 ghost use Rattle.guppy_core.specs.Listing.{Stands, IsAbsence, IsOnce, IsInverse};
 
-use crate::ix::{GraphSpec, IxSet};
+use guppy_search::{GraphSpec, IxSet};
 use std::alloc::{AllocError, Global};
 
 /// The set of the positions in the list.

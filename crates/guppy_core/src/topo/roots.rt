@@ -1,14 +1,13 @@
 ghost use Rattle.std.specs.Prelude.{◌≡◌, ◌↔◌, ◌⊎◌, ℕ, ◌+◌, ◌<◌, ◌≤◌, ◌^◌, Bool, length, IfOk, All};
-ghost use Rattle.guppy_core.specs.declared.ix.direction.DependencyDirection.TheVariants.{Forward};
-ghost use Rattle.guppy_core.specs.IxSet.{IsIn};
-ghost use Rattle.guppy_core.specs.Links.{links_at};
-ghost use Rattle.guppy_core.specs.Reach.{Step};
+ghost use Rattle.guppy_search.specs.declared.ix.direction.DependencyDirection.TheVariants.{Forward};
+ghost use Rattle.guppy_search.specs.IxSet.{IsIn};
+ghost use Rattle.guppy_search.specs.Links.{links_at};
+ghost use Rattle.guppy_search.specs.Reach.{Step};
 ghost use Rattle.guppy_core.specs.Listing.{Stands};
 ghost use Rattle.guppy_core.specs.Topo.{IsEntered, IsRoot, LeadsAway};
 
-use crate::graph_core::CountedGraph;
-use crate::ix::{DependencyDirection, GraphSpec, IxSet};
 use crate::topo::lists::absent;
+use guppy_search::{CountedGraph, DependencyDirection, GraphSpec, IxSet};
 use std::alloc::AllocError;
 
 /// Puts the other positions into the set to which kept links lead from this one.

@@ -1,7 +1,7 @@
 use Rattle.std.proofs.Common.{◌∙◌, sym, ap, subst, ◌<◌, ℕ, List, length, All}
 use Rattle.std.specs.List.{filter}
 use Rattle.std.proofs.lemmas.List.Elements.{All-head, All-rest}
-use Rattle.guppy.specs.Cycles.{is_cyclic_component}
+use Rattle.guppy_graph.specs.Cycles.{is_cyclic_component}
 use Rattle.guppy.proofs.CyclicComponents.{filter_skips}
 use Rattle.guppy.proofs.cycles.first_cyclic.Goals as goal
 

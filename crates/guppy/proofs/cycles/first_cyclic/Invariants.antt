@@ -1,6 +1,6 @@
 use Rattle.std.proofs.Common.{◌≡◌, ◌<◌, All, length}
 use Rattle.std.specs.List.{filter}
-use Rattle.guppy.specs.Cycles.{is_cyclic_component}
+use Rattle.guppy_graph.specs.Cycles.{is_cyclic_component}
 use Rattle.guppy.proofs.cycles.first_cyclic.Given as goal
 
 abbrev pub invariant-loop-component : goal.invariant-loop-component

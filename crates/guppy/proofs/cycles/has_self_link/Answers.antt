@@ -1,6 +1,6 @@
 use Rattle.std.proofs.Common.{◌∙◌, ap}
-use Rattle.guppy.specs.Cycles.{has_self_link}
-use Rattle.guppy.specs.Ids.{ix_position}
+use Rattle.guppy_graph.specs.Cycles.{has_self_link}
+use Rattle.guppy_graph.specs.Ids.{ix_position}
 use Rattle.guppy.proofs.CyclicComponents.{found_self_link}
 use Rattle.guppy.proofs.cycles.has_self_link.Goals as goal
 

@@ -1,8 +1,8 @@
 use Rattle.std.proofs.Common.{◌∙◌, sym, ap, ◌<◌, ℕ, List, length, All, Some, map}
 use Rattle.std.specs.List.{filter}
 use Rattle.std.proofs.lemmas.List.Elements.{All-pop}
-use Rattle.guppy.specs.Cycles.{is_cyclic_component}
-use Rattle.guppy.specs.Ids.{ix_position}
+use Rattle.guppy_graph.specs.Cycles.{is_cyclic_component}
+use Rattle.guppy_graph.specs.Ids.{ix_position}
 use Rattle.guppy.proofs.CyclicComponents.{filter_skips_last}
 use Rattle.guppy.proofs.cycles.last_cyclic.Goals as goal
 

@@ -2,8 +2,9 @@ use Rattle.std.proofs.Common.{◌↔◌, ℕ, ◌<◌, ◌∙◌, length, ap, ma
 use Rattle.std.specs.Prelude.{Contains}
 use Rattle.std.specs.Slice.Iter.{iter_rest}
 use Rattle.std.proofs.iter.Yields.{Copied-Drains}
-use Rattle.guppy_core.specs.IxSet.{IsIn}
-use Rattle.guppy_core.proofs.Along.{holds_copied}
+use Rattle.guppy_search.proofs.Exits.{if_ok}
+use Rattle.guppy_search.specs.IxSet.{IsIn}
+use Rattle.guppy_search.proofs.Along.{holds_copied}
 use Rattle.guppy_core.proofs.resolve_core.set_of.Goals as goal
 
 pub from_ixs-requires-clause-below : goal.from_ixs-requires-clause-below
@@ -16,3 +17,9 @@ returns-clause-members g c =
     let s = c.in_ok-set.ensures.members in
     let drained = Copied-Drains c.copied.result s.0 s.1 ∙ (ap iter_rest c.copied.ensures.source ∙ c.iter.ensures.rest) in
     subst (λ xs. (p : ℕ) → IsIn c.in_ok-set.set p ↔ Contains (map g.G.Ix.IndexType.index_of xs) p) drained s.2
+
+pub returns-in_err-set-clause-count : goal.returns-in_err-set-clause-count
+returns-in_err-set-clause-count g c = if_ok _ _ c.from_residual.ensures.0
+
+pub returns-in_err-set-clause-members : goal.returns-in_err-set-clause-members
+returns-in_err-set-clause-members g c = if_ok _ _ c.from_residual.ensures.0

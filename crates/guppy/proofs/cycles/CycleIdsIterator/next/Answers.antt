@@ -1,7 +1,7 @@
 use Rattle.std.proofs.Common.{◌<◌, ap, subst, sym, ℕ, All, Some, None, length, map}
 use Rattle.std.specs.Slice.Iter.{iter_rest, iter_steps}
 use Rattle.std.proofs.lemmas.List.Elements.{All-rest}
-use Rattle.guppy.specs.Ids.{ix_position}
+use Rattle.guppy_graph.specs.Ids.{ix_position}
 use Rattle.guppy.proofs.cycles.CycleIdsIterator.next.Goals as goal
 
 pub invariant_of-self : goal.invariant_of-self

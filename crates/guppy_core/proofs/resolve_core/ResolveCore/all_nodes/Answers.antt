@@ -1,7 +1,8 @@
 use Rattle.std.proofs.Common.{◌<◌, ◌∙◌, ap, length, replicate, true, false, arith, below_more}
 use Rattle.std.proofs.Math.ListN.{length-replicate, length-set}
 use Rattle.std.proofs.lemmas.List.{get_or-set_same}
-use Rattle.guppy_core.proofs.Members.{member-set_keeps, all_members}
+use Rattle.guppy_search.proofs.Exits.{if_ok}
+use Rattle.guppy_search.proofs.Members.{member-set_keeps, all_members}
 use Rattle.guppy_core.proofs.resolve_core.ResolveCore.all_nodes.Goals as goal
 
 pub loop-position-init : goal.loop-position-init
@@ -32,3 +33,6 @@ returns g c =
     let size = c.loop-position.invariant.size in
     let count = c.node_count-count.ensures.count in
     c.from_included.ensures ∙ all_members c.loop-position.included (λ p h. c.loop-position.invariant.filled p (omega arith)) ∙ ap (λ n. replicate n true) (size ∙ count)
+
+pub returns-in_err-included : goal.returns-in_err-included
+returns-in_err-included g c = if_ok _ _ c.from_residual.ensures.0

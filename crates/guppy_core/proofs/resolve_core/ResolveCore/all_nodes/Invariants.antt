@@ -1,5 +1,5 @@
 use Rattle.std.proofs.Common.{◌≡◌, ℕ, ◌<◌, length}
-use Rattle.guppy_core.specs.IxSet.{IsIn}
+use Rattle.guppy_search.specs.IxSet.{IsIn}
 use Rattle.guppy_core.proofs.resolve_core.ResolveCore.all_nodes.Given as goal
 
 abbrev pub invariant-loop-position : goal.invariant-loop-position

@@ -1,15 +1,16 @@
 use Rattle.std.proofs.Common.{◌↔◌, ◌<◌, ℕ, List, Bool, true, length, map, subst, sym}
 use Rattle.std.specs.Prelude.{All, Contains}
-use Rattle.guppy_core.specs.declared.ix.direction.DependencyDirection.TheVariants.{Forward}
-use Rattle.guppy_core.specs.declared.graph_core.link.Link.{Link}
-use Rattle.guppy_core.specs.IxSet.{IsIn}
+use Rattle.guppy_search.proofs.Exits.{if_ok}
+use Rattle.guppy_search.specs.declared.ix.direction.DependencyDirection.TheVariants.{Forward}
+use Rattle.guppy_search.specs.declared.graph_core.link.Link.{Link}
+use Rattle.guppy_search.specs.IxSet.{IsIn}
 use Rattle.guppy_core.specs.Listing.{Stands}
-use Rattle.guppy_core.specs.Reach.{LinkStep, MutualReach}
+use Rattle.guppy_search.specs.Reach.{LinkStep, MutualReach}
 use Rattle.guppy_core.specs.Sccs.{InOneBlock}
-use Rattle.guppy_core.specs.Walked.{AreWalked, numbers_of}
+use Rattle.guppy_search.specs.Walked.{AreWalked, numbers_of}
 use Rattle.guppy_core.proofs.Listings.{all_standing}
-use Rattle.guppy_core.proofs.Members.{IsIn-below}
-use Rattle.guppy_core.proofs.Walking.{walked_from_roots}
+use Rattle.guppy_search.proofs.Members.{IsIn-below}
+use Rattle.guppy_core.proofs.Starting.{walked_from_roots}
 use Rattle.guppy_core.proofs.Whole.{walked_all}
 use Rattle.guppy_core.proofs.resolve_core.ResolveCore.links.Goals as goal
 
@@ -36,3 +37,39 @@ returns g c =
           (walked_from_roots c.args.direction links set (LinkStep c.args.direction links) (MutualReach Forward (λ _. true) links) roots starts listed (c.in_ok-roots.ensures.reach index sccs) members are);
       ends = c.in_ok-edges.ensures.ends;
     }
+
+pub returns-in_err-roots-clause-walked : goal.returns-in_err-roots-clause-walked
+returns-in_err-roots-clause-walked g c = if_ok _ _ c.from_residual.ensures.0
+
+pub returns-in_err-roots-clause-reach : goal.returns-in_err-roots-clause-reach
+returns-in_err-roots-clause-reach g c = if_ok _ _ c.from_residual.ensures.0
+
+pub returns-in_err-roots-clause-all : goal.returns-in_err-roots-clause-all
+returns-in_err-roots-clause-all g c = if_ok _ _ c.from_residual.ensures.0
+
+pub returns-in_err-roots-clause-ends : goal.returns-in_err-roots-clause-ends
+returns-in_err-roots-clause-ends g c = if_ok _ _ c.from_residual.ensures.0
+
+pub returns-in_err-starts-clause-walked : goal.returns-in_err-starts-clause-walked
+returns-in_err-starts-clause-walked g c = if_ok _ _ c.from_residual-in_err-starts.ensures.0
+
+pub returns-in_err-starts-clause-reach : goal.returns-in_err-starts-clause-reach
+returns-in_err-starts-clause-reach g c = if_ok _ _ c.from_residual-in_err-starts.ensures.0
+
+pub returns-in_err-starts-clause-all : goal.returns-in_err-starts-clause-all
+returns-in_err-starts-clause-all g c = if_ok _ _ c.from_residual-in_err-starts.ensures.0
+
+pub returns-in_err-starts-clause-ends : goal.returns-in_err-starts-clause-ends
+returns-in_err-starts-clause-ends g c = if_ok _ _ c.from_residual-in_err-starts.ensures.0
+
+pub returns-in_err-edges-clause-walked : goal.returns-in_err-edges-clause-walked
+returns-in_err-edges-clause-walked g c = if_ok _ _ c.from_residual-in_err-edges.ensures.0
+
+pub returns-in_err-edges-clause-reach : goal.returns-in_err-edges-clause-reach
+returns-in_err-edges-clause-reach g c = if_ok _ _ c.from_residual-in_err-edges.ensures.0
+
+pub returns-in_err-edges-clause-all : goal.returns-in_err-edges-clause-all
+returns-in_err-edges-clause-all g c = if_ok _ _ c.from_residual-in_err-edges.ensures.0
+
+pub returns-in_err-edges-clause-ends : goal.returns-in_err-edges-clause-ends
+returns-in_err-edges-clause-ends g c = if_ok _ _ c.from_residual-in_err-edges.ensures.0

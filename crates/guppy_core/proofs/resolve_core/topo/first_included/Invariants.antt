@@ -1,7 +1,7 @@
 use Rattle.std.proofs.Common.{◌≡◌, ◌<◌, length}
 use Rattle.std.specs.Prelude.{All}
 use Rattle.std.specs.List.{filter}
-use Rattle.guppy_core.specs.IxSet.{has}
+use Rattle.guppy_search.specs.IxSet.{has}
 use Rattle.guppy_core.proofs.resolve_core.topo.first_included.Given as goal
 
 abbrev pub invariant-loop-ix : goal.invariant-loop-ix

@@ -1,9 +1,10 @@
 use Rattle.std.proofs.Common.{arith, ◌≡◌, ◌<◌, true, length, [], refl}
-use Rattle.guppy_core.specs.Reach.{Step}
-use Rattle.guppy_core.specs.declared.ix.direction.DependencyDirection.TheVariants.{Reverse}
+use Rattle.guppy_search.proofs.Exits.{on_ok}
+use Rattle.guppy_search.specs.Reach.{Step}
+use Rattle.guppy_search.specs.declared.ix.direction.DependencyDirection.TheVariants.{Reverse}
 use Rattle.guppy_core.proofs.Costs.{degree, owed-mark, owed-pop, row_paid, row_room, fits_below, one_more}
 use Rattle.guppy_core.proofs.Closing.{popped_below, within_first, within_more, between_again}
-use Rattle.guppy_core.proofs.Searching.{far_end_below}
+use Rattle.guppy_search.proofs.Searching.{far_end_below}
 use Rattle.guppy_core.proofs.Claiming.{From, numbering_first, numbering_more, between_first, claimed}
 use Rattle.guppy_core.proofs.scc.claim.claim.Goals as goal
 
@@ -115,3 +116,33 @@ returns-clause-seen g c =
     let none = c.in_default.ensures.cases.0 in
     let empty : length c.loop-position.stack.items ≡ 0 = let ok = c.loop-position.stack.ok in omega arith in
     claimed R (length graph.nodes) c.args.seen.now c.args.start c.requires.limit c.requires.closed c.loop-position.seen c.loop-position.stack.items empty c.loop-position.invariant.between
+
+pub returns-in_err-claim_one-clause-limit : goal.returns-in_err-claim_one-clause-limit
+returns-in_err-claim_one-clause-limit g c = on_ok _ _ c.from_residual.ensures.0
+
+pub returns-in_err-claim_one-clause-count : goal.returns-in_err-claim_one-clause-count
+returns-in_err-claim_one-clause-count g c = on_ok _ _ c.from_residual.ensures.0
+
+pub returns-in_err-claim_one-clause-seen : goal.returns-in_err-claim_one-clause-seen
+returns-in_err-claim_one-clause-seen g c = on_ok _ _ c.from_residual.ensures.0
+
+pub returns-in_err-claim_one-clause-numbers : goal.returns-in_err-claim_one-clause-numbers
+returns-in_err-claim_one-clause-numbers g c = on_ok _ _ c.from_residual.ensures.0
+
+pub returns-in_err-claim_one-clause-paid : goal.returns-in_err-claim_one-clause-paid
+returns-in_err-claim_one-clause-paid g c = on_ok _ _ c.from_residual.ensures.0
+
+pub returns-in_err-claim_one-2-clause-limit : goal.returns-in_err-claim_one-2-clause-limit
+returns-in_err-claim_one-2-clause-limit g c = on_ok _ _ c.from_residual-in_err-claim_one-2.ensures.0
+
+pub returns-in_err-claim_one-2-clause-count : goal.returns-in_err-claim_one-2-clause-count
+returns-in_err-claim_one-2-clause-count g c = on_ok _ _ c.from_residual-in_err-claim_one-2.ensures.0
+
+pub returns-in_err-claim_one-2-clause-seen : goal.returns-in_err-claim_one-2-clause-seen
+returns-in_err-claim_one-2-clause-seen g c = on_ok _ _ c.from_residual-in_err-claim_one-2.ensures.0
+
+pub returns-in_err-claim_one-2-clause-numbers : goal.returns-in_err-claim_one-2-clause-numbers
+returns-in_err-claim_one-2-clause-numbers g c = on_ok _ _ c.from_residual-in_err-claim_one-2.ensures.0
+
+pub returns-in_err-claim_one-2-clause-paid : goal.returns-in_err-claim_one-2-clause-paid
+returns-in_err-claim_one-2-clause-paid g c = on_ok _ _ c.from_residual-in_err-claim_one-2.ensures.0

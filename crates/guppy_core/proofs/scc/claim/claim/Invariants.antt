@@ -1,7 +1,7 @@
 use Rattle.std.proofs.Common.{◌≡◌, ◌+◌, ◌≤◌, true, length}
-use Rattle.guppy_core.specs.Reach.{Step}
-use Rattle.guppy_core.specs.Links.{links_at}
-use Rattle.guppy_core.specs.declared.ix.direction.DependencyDirection.TheVariants.{Reverse}
+use Rattle.guppy_search.specs.Reach.{Step}
+use Rattle.guppy_search.specs.Links.{links_at}
+use Rattle.guppy_search.specs.declared.ix.direction.DependencyDirection.TheVariants.{Reverse}
 use Rattle.guppy_core.specs.Cost.{links_left}
 use Rattle.guppy_core.proofs.Reaching.{fuel}
 use Rattle.guppy_core.proofs.Costs.{owed, degree}

@@ -1,5 +1,5 @@
 use Rattle.std.proofs.Common.{◌≤◌, length, sym, ◌∙◌, arith}
-use Rattle.guppy_core.specs.Reach.{LinkStep}
+use Rattle.guppy_search.specs.Reach.{LinkStep}
 use Rattle.guppy_core.specs.Roots.{HasNumber}
 use Rattle.guppy_core.proofs.Rooting.{marking_none, marking_skipped, marking_more, marking_all}
 use Rattle.guppy_core.proofs.scc.externals.entered.Goals.{then-has_position, else-has_position}

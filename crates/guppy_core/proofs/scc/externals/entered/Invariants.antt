@@ -1,4 +1,4 @@
-use Rattle.guppy_core.specs.Reach.{LinkStep}
+use Rattle.guppy_search.specs.Reach.{LinkStep}
 use Rattle.guppy_core.specs.Roots.{HasNumber}
 use Rattle.guppy_core.proofs.Rooting.{Marking}
 use Rattle.guppy_core.proofs.scc.externals.entered.Given as goal

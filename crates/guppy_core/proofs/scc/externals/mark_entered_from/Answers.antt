@@ -1,7 +1,7 @@
 use Rattle.std.proofs.Common.{◌≤◌, true, length, get_or, refl, sym, ◌∙◌, arith}
 use Rattle.guppy_core.proofs.Costs.{degree}
-use Rattle.guppy_core.proofs.Rows.{row_within}
-use Rattle.guppy_core.proofs.Searching.{far_end_below}
+use Rattle.guppy_search.proofs.Rows.{row_within}
+use Rattle.guppy_search.proofs.Searching.{far_end_below}
 use Rattle.guppy_core.proofs.Finishing.{Looked}
 use Rattle.guppy_core.proofs.Rooting.{from_none, from_skipped, from_more, from_all}
 use Rattle.guppy_core.proofs.scc.externals.mark_entered_from.Goals.{then-has_position+then-numbers-far, else-has_position, else-has_position-via-then-has_position+else-numbers-far, else-has_position-via-else-has_position}

@@ -1,5 +1,6 @@
 use Rattle.std.proofs.Common.{◌≡◌, ◌<◌, ◌++◌, ◌∷◌, [], length, map, sym, ap, ◌∙◌, ℕ, arith}
 use Rattle.std.proofs.lemmas.List.{map_push}
+use Rattle.guppy_search.proofs.Exits.{if_ok}
 use Rattle.guppy_core.proofs.Rooting.{unmarked_none, unmarked_more, unmarked_skipped, unmarked_all}
 use Rattle.guppy_core.proofs.scc.externals.unentered.Goals.{then-has_position+then-not-entered-numbers+in_ok-push, else-has_position, else-has_position-via-then-has_position+else-not-entered-numbers, else-has_position-via-else-has_position}
 use Rattle.guppy_core.proofs.scc.externals.unentered.Goals as goal
@@ -31,3 +32,9 @@ pub returns-clause-members : goal.returns-clause-members
 returns-clause-members g c =
     let all : c.loop-position.position ≡ length c.args.set.now = let test = c.loop-position-test.false in let end = c.loop-position.auto.position-end in let count = c.node_count-position-end.ensures in omega arith in
     unmarked_all c.args.set.now c.args.numbers.now c.args.entered.now c.loop-position.position (map g.G.Ix.IndexType.index_of c.loop-position.list.items) c.loop-position.invariant all
+
+pub returns-in_err-push-clause-ascends : goal.returns-in_err-push-clause-ascends
+returns-in_err-push-clause-ascends g c = if_ok _ _ c.from_residual.ensures.0
+
+pub returns-in_err-push-clause-members : goal.returns-in_err-push-clause-members
+returns-in_err-push-clause-members g c = if_ok _ _ c.from_residual.ensures.0

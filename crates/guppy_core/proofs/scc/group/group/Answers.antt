@@ -1,5 +1,6 @@
 use Rattle.std.proofs.Common.{◌≡◌, length, get_or, refl, arith}
 use Rattle.std.proofs.lemmas.Option.{slice_get-get_or}
+use Rattle.guppy_search.proofs.Exits.{if_ok}
 use Rattle.guppy_core.proofs.Grouping.{groups_more, groups_of}
 use Rattle.guppy_core.proofs.scc.group.group.Goals as goal
 
@@ -16,3 +17,9 @@ pub returns : goal.returns
 returns c =
     let all : c.loop-position.position-index ≡ length c.args.order.now = let a = c.loop-position.auto.position-index-end in let b = c.loop-position-test.false in omega arith in
     groups_of c.args.order.now c.args.numbers.now c.args.count (length c.args.order.now) c.loop-position.blocks.items (rw (← all) c.loop-position.invariant)
+
+pub returns-in_err-push : goal.returns-in_err-push
+returns-in_err-push c = if_ok _ _ c.from_residual.ensures.0
+
+pub returns-in_err-push-2 : goal.returns-in_err-push-2
+returns-in_err-push-2 c = if_ok _ _ c.from_residual-in_err-push-2.ensures.0

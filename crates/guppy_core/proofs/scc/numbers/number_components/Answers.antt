@@ -1,11 +1,12 @@
 use Rattle.std.proofs.Common.{arith, ◌≡◌, ◌<◌, true, false, length, get_or, replicate, reverse, sym, ◌∙◌}
 use Rattle.std.proofs.Math.ListN.{length-replicate}
 use Rattle.std.proofs.lemmas.Option.{slice_get-get_or}
-use Rattle.guppy_core.specs.Reach.{Step}
-use Rattle.guppy_core.specs.declared.ix.direction.DependencyDirection.TheVariants.{Forward, Reverse}
-use Rattle.guppy_core.proofs.Walks.{step_back, step_forth}
+use Rattle.guppy_search.proofs.Exits.{if_ok}
+use Rattle.guppy_search.specs.Reach.{Step}
+use Rattle.guppy_search.specs.declared.ix.direction.DependencyDirection.TheVariants.{Forward, Reverse}
+use Rattle.guppy_search.proofs.Walks.{step_back, step_forth}
 use Rattle.guppy_core.proofs.Costs.{owed_first, fits_below}
-use Rattle.guppy_core.proofs.Members.{has-replicate}
+use Rattle.guppy_search.proofs.Members.{has-replicate}
 use Rattle.guppy_core.proofs.Indexing.{reversed_below}
 use Rattle.guppy_core.proofs.Numbering.{second_none, second_skipped, second_more, second_all, all_finished}
 use Rattle.guppy_core.proofs.scc.numbers.number_components.Goals.{then-not-has_position+in_ok-claim, else-not-has_position}
@@ -129,3 +130,27 @@ returns-clause-numbers g c =
 
 pub returns-clause-looks : goal.returns-clause-looks
 returns-clause-looks g c = let paid = c.loop-root.invariant.paid in omega arith
+
+pub returns-in_err-order-clause-numbers : goal.returns-in_err-order-clause-numbers
+returns-in_err-order-clause-numbers g c = if_ok _ _ c.from_residual.ensures.0
+
+pub returns-in_err-order-clause-small : goal.returns-in_err-order-clause-small
+returns-in_err-order-clause-small g c = if_ok _ _ c.from_residual.ensures.0
+
+pub returns-in_err-numbers-clause-numbers : goal.returns-in_err-numbers-clause-numbers
+returns-in_err-numbers-clause-numbers g c = if_ok _ _ c.from_residual-in_err-numbers.ensures.0
+
+pub returns-in_err-numbers-clause-small : goal.returns-in_err-numbers-clause-small
+returns-in_err-numbers-clause-small g c = if_ok _ _ c.from_residual-in_err-numbers.ensures.0
+
+pub returns-in_err-seen-clause-numbers : goal.returns-in_err-seen-clause-numbers
+returns-in_err-seen-clause-numbers g c = if_ok _ _ c.from_residual-in_err-seen.ensures.0
+
+pub returns-in_err-seen-clause-small : goal.returns-in_err-seen-clause-small
+returns-in_err-seen-clause-small g c = if_ok _ _ c.from_residual-in_err-seen.ensures.0
+
+pub returns-in_err-claim-clause-numbers : goal.returns-in_err-claim-clause-numbers
+returns-in_err-claim-clause-numbers g c = if_ok _ _ c.from_residual-in_err-claim.ensures.0
+
+pub returns-in_err-claim-clause-small : goal.returns-in_err-claim-clause-small
+returns-in_err-claim-clause-small g c = if_ok _ _ c.from_residual-in_err-claim.ensures.0

@@ -1,6 +1,6 @@
 use Rattle.std.proofs.Common.{◌≡◌, ◌+◌, ◌*◌, ◌≤◌, true, length}
-use Rattle.guppy_core.specs.Reach.{Step}
-use Rattle.guppy_core.specs.declared.ix.direction.DependencyDirection.TheVariants.{Forward, Reverse}
+use Rattle.guppy_search.specs.Reach.{Step}
+use Rattle.guppy_search.specs.declared.ix.direction.DependencyDirection.TheVariants.{Forward, Reverse}
 use Rattle.guppy_core.specs.Cost.{links_left}
 use Rattle.guppy_core.proofs.Numbering.{SecondPass}
 use Rattle.guppy_core.proofs.scc.numbers.number_components.Given as goal

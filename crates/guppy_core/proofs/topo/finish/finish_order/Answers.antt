@@ -1,9 +1,10 @@
 use Rattle.std.proofs.Common.{◌≡◌, ◌+◌, ◌<◌, [], length, refl, sym, ◌∙◌, arith}
 use Rattle.std.proofs.lemmas.Bool.{not-true, not-false}
+use Rattle.guppy_search.proofs.Exits.{if_ok}
 use Rattle.guppy_core.proofs.Costs.{degree, fits_below}
 use Rattle.guppy_core.proofs.Finishing.{looked_from, looked_below, finishing_first, start_old, start_new, finishing_below, look_paid, finishing_done, link_skipped, link_old, link_new, finishing_all, finishing_positions, inserted_old, smaller_done, smaller_step, smaller_new}
-use Rattle.guppy_core.specs.declared.ix.direction.DependencyDirection.TheVariants.{Forward}
-use Rattle.guppy_core.proofs.Lists.{no_items}
+use Rattle.guppy_search.specs.declared.ix.direction.DependencyDirection.TheVariants.{Forward}
+use Rattle.guppy_search.proofs.Lists.{no_items}
 use Rattle.guppy_core.proofs.topo.finish.finish_order.Goals.{then-insert_position+in_ok-push, else-insert_position, else-keep-via-then-keep+else-insert_position-2, else-keep-via-else-keep}
 use Rattle.guppy_core.proofs.topo.finish.finish_order.Goals as goal
 
@@ -171,3 +172,33 @@ returns-clause-order g c =
 
 pub returns-clause-positions : goal.returns-clause-positions
 returns-clause-positions g c = finishing_positions Forward g.kept c.args.graph.now.graph c.args.starts.now _ _ _ _ _ _ c.loop-start.invariant.search
+
+pub returns-in_err-seen-clause-order : goal.returns-in_err-seen-clause-order
+returns-in_err-seen-clause-order g c = if_ok _ _ c.from_residual.ensures.0
+
+pub returns-in_err-seen-clause-positions : goal.returns-in_err-seen-clause-positions
+returns-in_err-seen-clause-positions g c = if_ok _ _ c.from_residual.ensures.0
+
+pub returns-in_err-push-clause-order : goal.returns-in_err-push-clause-order
+returns-in_err-push-clause-order g c = if_ok _ _ c.from_residual-in_err-push.ensures.0
+
+pub returns-in_err-push-clause-positions : goal.returns-in_err-push-clause-positions
+returns-in_err-push-clause-positions g c = if_ok _ _ c.from_residual-in_err-push.ensures.0
+
+pub returns-in_err-push-2-clause-order : goal.returns-in_err-push-2-clause-order
+returns-in_err-push-2-clause-order g c = if_ok _ _ c.from_residual-in_err-push-2.ensures.0
+
+pub returns-in_err-push-2-clause-positions : goal.returns-in_err-push-2-clause-positions
+returns-in_err-push-2-clause-positions g c = if_ok _ _ c.from_residual-in_err-push-2.ensures.0
+
+pub returns-in_err-push-3-clause-order : goal.returns-in_err-push-3-clause-order
+returns-in_err-push-3-clause-order g c = if_ok _ _ c.from_residual-in_err-push-3.ensures.0
+
+pub returns-in_err-push-3-clause-positions : goal.returns-in_err-push-3-clause-positions
+returns-in_err-push-3-clause-positions g c = if_ok _ _ c.from_residual-in_err-push-3.ensures.0
+
+pub returns-in_err-push-4-clause-order : goal.returns-in_err-push-4-clause-order
+returns-in_err-push-4-clause-order g c = if_ok _ _ c.from_residual-in_err-push-4.ensures.0
+
+pub returns-in_err-push-4-clause-positions : goal.returns-in_err-push-4-clause-positions
+returns-in_err-push-4-clause-positions g c = if_ok _ _ c.from_residual-in_err-push-4.ensures.0

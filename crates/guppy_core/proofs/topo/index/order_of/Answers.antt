@@ -1,8 +1,9 @@
 use Rattle.std.proofs.Common.{◌<◌, ◌++◌, reverse, subst, ◌≡◌, ◌∙◌, length}
-use Rattle.guppy_core.specs.Reach.{Step}
-use Rattle.guppy_core.specs.declared.ix.direction.DependencyDirection.TheVariants.{Forward, Reverse}
+use Rattle.guppy_search.proofs.Exits.{if_ok}
+use Rattle.guppy_search.specs.Reach.{Step}
+use Rattle.guppy_search.specs.declared.ix.direction.DependencyDirection.TheVariants.{Forward, Reverse}
 use Rattle.guppy_core.proofs.Indexing.{topo_from}
-use Rattle.guppy_core.proofs.Searching.{far_end_below}
+use Rattle.guppy_search.proofs.Searching.{far_end_below}
 use Rattle.guppy_core.proofs.Acyclic.{entered_or_not, topo_leads_on}
 use Rattle.guppy_core.proofs.topo.index.order_of.Goals as goal
 
@@ -31,3 +32,33 @@ returns-clause-acyclic g c =
     topo_leads_on R (length graph.nodes) (entered_or_not g.kept graph.links)
     (λ a x t. subst (λ z. z < length graph.nodes) t.near (far_end_below Reverse graph.links (length graph.nodes) t.number t.link t.found ends))
     none (reverse c.in_ok-order.order.items ++ c.in_ok-rest.rest.items) topo)
+
+pub returns-in_err-starts-clause-topo : goal.returns-in_err-starts-clause-topo
+returns-in_err-starts-clause-topo g c = if_ok _ _ c.from_residual.ensures.0
+
+pub returns-in_err-starts-clause-acyclic : goal.returns-in_err-starts-clause-acyclic
+returns-in_err-starts-clause-acyclic g c = if_ok _ _ c.from_residual.ensures.0
+
+pub returns-in_err-order-clause-topo : goal.returns-in_err-order-clause-topo
+returns-in_err-order-clause-topo g c = if_ok _ _ c.from_residual-in_err-order.ensures.0
+
+pub returns-in_err-order-clause-acyclic : goal.returns-in_err-order-clause-acyclic
+returns-in_err-order-clause-acyclic g c = if_ok _ _ c.from_residual-in_err-order.ensures.0
+
+pub returns-in_err-reached-clause-topo : goal.returns-in_err-reached-clause-topo
+returns-in_err-reached-clause-topo g c = if_ok _ _ c.from_residual-in_err-reached.ensures.0
+
+pub returns-in_err-reached-clause-acyclic : goal.returns-in_err-reached-clause-acyclic
+returns-in_err-reached-clause-acyclic g c = if_ok _ _ c.from_residual-in_err-reached.ensures.0
+
+pub returns-in_err-rest-clause-topo : goal.returns-in_err-rest-clause-topo
+returns-in_err-rest-clause-topo g c = if_ok _ _ c.from_residual-in_err-rest.ensures.0
+
+pub returns-in_err-rest-clause-acyclic : goal.returns-in_err-rest-clause-acyclic
+returns-in_err-rest-clause-acyclic g c = if_ok _ _ c.from_residual-in_err-rest.ensures.0
+
+pub returns-in_err-extend_from_slice-clause-topo : goal.returns-in_err-extend_from_slice-clause-topo
+returns-in_err-extend_from_slice-clause-topo g c = if_ok _ _ c.from_residual-in_err-extend_from_slice.ensures.0
+
+pub returns-in_err-extend_from_slice-clause-acyclic : goal.returns-in_err-extend_from_slice-clause-acyclic
+returns-in_err-extend_from_slice-clause-acyclic g c = if_ok _ _ c.from_residual-in_err-extend_from_slice.ensures.0

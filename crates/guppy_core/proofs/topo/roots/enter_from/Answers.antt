@@ -1,5 +1,5 @@
 use Rattle.std.proofs.Common.{◌≡◌, ◌<◌, Bool, length, refl}
-use Rattle.guppy_core.specs.declared.ix.direction.DependencyDirection.TheVariants.{Forward}
+use Rattle.guppy_search.specs.declared.ix.direction.DependencyDirection.TheVariants.{Forward}
 use Rattle.guppy_core.proofs.Costs.{degree, one_more}
 use Rattle.guppy_core.proofs.Finishing.{Looked, looked_from, looked_below}
 use Rattle.guppy_core.proofs.Entering.{from_same, from_dropped, from_more, from_all}

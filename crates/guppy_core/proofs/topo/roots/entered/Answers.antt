@@ -1,7 +1,8 @@
 use Rattle.std.proofs.Common.{◌+◌, ◌<◌, ◌≤◌, ◌-◌, ◌^◌, length, refl, subst, arith, rules}
-use Rattle.guppy_core.specs.declared.ix.direction.DependencyDirection.TheVariants.{Forward, Reverse}
+use Rattle.guppy_search.proofs.Exits.{if_ok}
+use Rattle.guppy_search.specs.declared.ix.direction.DependencyDirection.TheVariants.{Forward, Reverse}
 use Rattle.guppy_core.proofs.Costs.{degree, degrees_few, cost_from-next}
-use Rattle.guppy_core.proofs.Searching.{far_end_below}
+use Rattle.guppy_search.proofs.Searching.{far_end_below}
 use Rattle.guppy_core.proofs.Entering.{entering_none, entering_more, entering_all}
 use Rattle.guppy_core.proofs.topo.roots.entered.Goals as goal
 
@@ -52,3 +53,9 @@ enter_from-requires g c κs within =
     let few = c.requires.1.1.1.1.1.0 in
     omega arith in
     (within.0, (within.1.0, (within.1.1.0, (within.1.1.1.0, (within.1.1.1.1, (rw inv.graph below, (rw inv.graph inv.entering.limit_is, (rw inv.graph room, (search rules, search rules)))))))))
+
+pub returns-in_err-set-clause-count : goal.returns-in_err-set-clause-count
+returns-in_err-set-clause-count g c = if_ok _ _ c.from_residual.ensures.0
+
+pub returns-in_err-set-clause-members : goal.returns-in_err-set-clause-members
+returns-in_err-set-clause-members g c = if_ok _ _ c.from_residual.ensures.0

@@ -1,5 +1,5 @@
 use Rattle.std.proofs.Common.{◌≡◌, ◌+◌, ◌-◌, ◌≤◌, length}
-use Rattle.guppy_core.specs.declared.ix.direction.DependencyDirection.TheVariants.{Forward}
+use Rattle.guppy_search.specs.declared.ix.direction.DependencyDirection.TheVariants.{Forward}
 use Rattle.guppy_core.proofs.Costs.{cost_from, degree}
 use Rattle.guppy_core.proofs.Entering.{Entering}
 use Rattle.guppy_core.proofs.topo.roots.entered.Given as goal

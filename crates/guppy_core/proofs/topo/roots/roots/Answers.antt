@@ -1,7 +1,8 @@
 use Rattle.std.proofs.Common.{length}
 use Rattle.std.proofs.lemmas.Result.{IfOk-weaker}
-use Rattle.guppy_core.specs.Reach.{Step}
-use Rattle.guppy_core.specs.declared.ix.direction.DependencyDirection.TheVariants.{Forward}
+use Rattle.guppy_search.proofs.Exits.{if_ok}
+use Rattle.guppy_search.specs.Reach.{Step}
+use Rattle.guppy_search.specs.declared.ix.direction.DependencyDirection.TheVariants.{Forward}
 use Rattle.guppy_core.proofs.Entering.{root_or_entered}
 use Rattle.guppy_core.proofs.Listings.{absence_below}
 use Rattle.guppy_core.proofs.topo.roots.roots.Goals as goal
@@ -13,3 +14,9 @@ returns-clause-roots g c =
 
 pub returns-clause-below : goal.returns-clause-below
 returns-clause-below g c = IfOk-weaker c.absent.result _ _ (λ list a. absence_below (length c.args.graph.now.graph.nodes) c.in_ok-entered.entered list.items c.in_ok-entered.ensures.count a) c.absent.ensures
+
+pub returns-in_err-entered-clause-below : goal.returns-in_err-entered-clause-below
+returns-in_err-entered-clause-below g c = if_ok _ _ c.from_residual.ensures.0
+
+pub returns-in_err-entered-clause-roots : goal.returns-in_err-entered-clause-roots
+returns-in_err-entered-clause-roots g c = if_ok _ _ c.from_residual.ensures.0

@@ -1,6 +1,6 @@
 use Rattle.std.proofs.Common.{◌∙◌, sym}
 use Rattle.std.specs.Slice.Iter.{iter_rest}
-use Rattle.guppy.proofs.TargetLists.{targets_read}
+use Rattle.guppy_graph.proofs.TargetLists.{targets_read}
 use Rattle.guppy.proofs.metadata.targets.BuildTargetsExactSizeIterator.len.Goals as goal
 
 pub returns-clause-value : goal.returns-clause-value

@@ -1,5 +1,5 @@
 use Rattle.std.specs.Slice.Iter.{iter_rest}
-use Rattle.guppy.proofs.TargetLists.{targets_read}
+use Rattle.guppy_graph.proofs.TargetLists.{targets_read}
 use Rattle.guppy.proofs.metadata.targets.BuildTargetsIterator.size_hint.Goals as goal
 
 pub returns-clause-lower : goal.returns-clause-lower

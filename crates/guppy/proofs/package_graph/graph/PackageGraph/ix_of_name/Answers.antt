@@ -1,4 +1,4 @@
-use Rattle.guppy.proofs.Membership.{name_within}
+use Rattle.guppy_graph.proofs.Membership.{name_within}
 use Rattle.guppy.proofs.package_graph.graph.PackageGraph.ix_of_name.Goals as goal
 
 pub ix_at-requires : goal.ix_at-requires

@@ -1,5 +1,5 @@
 use Rattle.guppy_data.specs.Utf8Path.{path_text}
-use Rattle.guppy.proofs.Membership.{path_within}
+use Rattle.guppy_graph.proofs.Membership.{path_within}
 use Rattle.guppy.proofs.package_graph.graph.PackageGraph.ix_of_path.Goals as goal
 
 pub ix_at-requires : goal.ix_at-requires

@@ -1,5 +1,5 @@
 use Rattle.std.proofs.Common.{map}
-use Rattle.guppy.specs.Ids.{ix_position}
+use Rattle.guppy_graph.specs.Ids.{ix_position}
 use Rattle.guppy.specs.Query.{AreNamed}
 use Rattle.guppy.proofs.package_graph.graph.PackageGraph.ixs_of.Given as goal
 

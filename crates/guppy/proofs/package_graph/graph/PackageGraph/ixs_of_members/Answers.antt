@@ -1,8 +1,8 @@
 use Rattle.std.proofs.Common.{◌∙◌, sym, ap, subst, map, take, [], ◌∷◌, ◌++◌}
 use Rattle.std.proofs.lemmas.List.{map_push, take_more, take_all}
-use Rattle.guppy.specs.Ids.{ix_position}
-use Rattle.guppy.specs.Members.{AreMembersByPath}
-use Rattle.guppy.proofs.Membership.{members_below}
+use Rattle.guppy_graph.specs.Ids.{ix_position}
+use Rattle.guppy_graph.specs.Members.{AreMembersByPath}
+use Rattle.guppy_graph.proofs.Membership.{members_below}
 use Rattle.guppy.proofs.package_graph.graph.PackageGraph.ixs_of_members.Goals as goal
 
 pub loop-position-init : goal.loop-position-init

@@ -1,8 +1,8 @@
 use Rattle.std.proofs.lemmas.List.{map_push}
 use Rattle.std.proofs.lemmas.Result.{err_from_is_err_and}
-use Rattle.guppy.specs.Members.{HasName, IsMemberName}
-use Rattle.guppy.proofs.Lists.{AllZip-push, All-from_AllZip}
-use Rattle.guppy.proofs.Unknown.{NamesName-along, first_unknown-next}
+use Rattle.guppy_graph.specs.Members.{HasName, IsMemberName}
+use Rattle.guppy_graph.proofs.Lists.{AllZip-push, All-from_AllZip}
+use Rattle.guppy_graph.proofs.Unknown.{NamesName-along, first_unknown-next}
 use Rattle.guppy.proofs.package_graph.graph.PackageGraph.ixs_of_names.Goals as goal
 
 pub returns-in_err-ix_of_name-clause-unknown : goal.returns-in_err-ix_of_name-clause-unknown

@@ -1,9 +1,9 @@
 use Rattle.std.proofs.lemmas.List.{map_push}
 use Rattle.std.proofs.lemmas.Result.{err_from_is_err_and}
 use Rattle.guppy_data.specs.Utf8Path.{path_text}
-use Rattle.guppy.specs.Members.{HasPath, IsMemberPath}
-use Rattle.guppy.proofs.Lists.{AllZip-push, All-from_AllZip}
-use Rattle.guppy.proofs.Unknown.{NamesPath-along, first_unknown-next}
+use Rattle.guppy_graph.specs.Members.{HasPath, IsMemberPath}
+use Rattle.guppy_graph.proofs.Lists.{AllZip-push, All-from_AllZip}
+use Rattle.guppy_graph.proofs.Unknown.{NamesPath-along, first_unknown-next}
 use Rattle.guppy.proofs.package_graph.graph.PackageGraph.ixs_of_paths.Goals as goal
 
 pub returns-in_err-ix_of_path-clause-unknown : goal.returns-in_err-ix_of_path-clause-unknown

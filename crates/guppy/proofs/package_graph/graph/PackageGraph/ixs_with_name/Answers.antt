@@ -1,6 +1,6 @@
 use Rattle.std.proofs.Common.{◌≡◌, ◌<◌, refl, subst, length, map, arith}
 use Rattle.std.proofs.lemmas.List.{map_push}
-use Rattle.guppy.specs.Ids.{ix_position}
+use Rattle.guppy_graph.specs.Ids.{ix_position}
 use Rattle.guppy.specs.PackageNames.{HasPackageName}
 use Rattle.guppy.proofs.Collecting.{AreBelow-push, AreBelow-skip, AreBelow-end}
 use Rattle.guppy.proofs.PackageNames.{named_within}

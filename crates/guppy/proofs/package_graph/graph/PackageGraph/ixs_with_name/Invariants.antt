@@ -1,5 +1,5 @@
 use Rattle.std.proofs.Common.{map}
-use Rattle.guppy.specs.Ids.{ix_position}
+use Rattle.guppy_graph.specs.Ids.{ix_position}
 use Rattle.guppy.specs.PackageNames.{HasPackageName}
 use Rattle.guppy.proofs.Collecting.{AreBelow}
 use Rattle.guppy.proofs.package_graph.graph.PackageGraph.ixs_with_name.Given as goal

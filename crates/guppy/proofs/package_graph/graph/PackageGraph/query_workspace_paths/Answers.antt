@@ -1,6 +1,6 @@
 use Rattle.std.proofs.Common.{map, subst, sym}
 use Rattle.guppy_data.specs.Utf8Path.{path_text}
-use Rattle.guppy.specs.Members.{HasPath}
+use Rattle.guppy_graph.specs.Members.{HasPath}
 use Rattle.guppy.specs.Query.{IsSetNamed, SetData}
 use Rattle.guppy.proofs.package_graph.graph.PackageGraph.query_workspace_paths.Goals as goal
 

@@ -1,6 +1,6 @@
 use Rattle.std.proofs.Common.{map}
-use Rattle.guppy.specs.Ids.{ix_position}
-use Rattle.guppy.proofs.Membership.{members_below, members_are}
+use Rattle.guppy_graph.specs.Ids.{ix_position}
+use Rattle.guppy_graph.proofs.Membership.{members_below, members_are}
 use Rattle.guppy.proofs.package_graph.graph.PackageGraph.resolve_workspace.Goals as goal
 
 pub set_of-requires : goal.set_of-requires

@@ -1,7 +1,7 @@
 use Rattle.std.proofs.Common.{map}
-use Rattle.guppy.specs.Ids.{ix_position}
-use Rattle.guppy.specs.Members.{HasName}
-use Rattle.guppy.proofs.Membership.{name_within}
+use Rattle.guppy_graph.specs.Ids.{ix_position}
+use Rattle.guppy_graph.specs.Members.{HasName}
+use Rattle.guppy_graph.proofs.Membership.{name_within}
 use Rattle.guppy.proofs.Naming.{zip_below, zip_named_set}
 use Rattle.guppy.proofs.package_graph.graph.PackageGraph.resolve_workspace_names.Goals as goal
 

@@ -1,8 +1,8 @@
 use Rattle.std.proofs.Common.{map}
-use Rattle.guppy.specs.Ids.{ix_position}
+use Rattle.guppy_graph.specs.Ids.{ix_position}
 use Rattle.guppy_data.specs.Utf8Path.{path_text}
-use Rattle.guppy.specs.Members.{HasPath}
-use Rattle.guppy.proofs.Membership.{path_within}
+use Rattle.guppy_graph.specs.Members.{HasPath}
+use Rattle.guppy_graph.proofs.Membership.{path_within}
 use Rattle.guppy.proofs.Naming.{zip_below, zip_named_set}
 use Rattle.guppy.proofs.package_graph.graph.PackageGraph.resolve_workspace_paths.Goals as goal
 

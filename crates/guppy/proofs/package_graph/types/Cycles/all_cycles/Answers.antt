@@ -1,10 +1,10 @@
 use Rattle.std.proofs.Common.{◌∙◌, ap, sym, subst, ◌<◌, length, map, All}
 use Rattle.std.specs.List.{filter}
-use Rattle.guppy_core.specs.declared.ix.direction.DependencyDirection.TheVariants.{Forward}
+use Rattle.guppy_search.specs.declared.ix.direction.DependencyDirection.TheVariants.{Forward}
 use Rattle.guppy_core.specs.Reach.{LinkStep}
-use Rattle.guppy.specs.Cycles.{AreOnOne, is_cyclic_component}
+use Rattle.guppy_graph.specs.Cycles.{AreOnOne, is_cyclic_component}
 use Rattle.guppy.specs.Listed.{ids_at}
-use Rattle.guppy.proofs.OnCycles.{blocks_below}
+use Rattle.guppy_graph.proofs.OnCycles.{blocks_below}
 use Rattle.guppy.proofs.CyclicComponents.{cyclic_from_listed, listed_from_cyclic}
 use Rattle.guppy.proofs.package_graph.types.Cycles.all_cycles.Goals as goal
 

@@ -1,5 +1,5 @@
-use Rattle.guppy.specs.Ids.{ix_position}
-use Rattle.guppy.proofs.OnCycles.{cyclic_by_positions}
+use Rattle.guppy_graph.specs.Ids.{ix_position}
+use Rattle.guppy_graph.proofs.OnCycles.{cyclic_by_positions}
 use Rattle.guppy.proofs.package_graph.types.Cycles.is_cyclic.Goals as goal
 
 pub returns-clause-answer : goal.returns-clause-answer

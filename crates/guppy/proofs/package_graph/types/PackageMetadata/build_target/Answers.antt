@@ -1,5 +1,5 @@
 use Rattle.std.proofs.lemmas.List.Elements.{All-contains}
-use Rattle.guppy.specs.Targets.{IsNamed}
+use Rattle.guppy_graph.specs.Targets.{IsNamed}
 use Rattle.guppy.proofs.package_graph.types.PackageMetadata.build_target.Goals as goal
 
 pub new-requires : goal.new-requires

@@ -9,6 +9,6 @@ use Rattle.guppy.proofs.package_graph.types.PackageMetadata.is_proc_macro.Goals 
 pub returns : goal.returns
 returns c =
     let P : BuildTargetRecord → Type 0 = λ t. (recorded_id t.id ≡ Library) × (recorded_kind t.kind ≡ ProcMacro) in
-    let targets = c.package_at.result.now.build_targets.items in
+    let targets = c.record.result.now.build_targets.items in
     let cases = cases_from_any _ _ _ P (λ t. P t → ⊥) c.any.ensures.ran (YieldsList-from_slice targets (c.iter.ensures.rest ∙ c.deref.ensures.value)) (λ x q k. search rules) (λ x q k. search rules) in
-    rw c.package_at.ensures (search-tells_Any P c.any.result targets cases)
+    rw c.record.ensures (search-tells_Any P c.any.result targets cases)

@@ -2,9 +2,9 @@ use Rattle.std.proofs.Common.{◌∙◌, sym, ap, subst, ◌<◌, [], ◌∷◌,
 use Rattle.std.specs.List.{Contains}
 use Rattle.std.proofs.lemmas.List.Elements.{All-cons, Contains-push}
 use Rattle.std.proofs.lemmas.Iterator.Adapters.{YieldsList-from_once}
-use Rattle.guppy.specs.Ids.{ix_position}
-use Rattle.guppy.proofs.Runs.{holds_along, drained}
-use Rattle.guppy.proofs.Naming.{only_one}
+use Rattle.guppy_graph.specs.Ids.{ix_position}
+use Rattle.guppy_graph.proofs.Lists.{only_one}
+use Rattle.guppy_graph.proofs.Runs.{holds_along, drained}
 use Rattle.guppy.proofs.package_graph.types.PackageMetadata.to_package_set.Goals as goal
 
 pub from_ixs-requires-clause-below : goal.from_ixs-requires-clause-below

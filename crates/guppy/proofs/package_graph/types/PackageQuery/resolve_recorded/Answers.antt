@@ -1,6 +1,6 @@
 use Rattle.std.proofs.Common.{◌≡◌, ◌∙◌, ap, ◌≤◌, length, arith, vec_capacity}
-use Rattle.guppy_core.proofs.Traces.{FoldsTo-along, length-judged, trace_kept}
-use Rattle.guppy.specs.Graph.{GraphData}
+use Rattle.guppy_search.proofs.Traces.{FoldsTo-along, length-judged, trace_kept}
+use Rattle.guppy_graph.specs.Graph.{GraphData}
 use Rattle.guppy.proofs.package_graph.types.PackageQuery.resolve_recorded.Goals as goal
 
 pub returns : goal.returns

@@ -1,6 +1,6 @@
 use Rattle.std.proofs.Common.{◌∙◌, sym, subst}
 use Rattle.guppy_core.specs.IxSet.{IsIn}
-use Rattle.guppy.proofs.Named.{position_is}
+use Rattle.guppy_graph.proofs.Named.{position_is}
 use Rattle.guppy.proofs.package_graph.types.PackageSet.contains.Goals as goal
 
 pub returns-clause-known : goal.returns-clause-known

@@ -1,7 +1,7 @@
 use Rattle.std.proofs.Common.{ℕ, map, refl, subst}
 use Rattle.std.proofs.lemmas.Option.{slice_get_within}
 use Rattle.guppy_core.specs.Walked.{numbers_of}
-use Rattle.guppy.specs.Graph.{GraphData}
+use Rattle.guppy_graph.specs.Graph.{GraphData}
 use Rattle.guppy.specs.Query.{SetData}
 use Rattle.guppy.specs.Walked.{AreWalkedLinks, AreLinksInside, IsWhole}
 use Rattle.guppy.proofs.Walking.{seen_link}

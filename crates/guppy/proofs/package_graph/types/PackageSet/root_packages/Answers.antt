@@ -1,7 +1,7 @@
 use Rattle.std.proofs.Common.{◌∙◌, ℕ, ◌<◌, map, All, ap, subst}
 use Rattle.std.specs.Vec.Iter.{into_iter_items}
-use Rattle.guppy.specs.Ids.{ix_position}
-use Rattle.guppy.specs.Graph.{GraphData}
+use Rattle.guppy_graph.specs.Ids.{ix_position}
+use Rattle.guppy_graph.specs.Graph.{GraphData}
 use Rattle.guppy.specs.Query.{SetData}
 use Rattle.guppy.specs.Rooted.{AreRootPackages}
 use Rattle.guppy.proofs.Rooted.{roots_within, packages_at_ixs}

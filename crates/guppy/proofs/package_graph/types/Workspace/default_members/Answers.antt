@@ -1,6 +1,6 @@
 use Rattle.std.proofs.Common.{◌≡◌, ◌∙◌, sym, ap, subst, All}
 use Rattle.std.specs.Slice.Iter.{iter_rest}
-use Rattle.guppy.specs.Ids.{IsKnown}
+use Rattle.guppy_graph.specs.Ids.{IsKnown}
 use Rattle.guppy.proofs.package_graph.types.Workspace.default_members.Goals as goal
 
 pub invariant_of-result : goal.invariant_of-result

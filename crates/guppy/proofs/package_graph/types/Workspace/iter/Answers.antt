@@ -1,5 +1,5 @@
 use Rattle.std.proofs.Common.{sym, subst, ◌<◌, length, All}
-use Rattle.guppy.proofs.Membership.{members_below}
+use Rattle.guppy_graph.proofs.Membership.{members_below}
 use Rattle.guppy.proofs.package_graph.types.Workspace.iter.Goals as goal
 
 pub invariant_of-result : goal.invariant_of-result

@@ -1,10 +1,10 @@
 use Rattle.std.proofs.Common.{◌≡◌, refl, subst, get_or}
 use Rattle.std.proofs.lemmas.List.{take_all, get_or_default}
 use Rattle.std.specs.List.{AllZip}
-use Rattle.guppy_core.specs.declared.ix.index_type.PackageIx.{PackageIx}
+use Rattle.guppy_search.specs.declared.ix.index_type.PackageIx.{PackageIx}
 use Rattle.guppy.specs.declared.package_graph.types.PackageMetadata.{PackageMetadata}
-use Rattle.guppy.specs.Ids.{ix_position}
-use Rattle.guppy.proofs.Lists.{AllZip-more}
+use Rattle.guppy_graph.specs.Ids.{ix_position}
+use Rattle.guppy_graph.proofs.Lists.{AllZip-more}
 use Rattle.guppy.proofs.package_graph.types.Workspace.members_at.Goals as goal
 
 pub loop-ix-preserved : goal.loop-ix-preserved

@@ -1,6 +1,6 @@
 use Rattle.std.proofs.Common.{◌≡◌, take}
 use Rattle.std.specs.List.{AllZip}
-use Rattle.guppy.specs.Ids.{ix_position}
+use Rattle.guppy_graph.specs.Ids.{ix_position}
 use Rattle.guppy.proofs.package_graph.types.Workspace.members_at.Given as goal
 
 abbrev pub invariant-loop-ix : goal.invariant-loop-ix

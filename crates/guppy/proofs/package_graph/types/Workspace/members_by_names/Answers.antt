@@ -1,8 +1,8 @@
 use Rattle.std.proofs.Common.{◌<◌, sym, subst, map, length}
-use Rattle.guppy.specs.Ids.{ix_position}
-use Rattle.guppy.specs.Members.{HasName}
-use Rattle.guppy.proofs.Lists.{All-from_AllZip_right, AllZip-through}
-use Rattle.guppy.proofs.Membership.{name_within}
+use Rattle.guppy_graph.specs.Ids.{ix_position}
+use Rattle.guppy_graph.specs.Members.{HasName}
+use Rattle.guppy_graph.proofs.Lists.{All-from_AllZip_right, AllZip-through}
+use Rattle.guppy_graph.proofs.Membership.{name_within}
 use Rattle.guppy.proofs.package_graph.types.Workspace.members_by_names.Goals as goal
 
 pub members_at-requires : goal.members_at-requires

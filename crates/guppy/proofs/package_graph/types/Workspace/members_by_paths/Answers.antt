@@ -1,9 +1,9 @@
 use Rattle.std.proofs.Common.{◌<◌, sym, subst, map, length}
 use Rattle.guppy_data.specs.Utf8Path.{path_text}
-use Rattle.guppy.specs.Ids.{ix_position}
-use Rattle.guppy.specs.Members.{HasPath}
-use Rattle.guppy.proofs.Lists.{All-from_AllZip_right, AllZip-through}
-use Rattle.guppy.proofs.Membership.{path_within}
+use Rattle.guppy_graph.specs.Ids.{ix_position}
+use Rattle.guppy_graph.specs.Members.{HasPath}
+use Rattle.guppy_graph.proofs.Lists.{All-from_AllZip_right, AllZip-through}
+use Rattle.guppy_graph.proofs.Membership.{path_within}
 use Rattle.guppy.proofs.package_graph.types.Workspace.members_by_paths.Goals as goal
 
 pub members_at-requires : goal.members_at-requires

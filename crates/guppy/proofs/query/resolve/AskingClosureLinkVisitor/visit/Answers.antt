@@ -1,5 +1,5 @@
 use Rattle.std.proofs.Common.{refl}
-use Rattle.guppy_core.proofs.Traces.{callable_now, callable_after}
+use Rattle.guppy_search.proofs.Traces.{callable_now, callable_after}
 use Rattle.guppy.proofs.query.resolve.AskingClosureLinkVisitor.visit.Goals as goal
 
 pub call-requires : goal.call-requires

@@ -2,7 +2,7 @@ use Rattle.std.proofs.Common.{◌≡◌, [], ◌∷◌, All, ◌<◌, length, su
 use Rattle.std.specs.Prelude.{MatchOption}
 use Rattle.std.proofs.lemmas.List.Elements.{All-tail}
 use Rattle.guppy_core.specs.Walked.{LinkEnds}
-use Rattle.guppy.specs.Ids.{ix_position}
+use Rattle.guppy_graph.specs.Ids.{ix_position}
 use Rattle.guppy.proofs.set.links.WalkedLinksIterator.next.Goals as goal
 
 pub invariant_of-self : goal.invariant_of-self

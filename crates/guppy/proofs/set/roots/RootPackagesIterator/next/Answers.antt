@@ -2,8 +2,8 @@ use Rattle.std.proofs.Common.{◌≡◌, ◌++◌, ◌<◌, All, length, subst, 
 use Rattle.std.specs.Option.{option_to_list}
 use Rattle.std.specs.Vec.Iter.{into_iter_items}
 use Rattle.std.proofs.lemmas.List.Elements.{All-tail}
-use Rattle.guppy_core.specs.declared.ix.index_type.PackageIx.{PackageIx}
-use Rattle.guppy.specs.Ids.{ix_position}
+use Rattle.guppy_search.specs.declared.ix.index_type.PackageIx.{PackageIx}
+use Rattle.guppy_graph.specs.Ids.{ix_position}
 use Rattle.guppy.proofs.set.roots.RootPackagesIterator.next.Goals as goal
 
 pub invariant_of-self : goal.invariant_of-self

@@ -1,8 +1,8 @@
 use Rattle.std.proofs.Common.{All, ℕ, List, subst, sym, Some, None}
 use Rattle.std.specs.Slice.Iter.{iter_rest, iter_steps}
 use Rattle.std.proofs.lemmas.List.Elements.{All-tail}
-use Rattle.guppy.specs.Ids.{IsKnown}
-use Rattle.guppy.proofs.Named.{within_of}
+use Rattle.guppy_graph.specs.Ids.{IsKnown}
+use Rattle.guppy_graph.proofs.Named.{within_of}
 use Rattle.guppy.proofs.workspace.default_members.DefaultMembersIterator.next.Goals as goal
 
 pub invariant_of-self : goal.invariant_of-self

@@ -2,7 +2,7 @@ use Rattle.std.proofs.Common.{◌<◌, length, sym, ap, ◌∙◌, subst}
 use Rattle.std.specs.Prelude.{All}
 use Rattle.std.specs.List.{concat, filter}
 use Rattle.std.proofs.lemmas.List.Elements.{All-filter}
-use Rattle.guppy_core.specs.IxSet.{has}
+use Rattle.guppy_search.specs.IxSet.{has}
 use Rattle.guppy_core.proofs.Included.{filter-listed, below_listed, count_listed}
 use Rattle.guppy_core.proofs.resolve_core.topo.Topo.new.Goals as goal
 

@@ -1,12 +1,13 @@
 use Rattle.std.proofs.Common.{◌≡◌, ◌<◌, ℕ, true, length, get_or, map, arith}
 use Rattle.std.proofs.lemmas.List.{get_or_default}
 use Rattle.std.proofs.lemmas.Result.{IfOk-weaker}
-use Rattle.guppy_core.specs.declared.ix.direction.DependencyDirection.TheVariants.{Forward}
-use Rattle.guppy_core.specs.Reach.{LinkStep, MutualReach}
-use Rattle.guppy_core.specs.IxSet.{IsIn}
+use Rattle.guppy_search.proofs.Exits.{if_ok}
+use Rattle.guppy_search.specs.declared.ix.direction.DependencyDirection.TheVariants.{Forward}
+use Rattle.guppy_search.specs.Reach.{LinkStep, MutualReach}
+use Rattle.guppy_search.specs.IxSet.{IsIn}
 use Rattle.guppy_core.specs.Sccs.{parts, InOneBlock}
 use Rattle.guppy_core.proofs.Blocks.{next_bound}
-use Rattle.guppy_core.proofs.Members.{IsIn-below}
+use Rattle.guppy_search.proofs.Members.{IsIn-below}
 use Rattle.guppy_core.proofs.Rooting.{both_ok, roots_by_numbers, roots_same, same_number, same_reach}
 use Rattle.guppy_core.proofs.scc.components.Sccs.externals.Goals as goal
 
@@ -62,3 +63,9 @@ returns-clause-reach g c =
     (λ x y i j. same_reach (LinkStep {E = g.row.G-Edge.Denot} Forward links) n index c.args.self.now sccs x y (below x i) (below y j))
     roots)
     (returns-clause-roots g c)
+
+pub returns-in_err-entered-clause-roots : goal.returns-in_err-entered-clause-roots
+returns-in_err-entered-clause-roots g c = if_ok _ _ c.from_residual.ensures.0
+
+pub returns-in_err-entered-clause-reach : goal.returns-in_err-entered-clause-reach
+returns-in_err-entered-clause-reach g c = if_ok _ _ c.from_residual.ensures.0

@@ -1,8 +1,9 @@
 use Rattle.std.proofs.Common.{length, get_or, subst, refl, arith}
 use Rattle.std.specs.Prelude.{map}
 use Rattle.std.proofs.lemmas.Option.{slice_get-get_or}
-use Rattle.guppy_core.specs.declared.ix.direction.DependencyDirection.TheVariants.{Forward}
-use Rattle.guppy_core.specs.Reach.{LinkStep, Step}
+use Rattle.guppy_search.proofs.Exits.{if_ok}
+use Rattle.guppy_search.specs.declared.ix.direction.DependencyDirection.TheVariants.{Forward}
+use Rattle.guppy_search.specs.Reach.{LinkStep, Step}
 use Rattle.guppy_core.specs.Held.{items_of}
 use Rattle.guppy_core.specs.Listing.{IsListing}
 use Rattle.guppy_core.proofs.Grouping.{sccs_from, numbered_from, grouped_below}
@@ -72,3 +73,30 @@ returns-clause-leads_on g c =
     rw laid.parts (λ keep leads. sccs_lead_on R (Step {E = g.row.G-Edge.Denot} Forward keep graph.links)
     (λ x y s. record { number = s.number; link = s.link; found = s.found; near = s.near; far = s.far; kept = refl })
     (length graph.nodes) c.args.topo.now blocks t leads sccs)
+
+pub returns-in_err-numbered-clause-sccs : goal.returns-in_err-numbered-clause-sccs
+returns-in_err-numbered-clause-sccs g c = if_ok _ _ c.from_residual.ensures.0
+
+pub returns-in_err-numbered-clause-order : goal.returns-in_err-numbered-clause-order
+returns-in_err-numbered-clause-order g c = if_ok _ _ c.from_residual.ensures.0
+
+pub returns-in_err-numbered-clause-leads_on : goal.returns-in_err-numbered-clause-leads_on
+returns-in_err-numbered-clause-leads_on g c = if_ok _ _ c.from_residual.ensures.0
+
+pub returns-in_err-blocks-clause-sccs : goal.returns-in_err-blocks-clause-sccs
+returns-in_err-blocks-clause-sccs g c = if_ok _ _ c.from_residual-in_err-blocks.ensures.0
+
+pub returns-in_err-blocks-clause-order : goal.returns-in_err-blocks-clause-order
+returns-in_err-blocks-clause-order g c = if_ok _ _ c.from_residual-in_err-blocks.ensures.0
+
+pub returns-in_err-blocks-clause-leads_on : goal.returns-in_err-blocks-clause-leads_on
+returns-in_err-blocks-clause-leads_on g c = if_ok _ _ c.from_residual-in_err-blocks.ensures.0
+
+pub returns-in_err-positions-clause-sccs : goal.returns-in_err-positions-clause-sccs
+returns-in_err-positions-clause-sccs g c = if_ok _ _ c.from_residual-in_err-positions.ensures.0
+
+pub returns-in_err-positions-clause-order : goal.returns-in_err-positions-clause-order
+returns-in_err-positions-clause-order g c = if_ok _ _ c.from_residual-in_err-positions.ensures.0
+
+pub returns-in_err-positions-clause-leads_on : goal.returns-in_err-positions-clause-leads_on
+returns-in_err-positions-clause-leads_on g c = if_ok _ _ c.from_residual-in_err-positions.ensures.0

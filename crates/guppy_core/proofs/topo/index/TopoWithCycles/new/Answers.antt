@@ -1,4 +1,5 @@
 use Rattle.std.proofs.Common.{length}
+use Rattle.guppy_search.proofs.Exits.{if_ok}
 use Rattle.guppy_core.proofs.Indexing.{order_below}
 use Rattle.guppy_core.proofs.topo.index.TopoWithCycles.new.Goals as goal
 
@@ -7,3 +8,15 @@ places-requires-clause-below g c = rw c.as_slice.ensures.value (order_below (len
 
 pub places-requires-clause-once : goal.places-requires-clause-once
 places-requires-clause-once g c = rw c.as_slice.ensures.value c.in_ok-order.ensures.topo.listing.once
+
+pub returns-in_err-order-clause-topo : goal.returns-in_err-order-clause-topo
+returns-in_err-order-clause-topo g c = if_ok _ _ c.from_residual.ensures.0
+
+pub returns-in_err-order-clause-acyclic : goal.returns-in_err-order-clause-acyclic
+returns-in_err-order-clause-acyclic g c = if_ok _ _ c.from_residual.ensures.0
+
+pub returns-in_err-index-clause-topo : goal.returns-in_err-index-clause-topo
+returns-in_err-index-clause-topo g c = if_ok _ _ c.from_residual-in_err-index.ensures.0
+
+pub returns-in_err-index-clause-acyclic : goal.returns-in_err-index-clause-acyclic
+returns-in_err-index-clause-acyclic g c = if_ok _ _ c.from_residual-in_err-index.ensures.0

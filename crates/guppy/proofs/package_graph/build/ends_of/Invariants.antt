@@ -1,6 +1,0 @@
-use Rattle.std.proofs.Common.{take}
-use Rattle.guppy.specs.Links.{AreEndsOf}
-use Rattle.guppy.proofs.package_graph.build.ends_of.Given as goal
-
-abbrev pub invariant-loop-number : goal.invariant-loop-number
-invariant-loop-number l = AreEndsOf l.packages (take l.number l.records) l.ends.items

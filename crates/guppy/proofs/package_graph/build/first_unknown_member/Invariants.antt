@@ -1,6 +1,0 @@
-use Rattle.std.proofs.Common.{All, take}
-use Rattle.guppy.specs.Ids.{IsKnown}
-use Rattle.guppy.proofs.package_graph.build.first_unknown_member.Given as goal
-
-abbrev pub invariant-loop-index : goal.invariant-loop-index
-invariant-loop-index l = All (IsKnown l.packages) (take l.index l.members)

@@ -1,6 +1,0 @@
-use Rattle.std.proofs.Common.{All, take}
-use Rattle.guppy.specs.Targets.{IsNamed}
-use Rattle.guppy.proofs.package_graph.build.first_unnamed.Given as goal
-
-abbrev pub invariant-loop-place : goal.invariant-loop-place
-invariant-loop-place l = All IsNamed (take l.place l.targets)

@@ -1,6 +1,0 @@
-use Rattle.std.proofs.Common.{All, take}
-use Rattle.guppy.specs.Targets.{AreTargetsNamed}
-use Rattle.guppy.proofs.package_graph.build.first_with_unnamed_target.Given as goal
-
-abbrev pub invariant-loop-position : goal.invariant-loop-position
-invariant-loop-position l = All AreTargetsNamed (take l.position l.packages)

@@ -1,6 +1,0 @@
-use Rattle.std.proofs.Common.{All, take}
-use Rattle.guppy.specs.Verified.{IsLinkVerified}
-use Rattle.guppy.proofs.package_graph.graph.PackageGraph.fault_of_links.Given as goal
-
-abbrev pub invariant-loop-number : goal.invariant-loop-number
-invariant-loop-number l = All (IsLinkVerified l.self) (take l.number-index l.number-items)

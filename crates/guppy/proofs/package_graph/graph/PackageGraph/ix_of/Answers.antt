@@ -1,5 +1,0 @@
-use Rattle.guppy.proofs.Unknown.{first_unknown-alone}
-use Rattle.guppy.proofs.package_graph.graph.PackageGraph.ix_of.Goals as goal
-
-pub returns-in_ok-clone-in-None-clause-unknown : goal.returns-in_ok-clone-in-None-clause-unknown
-returns-in_ok-clone-in-None-clause-unknown c = rw c.in_ok-clone-in-None.ensures.cases (first_unknown-alone _ _ c.in-None.ensures.found)

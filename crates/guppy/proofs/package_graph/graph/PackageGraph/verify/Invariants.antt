@@ -1,6 +1,0 @@
-use Rattle.std.proofs.Common.{ℕ, ◌<◌}
-use Rattle.guppy.specs.Verified.{IsPackageVerified}
-use Rattle.guppy.proofs.package_graph.graph.PackageGraph.verify.Given as goal
-
-abbrev pub invariant-loop-position : goal.invariant-loop-position
-invariant-loop-position l = (p : ℕ) → p < l.position → IsPackageVerified l.self p

@@ -1,5 +1,0 @@
-use Rattle.guppy.specs.Keys.{HasKey, DifferBelow}
-use Rattle.guppy.proofs.package_graph.keyed.first_repeat.Given as goal
-
-abbrev pub invariant-loop-position : goal.invariant-loop-position
-invariant-loop-position g l = DifferBelow (HasKey g.S.Keyed.order (g.S.Keyed.key_at l.source)) l.position

@@ -1,0 +1,50 @@
+-- What the arguments ask.
+use Rattle.std.specs.Prelude.{ℕ, List, [], ◌∷◌, Option, Some, None, option_map, codes, if◌then◌else◌}
+use Rattle.std.specs.Str.{bytes_eq}
+use Rattle.guppy_search.specs.declared.ix.direction.DependencyDirection.{DependencyDirection}
+use Rattle.guppy_search.specs.declared.ix.direction.DependencyDirection.TheVariants.{Forward, Reverse}
+
+-- the packages that these reach in a direction, whether the first depends on the second, the packages in their order, the roots of all packages or the links walked from them in a direction, the cycles, or whether the graph is a verified one
+pub data Command : Type 0 where
+  reach : DependencyDirection → List (List ℕ) → Command
+  depends : List ℕ → List ℕ → Command
+  order : Command
+  roots : DependencyDirection → Command
+  links : DependencyDirection → Command
+  cycles : Command
+  verify : Command
+
+-- `forward` or `reverse`
+abbrev pub direction_of : List ℕ → Option DependencyDirection
+direction_of word = if bytes_eq word (codes "forward") then Some Forward else (if bytes_eq word (codes "reverse") then Some Reverse else None)
+
+-- `forward ID..` or `reverse ID..`, with one ID or more
+abbrev pub reach_of : List (List ℕ) → Option Command
+reach_of (word ∷ id ∷ ids) = option_map (λ direction. reach direction (id ∷ ids)) (direction_of word)
+reach_of _ = None
+
+-- `A B`
+abbrev pub depends_of : List (List ℕ) → Option Command
+depends_of (from ∷ to ∷ []) = Some (depends from to)
+depends_of _ = None
+
+-- `forward` or `reverse`, with no word behind it
+abbrev pub lone_direction_of : List (List ℕ) → Option DependencyDirection
+lone_direction_of (word ∷ []) = direction_of word
+lone_direction_of _ = None
+
+-- the command, with no word behind it
+abbrev pub alone : Command → List (List ℕ) → Option Command
+alone command [] = Some command
+alone command _ = None
+
+-- the command that the words give, if they give one
+abbrev pub command_of : List (List ℕ) → Option Command
+command_of [] = None
+command_of (word ∷ words) = if bytes_eq word (codes "reach") then reach_of words
+    else (if bytes_eq word (codes "depends") then depends_of words
+    else (if bytes_eq word (codes "order") then alone order words
+    else (if bytes_eq word (codes "roots") then option_map roots (lone_direction_of words)
+    else (if bytes_eq word (codes "links") then option_map links (lone_direction_of words)
+    else (if bytes_eq word (codes "cycles") then alone cycles words
+    else (if bytes_eq word (codes "verify") then alone verify words else None))))))

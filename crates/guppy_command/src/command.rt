@@ -1,0 +1,106 @@
+//! What the arguments ask.
+ghost use Rattle.std.specs.Prelude.{◌≡◌, map, string_bytes, option_map};
+ghost use Rattle.guppy_command.specs.Command.{command_of, direction_of, lone_direction_of, reach_of, depends_of, alone};
+ghost use Rattle.guppy_command.specs.Shown.{command_shown};
+
+use guppy_core::DependencyDirection;
+
+/// What the program is asked.
+#[derive(Debug, Drop)]
+pub enum Command<'a> {
+    /// The packages that these reach in the direction, in the order of their IDs.
+    Reach(DependencyDirection, &'a [String]),
+    /// Whether the first package depends on the second.
+    Depends(&'a str, &'a str),
+    /// All packages in their order, dependents first.
+    Order,
+    /// The roots of all packages in the direction, by position.
+    Roots(DependencyDirection),
+    /// The links that are walked from these roots in the direction.
+    Links(DependencyDirection),
+    /// The cycles in the order of the packages.
+    Cycles,
+    /// Whether the graph is a verified graph.
+    Verify,
+}
+
+fn direction_of(word: &str) -> Option<DependencyDirection>
+    ensures { result ≡ direction_of word.now }
+{
+    if word == "forward" {
+        Some(DependencyDirection::Forward)
+    } else if word == "reverse" {
+        Some(DependencyDirection::Reverse)
+    } else {
+        None
+    }
+}
+
+// The direction, where it is the only word.
+fn lone_direction_of(words: &[String]) -> Option<DependencyDirection>
+    ensures { result ≡ lone_direction_of (map string_bytes words.now) }
+{
+    let [word] = words else {
+        return None;
+    };
+    direction_of(word.as_str())
+}
+
+fn reach_of(words: &[String]) -> Option<Command<'_>>
+    ensures { option_map command_shown result ≡ reach_of (map string_bytes words.now) }
+{
+    let [word, ids @ ..] = words else {
+        return None;
+    };
+    if ids.is_empty() {
+        return None;
+    }
+    let direction = direction_of(word.as_str())?;
+    Some(Command::Reach(direction, ids))
+}
+
+fn depends_of(words: &[String]) -> Option<Command<'_>>
+    ensures { option_map command_shown result ≡ depends_of (map string_bytes words.now) }
+{
+    let [from, to] = words else {
+        return None;
+    };
+    Some(Command::Depends(from.as_str(), to.as_str()))
+}
+
+// The command, where no words are behind it.
+fn alone<'a>(command: Command<'a>, words: &[String]) -> Option<Command<'a>>
+    ensures { option_map command_shown result ≡ alone (command_shown command.entry) (map string_bytes words.now) }
+{
+    if words.is_empty() {
+        Some(command)
+    } else {
+        None
+    }
+}
+
+/// The command that the arguments give, if they give one. Takes time linear in their lengths, and no memory.
+pub fn command_of(args: &[String]) -> Option<Command<'_>>
+    ensures { option_map command_shown result ≡ command_of (map string_bytes args.now) }
+{
+    let [word, words @ ..] = args else {
+        return None;
+    };
+    if word.as_str() == "reach" {
+        reach_of(words)
+    } else if word.as_str() == "depends" {
+        depends_of(words)
+    } else if word.as_str() == "order" {
+        alone(Command::Order, words)
+    } else if word.as_str() == "roots" {
+        Some(Command::Roots(lone_direction_of(words)?))
+    } else if word.as_str() == "links" {
+        Some(Command::Links(lone_direction_of(words)?))
+    } else if word.as_str() == "cycles" {
+        alone(Command::Cycles, words)
+    } else if word.as_str() == "verify" {
+        alone(Command::Verify, words)
+    } else {
+        None
+    }
+}

@@ -1,5 +1,0 @@
-use Rattle.guppy_core.proofs.Walks.{walk_on}
-use Rattle.guppy_core.proofs.dfs.laws.reach_is_transitive.Goals as goal
-
-pub returns : goal.returns
-returns g c = λ d keep links a b c v w. walk_on v w

@@ -1,5 +1,0 @@
-use Rattle.guppy_core.proofs.Combining.{AreCombined}
-use Rattle.guppy_core.proofs.ix.words.combine.Given as goal
-
-abbrev pub invariant-loop-k : goal.invariant-loop-k
-invariant-loop-k g l = AreCombined (λ a b r. g.F.Fn.post l.operation (a, (b, tt)) r) l.fn.words l.others l.k l.words

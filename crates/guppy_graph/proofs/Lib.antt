@@ -1,0 +1,15 @@
+pub mod Lists
+pub mod Lookups
+pub mod Keying
+pub mod Named
+pub mod Targeting
+pub mod Unknown
+pub mod Runs
+pub mod Depending
+pub mod Ends
+pub mod Accepting
+pub mod Ascending
+pub mod Membership
+pub mod TargetLists
+pub mod OnCycles
+pub mod Verifying

@@ -1,0 +1,86 @@
+-- The first unknown text of a list, and the errors that name it.
+use Rattle.std.proofs.Common.{◌∙◌, sym, ap, refl, ℕ, List, [], ◌∷◌, ◌++◌, append_assoc, arith, All, map, Option, Some}
+use Rattle.std.specs.String.{string_bytes}
+use Rattle.std.specs.Iterator.{Yields}
+use Rattle.std.proofs.iter.Next.{Yields-more}
+use Rattle.std.proofs.lemmas.List.{map_push}
+use Rattle.std.proofs.lemmas.List.Elements.{All-append, All-cons}
+use Rattle.guppy_data.specs.declared.texts.fault.ConstructFault.{ConstructFault}
+use Rattle.guppy_data.specs.declared.texts.error.Error.{Error}
+use Rattle.guppy_data.specs.declared.texts.error.Error.TheVariants.{PackageGraphConstructError, UnknownPackageId, UnknownFeatureId, UnknownWorkspacePath, UnknownWorkspaceName, PackageGraphInternalError, FeatureGraphInternalError, OutOfMemory}
+use Rattle.guppy_graph.specs.Refused.{TellsFault, NamesId, NamesPath, NamesName, IsFirstNot}
+
+pub NamesId-along : (P Q : List ℕ → Type 0) (e : Error) → ((id : List ℕ) → P id → Q id) → NamesId P e → NamesId Q e
+NamesId-along P Q (PackageGraphConstructError f) h n = n
+NamesId-along P Q (UnknownPackageId id) h n = h id n
+NamesId-along P Q (UnknownFeatureId id feature) h n = n
+NamesId-along P Q (UnknownWorkspacePath path) h n = n
+NamesId-along P Q (UnknownWorkspaceName name) h n = n
+NamesId-along P Q (PackageGraphInternalError f) h n = n
+NamesId-along P Q (FeatureGraphInternalError text) h n = n
+NamesId-along P Q OutOfMemory h n = n
+
+pub NamesPath-along : (P Q : List ℕ → Type 0) (e : Error) → ((path : List ℕ) → P path → Q path) → NamesPath P e → NamesPath Q e
+NamesPath-along P Q (PackageGraphConstructError f) h n = n
+NamesPath-along P Q (UnknownPackageId id) h n = n
+NamesPath-along P Q (UnknownFeatureId id feature) h n = n
+NamesPath-along P Q (UnknownWorkspacePath path) h n = h path n
+NamesPath-along P Q (UnknownWorkspaceName name) h n = n
+NamesPath-along P Q (PackageGraphInternalError f) h n = n
+NamesPath-along P Q (FeatureGraphInternalError text) h n = n
+NamesPath-along P Q OutOfMemory h n = n
+
+pub NamesName-along : (P Q : List ℕ → Type 0) (e : Error) → ((name : List ℕ) → P name → Q name) → NamesName P e → NamesName Q e
+NamesName-along P Q (PackageGraphConstructError f) h n = n
+NamesName-along P Q (UnknownPackageId id) h n = n
+NamesName-along P Q (UnknownFeatureId id feature) h n = n
+NamesName-along P Q (UnknownWorkspacePath path) h n = n
+NamesName-along P Q (UnknownWorkspaceName name) h n = h (string_bytes name) n
+NamesName-along P Q (PackageGraphInternalError f) h n = n
+NamesName-along P Q (FeatureGraphInternalError text) h n = n
+NamesName-along P Q OutOfMemory h n = n
+
+pub TellsFault-along : (P Q : ConstructFault → Type 0) (e : Error) → ((f : ConstructFault) → P f → Q f) → TellsFault P e → TellsFault Q e
+TellsFault-along P Q (PackageGraphConstructError f) h n = h f n
+TellsFault-along P Q (UnknownPackageId id) h n = n
+TellsFault-along P Q (UnknownFeatureId id feature) h n = n
+TellsFault-along P Q (UnknownWorkspacePath path) h n = n
+TellsFault-along P Q (UnknownWorkspaceName name) h n = n
+TellsFault-along P Q (PackageGraphInternalError f) h n = n
+TellsFault-along P Q (FeatureGraphInternalError text) h n = n
+TellsFault-along P Q OutOfMemory h n = n
+
+module _ (Known : List ℕ → Type 0) where
+  -- an unknown text alone
+  pub first_unknown-alone : (text : List ℕ) → (Known text → ⊥) → IsFirstNot Known (text ∷ []) text
+  first_unknown-alone text unknown = record { before = []; after = []; place = refl; known = λ k d h. absurd (omega arith); unknown = unknown }
+
+  -- known texts in front change nothing
+  pub first_unknown-front : (front texts : List (List ℕ)) (text : List ℕ) → All Known front → IsFirstNot Known texts text → IsFirstNot Known (front ++ texts) text
+  first_unknown-front front texts text known first = record {
+    before = front ++ first.before;
+    after = first.after;
+    place = ap (λ l. front ++ l) first.place ∙ sym (append_assoc front first.before (text ∷ first.after));
+    known = All-append Known front first.before known first.known;
+    unknown = first.unknown;
+  }
+
+  -- nor does one known text
+  pub first_unknown-cons : (front : List ℕ) (texts : List (List ℕ)) (text : List ℕ) → Known front → IsFirstNot Known texts text → IsFirstNot Known (front ∷ texts) text
+  first_unknown-cons front texts text known first = first_unknown-front (front ∷ []) texts text (All-cons Known front [] known (λ k d h. absurd (omega arith))) first
+
+  -- nor do texts behind
+  pub first_unknown-behind : (texts behind : List (List ℕ)) (text : List ℕ) → IsFirstNot Known texts text → IsFirstNot Known (texts ++ behind) text
+  first_unknown-behind texts behind text first = record {
+    before = first.before;
+    after = first.after ++ behind;
+    place = ap (λ l. l ++ behind) first.place ∙ append_assoc first.before (text ∷ first.after) behind;
+    known = first.known;
+    unknown = first.unknown;
+  }
+
+  -- an iterator gave known texts, and then one that is unknown
+  pub first_unknown-next : {S X : Type 0} (steps : S → Option X → S → Type 0) (text : X → List ℕ) (s t u : S) (asked : List X) (x : X) (found : List ℕ) → Yields steps s asked t → steps t (Some x) u → All Known (map text asked) → IsFirstNot Known (text x ∷ []) found
+      → (given : List X) × (rest : S) × Yields steps s given rest × IsFirstNot Known (map text given) found
+  first_unknown-next steps text s t u asked x found gave step known first =
+      (asked ++ x ∷ [], u, Yields-more steps s asked t x u gave step, rw map_push (first_unknown-front (map text asked) (text x ∷ []) found known first))

@@ -1,0 +1,17 @@
+pub mod Keys
+pub mod PathOrder
+pub mod Ids
+pub mod Members
+pub mod Targets
+pub mod Indexes
+pub mod Links
+pub mod Accepted
+pub mod Parts
+pub mod DevOnly
+pub mod Ordered
+pub mod Graph
+pub mod Refused
+pub mod Depends
+pub mod Cycles
+pub mod Sections
+pub mod Verified

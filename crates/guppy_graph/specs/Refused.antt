@@ -1,0 +1,91 @@
+-- What an error tells.
+use Rattle.std.specs.Prelude.{◌≡◌, ℕ, List, ◌∷◌, ◌++◌, All}
+use Rattle.guppy_search.specs.declared.graph_core.graph.GraphFault.{GraphFault}
+use Rattle.guppy_search.specs.declared.graph_core.graph.GraphFault.TheVariants.{TooManyNodes, TooManyLinks, UnknownEnd, RepeatedLink, OutOfMemory as GraphMemory}
+use Rattle.guppy_data.specs.declared.texts.fault.ConstructFault.{ConstructFault}
+use Rattle.guppy_data.specs.declared.texts.fault.ConstructFault.TheVariants.{TooManyPackages, UnknownLinkEnd, TooManyLinks as TooManyLinkRecords, RepeatedLink as RepeatedLinkRecord}
+use Rattle.guppy_data.specs.declared.texts.error.Error.{Error}
+use Rattle.guppy_data.specs.declared.texts.error.Error.TheVariants.{PackageGraphConstructError, UnknownPackageId, UnknownFeatureId, UnknownWorkspacePath, UnknownWorkspaceName, PackageGraphInternalError, FeatureGraphInternalError, OutOfMemory}
+use Rattle.guppy_data.specs.declared.records.PackageRecord.{PackageRecord}
+use Rattle.guppy_data.specs.declared.records.LinkRecord.{LinkRecord}
+use Rattle.guppy_data.specs.declared.records.WorkspaceRecord.{WorkspaceRecord}
+use Rattle.std.specs.String.{string_bytes}
+use Rattle.guppy_graph.specs.Ids.{IsKnown}
+use Rattle.guppy_graph.specs.Members.{IsMemberPath, IsMemberName}
+use Rattle.guppy_graph.specs.Accepted.{IsFirstFault}
+
+-- the error tells a fault of which P holds, or that memory ran out
+abbrev pub TellsFault : (ConstructFault → Type 0) → Error → Type 0
+TellsFault P (PackageGraphConstructError f) = P f
+TellsFault P (UnknownPackageId id) = ⊥
+TellsFault P (UnknownFeatureId id feature) = ⊥
+TellsFault P (UnknownWorkspacePath path) = ⊥
+TellsFault P (UnknownWorkspaceName name) = ⊥
+TellsFault P (PackageGraphInternalError f) = ⊥
+TellsFault P (FeatureGraphInternalError text) = ⊥
+TellsFault P OutOfMemory = Unit {0}
+
+-- the error tells the first fault of the records, or that memory ran out
+abbrev pub IsRefusal : List PackageRecord → List LinkRecord → WorkspaceRecord → Error → Type 0
+IsRefusal packages links workspace = TellsFault (IsFirstFault packages links workspace)
+
+-- the error names an ID of which P holds, or tells that memory ran out
+abbrev pub NamesId : (List ℕ → Type 0) → Error → Type 0
+NamesId P (PackageGraphConstructError f) = ⊥
+NamesId P (UnknownPackageId id) = P id
+NamesId P (UnknownFeatureId id feature) = ⊥
+NamesId P (UnknownWorkspacePath path) = ⊥
+NamesId P (UnknownWorkspaceName name) = ⊥
+NamesId P (PackageGraphInternalError f) = ⊥
+NamesId P (FeatureGraphInternalError text) = ⊥
+NamesId P OutOfMemory = Unit {0}
+
+-- the error names a path of which P holds, or tells that memory ran out
+abbrev pub NamesPath : (List ℕ → Type 0) → Error → Type 0
+NamesPath P (PackageGraphConstructError f) = ⊥
+NamesPath P (UnknownPackageId id) = ⊥
+NamesPath P (UnknownFeatureId id feature) = ⊥
+NamesPath P (UnknownWorkspacePath path) = P path
+NamesPath P (UnknownWorkspaceName name) = ⊥
+NamesPath P (PackageGraphInternalError f) = ⊥
+NamesPath P (FeatureGraphInternalError text) = ⊥
+NamesPath P OutOfMemory = Unit {0}
+
+-- the error names a name of which P holds, or tells that memory ran out
+abbrev pub NamesName : (List ℕ → Type 0) → Error → Type 0
+NamesName P (PackageGraphConstructError f) = ⊥
+NamesName P (UnknownPackageId id) = ⊥
+NamesName P (UnknownFeatureId id feature) = ⊥
+NamesName P (UnknownWorkspacePath path) = ⊥
+NamesName P (UnknownWorkspaceName name) = P (string_bytes name)
+NamesName P (PackageGraphInternalError f) = ⊥
+NamesName P (FeatureGraphInternalError text) = ⊥
+NamesName P OutOfMemory = Unit {0}
+
+-- the text is the first of the list that isn't known
+pub record IsFirstNot (Known : List ℕ → Type 0) (texts : List (List ℕ)) (text : List ℕ) : Type 0 where
+  pub before : List (List ℕ)
+  pub after : List (List ℕ)
+  pub place : texts ≡ before ++ text ∷ after
+  pub known : All Known before
+  pub unknown : Known text → ⊥
+
+-- the ID is the first of the list that is no package's
+abbrev pub IsFirstUnknown : List PackageRecord → List (List ℕ) → List ℕ → Type 0
+IsFirstUnknown packages = IsFirstNot (IsKnown packages)
+
+-- the path is the first of the list that is no member's
+abbrev pub IsFirstUnknownPath : List PackageRecord → List (List ℕ) → List ℕ → Type 0
+IsFirstUnknownPath packages = IsFirstNot (IsMemberPath packages)
+
+-- the name is the first of the list that is no member's
+abbrev pub IsFirstUnknownName : List PackageRecord → List (List ℕ) → List ℕ → Type 0
+IsFirstUnknownName packages = IsFirstNot (IsMemberName packages)
+
+-- the error of a fault of a graph's parts
+abbrev pub error_of : GraphFault → Error
+error_of (RepeatedLink l) = PackageGraphConstructError (RepeatedLinkRecord l)
+error_of (UnknownEnd l) = PackageGraphConstructError (UnknownLinkEnd l)
+error_of TooManyNodes = PackageGraphConstructError TooManyPackages
+error_of TooManyLinks = PackageGraphConstructError TooManyLinkRecords
+error_of GraphMemory = OutOfMemory

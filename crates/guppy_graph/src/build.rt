@@ -1,0 +1,277 @@
+//! The parts of a package graph, made of records.
+ghost use Rattle.std.specs.Prelude.{◌≡◌, ℕ, ◌<◌, List, IfOk, IfErr, OnOk, MatchOption, IsTrue, All, length, map, ◌↔◌};
+ghost use Rattle.std.specs.List.{zip};
+ghost use Rattle.guppy_data.specs.declared.records.LinkRecord.{LinkRecord};
+ghost use Rattle.guppy_graph.specs.Keys.{DifferBelow, IsFirstRepeat};
+ghost use Rattle.guppy_graph.specs.Ids.{HasId, IsKnown};
+ghost use Rattle.guppy_graph.specs.Members.{HasPath, HasName};
+ghost use Rattle.guppy_graph.specs.Indexes.{IsIdIndex, IsPathIndex, IsNameIndex, AreTargetIndexes, AreIndexes};
+ghost use Rattle.guppy_graph.specs.Targets.{AreTargetsDistinct, AreTargetsNamed, IsNamed, IsFirstUnnamed, IsFirstRepeatedTarget, IsFirstUnnamedTarget};
+ghost use Rattle.guppy_graph.specs.Accepted.{ArePackagesAccepted, IsFirstUnknownMember};
+ghost use Rattle.guppy_graph.specs.Links.{AreEndsOf, IsFirstUnknownEnd, link_of};
+ghost use Rattle.guppy_graph.specs.Refused.{TellsFault, IsRefusal};
+
+use crate::keyed::{first_repeat, index_of};
+use crate::keys::{
+    Ids, Names, Paths, TargetIds, first_repeated_id, first_repeated_name, first_repeated_target,
+    position_of_id,
+};
+use guppy_core::Link;
+use guppy_data::{
+    BuildTargetRecord, ConstructFault, Error, LinkRecord, OwnedBuildTargetId, PackageId,
+    PackageRecord, WorkspaceRecord,
+};
+use std::alloc::{AllocError, Global};
+
+pub(crate) const LIMIT: usize = 4_294_967_295;
+
+/// Positions in the order of what they are looked up by.
+#[derive(Drop)]
+pub(crate) struct Indexes {
+    /// The packages by ID.
+    pub(crate) by_id: Vec<usize>,
+    /// The workspace members by path.
+    pub(crate) by_path: Vec<usize>,
+    /// The workspace members by name.
+    pub(crate) by_name: Vec<usize>,
+    /// For each package, the places of its build targets by ID.
+    pub(crate) by_target: Vec<Vec<usize>>,
+}
+
+// For each package, the places of its build targets by ID.
+fn target_indexes(alloc: Global, packages: &[PackageRecord]) -> Result<Vec<Vec<usize>>, AllocError>
+    ensures { IfOk result (λ indexes. AreTargetIndexes packages.now indexes.items) }
+{
+    let mut indexes = Vec::with_capacity(alloc, packages.len())?;
+    for record in packages.iter() {
+        indexes.push(index_of(alloc, &TargetIds(record.build_targets.as_slice()))?)?;
+    }
+    Ok(indexes)
+}
+
+// The first package and its first target with the ID of an earlier one.
+fn first_with_repeated_target(
+    packages: &[PackageRecord],
+    indexes: &[Vec<usize>],
+) -> Option<(usize, usize)>
+    requires { AreTargetIndexes packages.now indexes.now }
+    ensures { MatchOption result (All AreTargetsDistinct packages.now) (λ p. IsFirstRepeatedTarget packages.now p.0 p.1) }
+{
+    for (position, record) in packages.iter().enumerate() {
+        let index = indexes[position].as_slice();
+        if let Some(target) = first_repeated_target(record.build_targets.as_slice(), index) {
+            return Some((position, target));
+        }
+    }
+    None
+}
+
+// Whether the target has the name that a library and a build script need.
+fn is_named(target: &BuildTargetRecord) -> bool
+    ensures { IsTrue result ↔ IsNamed target.now }
+{
+    match target.id {
+        OwnedBuildTargetId::Library | OwnedBuildTargetId::BuildScript => target.lib_name.is_some(),
+        _ => true,
+    }
+}
+
+// The first target that lacks its name.
+fn first_unnamed(targets: &[BuildTargetRecord]) -> Option<usize>
+    ensures { MatchOption result (All IsNamed targets.now) (IsFirstUnnamed targets.now) }
+{
+    for (place, target) in targets.iter().enumerate() {
+        if !is_named(target) {
+            return Some(place);
+        }
+    }
+    None
+}
+
+// The first package and its first target that lacks its name.
+fn first_with_unnamed_target(packages: &[PackageRecord]) -> Option<(usize, usize)>
+    ensures { MatchOption result (All AreTargetsNamed packages.now) (λ p. IsFirstUnnamedTarget packages.now p.0 p.1) }
+{
+    for (position, record) in packages.iter().enumerate() {
+        if let Some(target) = first_unnamed(record.build_targets.as_slice()) {
+            return Some((position, target));
+        }
+    }
+    None
+}
+
+// The first default member that is no package.
+fn first_unknown_member(
+    packages: &[PackageRecord],
+    by_id: &[usize],
+    members: &[PackageId],
+) -> Option<usize>
+    requires { IsIdIndex packages.now by_id.now }
+    ensures { MatchOption result (All (IsKnown packages.now) members.now) (IsFirstUnknownMember packages.now members.now) }
+{
+    for (index, id) in members.iter().enumerate() {
+        if position_of_id(packages, by_id, id).is_none() {
+            return Some(index);
+        }
+    }
+    None
+}
+
+// The packages by ID, where no two have one ID.
+fn index_by_id(alloc: Global, packages: &[PackageRecord]) -> Result<Vec<usize>, Error>
+    ensures made { IfOk result (λ index. IsIdIndex packages.now index.items) }
+    ensures accepted { OnOk result (DifferBelow (HasId packages.now) (length packages.now)) }
+    ensures refused { IfErr result (TellsFault (λ fault. (p : ℕ)
+        × (fault ≡ ConstructFault.RepeatedPackageId p) × IsFirstRepeat (HasId packages.now) p)) }
+{
+    let by_id = index_of(alloc, &Ids(packages))?;
+    if let Some(package) = first_repeated_id(packages, by_id.as_slice()) {
+        return Err(ConstructFault::RepeatedPackageId { package }.into());
+    }
+    Ok(by_id)
+}
+
+// For each package, the places of its build targets by ID, where no two of one package have one ID.
+fn indexes_by_target(alloc: Global, packages: &[PackageRecord]) -> Result<Vec<Vec<usize>>, Error>
+    ensures made { IfOk result (λ indexes. AreTargetIndexes packages.now indexes.items) }
+    ensures accepted { OnOk result (All AreTargetsDistinct packages.now) }
+    ensures refused { IfErr result (TellsFault (λ fault. (p t : ℕ)
+        × (fault ≡ ConstructFault.RepeatedBuildTarget p t) × IsFirstRepeatedTarget packages.now p t)) }
+{
+    let by_target = target_indexes(alloc, packages)?;
+    if let Some((package, target)) = first_with_repeated_target(packages, by_target.as_slice()) {
+        return Err(ConstructFault::RepeatedBuildTarget { package, target }.into());
+    }
+    Ok(by_target)
+}
+
+// Checks that each target has the name that it needs.
+fn check_target_names(packages: &[PackageRecord]) -> Result<(), Error>
+    ensures accepted { OnOk result (All AreTargetsNamed packages.now) }
+    ensures refused { IfErr result (TellsFault (λ fault. (p t : ℕ)
+        × (fault ≡ ConstructFault.UnnamedBuildTarget p t) × IsFirstUnnamedTarget packages.now p t)) }
+{
+    if let Some((package, target)) = first_with_unnamed_target(packages) {
+        return Err(ConstructFault::UnnamedBuildTarget { package, target }.into());
+    }
+    Ok(())
+}
+
+// The workspace members by path, where no two have one path.
+fn index_by_path(alloc: Global, packages: &[PackageRecord]) -> Result<Vec<usize>, Error>
+    ensures made { IfOk result (λ index. IsPathIndex packages.now index.items) }
+    ensures accepted { OnOk result (DifferBelow (HasPath packages.now) (length packages.now)) }
+    ensures refused { IfErr result (TellsFault (λ fault. (p : ℕ)
+        × (fault ≡ ConstructFault.RepeatedWorkspacePath p) × IsFirstRepeat (HasPath packages.now) p)) }
+{
+    let by_path = index_of(alloc, &Paths(packages))?;
+    if let Some(package) = first_repeat(&Paths(packages), by_path.as_slice()) {
+        return Err(ConstructFault::RepeatedWorkspacePath { package }.into());
+    }
+    Ok(by_path)
+}
+
+// The workspace members by name, where no two have one name.
+fn index_by_name(alloc: Global, packages: &[PackageRecord]) -> Result<Vec<usize>, Error>
+    ensures made { IfOk result (λ index. IsNameIndex packages.now index.items) }
+    ensures accepted { OnOk result (DifferBelow (HasName packages.now) (length packages.now)) }
+    ensures refused { IfErr result (TellsFault (λ fault. (p : ℕ)
+        × (fault ≡ ConstructFault.RepeatedWorkspaceName p) × IsFirstRepeat (HasName packages.now) p)) }
+{
+    let by_name = index_of(alloc, &Names(packages))?;
+    if let Some(package) = first_repeated_name(packages, by_name.as_slice()) {
+        return Err(ConstructFault::RepeatedWorkspaceName { package }.into());
+    }
+    Ok(by_name)
+}
+
+// Checks that each default member is a package.
+fn check_members(
+    packages: &[PackageRecord],
+    by_id: &[usize],
+    members: &[PackageId],
+) -> Result<(), Error>
+    requires { IsIdIndex packages.now by_id.now }
+    ensures accepted { OnOk result (All (IsKnown packages.now) members.now) }
+    ensures refused { IfErr result (TellsFault (λ fault. (i : ℕ)
+        × (fault ≡ ConstructFault.UnknownDefaultMember i) × IsFirstUnknownMember packages.now members.now i)) }
+{
+    if let Some(index) = first_unknown_member(packages, by_id, members) {
+        return Err(ConstructFault::UnknownDefaultMember { index }.into());
+    }
+    Ok(())
+}
+
+/// The indexes of packages that break no rule. Otherwise the first broken rule is told.
+pub(crate) fn indexes_of(
+    alloc: Global,
+    packages: &[PackageRecord],
+    workspace: &WorkspaceRecord,
+) -> Result<Indexes, Error>
+    ensures made { IfOk result (AreIndexes packages.now) }
+    ensures accepted { OnOk result (ArePackagesAccepted packages.now workspace.now) }
+    ensures refused { IfErr result (λ e. (links : List LinkRecord) → IsRefusal packages.now links workspace.now e) }
+{
+    if packages.len() > LIMIT {
+        return Err(ConstructFault::TooManyPackages.into());
+    }
+    let by_id = index_by_id(alloc, packages)?;
+    let by_target = indexes_by_target(alloc, packages)?;
+    check_target_names(packages)?;
+    let by_path = index_by_path(alloc, packages)?;
+    let by_name = index_by_name(alloc, packages)?;
+    let members = workspace.default_members.as_slice();
+    check_members(packages, by_id.as_slice(), members)?;
+    Ok(Indexes {
+        by_id,
+        by_path,
+        by_name,
+        by_target,
+    })
+}
+
+/// The positions of the ends of the records.
+pub(crate) fn ends_of(
+    alloc: Global,
+    packages: &[PackageRecord],
+    by_id: &[usize],
+    records: &[LinkRecord],
+) -> Result<Vec<(usize, usize)>, Error>
+    requires { IsIdIndex packages.now by_id.now }
+    ensures ok { IfOk result (λ ends. AreEndsOf packages.now records.now ends.items) }
+    ensures err { IfErr result (TellsFault (λ fault. (link : ℕ)
+        × (fault ≡ ConstructFault.UnknownLinkEnd link) × IsFirstUnknownEnd packages.now records.now link)) }
+{
+    let mut ends = Vec::with_capacity(alloc, records.len())?;
+    for (number, entry) in records.iter().enumerate() {
+        let Some(from) = position_of_id(packages, by_id, &entry.from) else {
+            return Err(unknown_end(number));
+        };
+        let Some(to) = position_of_id(packages, by_id, &entry.to) else {
+            return Err(unknown_end(number));
+        };
+        ends.push((from, to))?;
+    }
+    Ok(ends)
+}
+
+fn unknown_end(link: usize) -> Error
+    ensures { result ≡ Error.PackageGraphConstructError (ConstructFault.UnknownLinkEnd link) }
+{
+    Error::PackageGraphConstructError(ConstructFault::UnknownLinkEnd { link })
+}
+
+/// The links of the records between these positions.
+pub(crate) fn links_of(
+    alloc: Global,
+    records: Vec<LinkRecord>,
+    ends: Vec<(usize, usize)>,
+) -> Result<Vec<Link<LinkRecord>>, AllocError>
+    ensures { IfOk result (λ links. links.items ≡ map link_of (zip records.items ends.items)) }
+{
+    records
+        .into_iter()
+        .zip(ends)
+        .map(|(edge, (from, to))| Link { from, to, edge })
+        .collect(alloc)
+}

@@ -1,0 +1,25 @@
+//! The graph of checked records that guppy's `PackageGraph` stands on: packages by their positions and
+//! links by their numbers, found by IDs, paths and names.
+//!
+//! The modules, from the bottom up:
+//!
+//! - `keyed`: positions sorted and looked up by any key;
+//! - `keys`: the keys, which are IDs, paths, names and target IDs;
+//! - `build`: the checks of the records, and the indexes;
+//! - `dev_only`: which links are for development alone;
+//! - `order`: the order of the packages;
+//! - `graph`: the graph itself;
+//! - `verify`: the check that a graph is a verified graph.
+#![tactic(auto)]
+
+mod build;
+mod dev_only;
+mod graph;
+mod keyed;
+mod keys;
+mod order;
+mod verify;
+
+pub use dev_only::is_dev_only;
+pub use graph::{Packages, RecordGraph};
+pub use keys::{name_at, path_at};

@@ -1,0 +1,4 @@
+pub mod Cuts
+pub mod Lines
+pub mod Adding
+pub mod Writing

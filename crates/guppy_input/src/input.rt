@@ -1,0 +1,80 @@
+//! The lines of an input.
+ghost use Rattle.std.specs.Prelude.{◌≡◌, ◌==◌, ◌<◌, [], ◌∷◌, length, true, position, MatchOption, IfOk, IfErr, OnOk};
+ghost use Rattle.std.specs.Option.{option_to_list};
+ghost use Rattle.std.specs.Str.Lines.{lines, strip_carriage_return};
+ghost use Rattle.guppy_input.specs.Text.{entry_of, entries_of, is_good, IsAllGood};
+ghost use Rattle.guppy_input.specs.Records.{AreRecordsOf};
+ghost use Rattle.guppy_input.specs.Reading.{AddsEntries, IsLineFault, IsReadingFault};
+
+use crate::fault::RunFault;
+use crate::records::Records;
+use crate::statements::statement_of;
+use std::alloc::Global;
+
+fn newline_in(text: &[u8]) -> Option<usize>
+    ensures { result ≡ position (λ b. b == 10) text.now }
+{
+    text.iter().position(|b| *b == b'\n')
+}
+
+fn without_carriage_return(line: &[u8]) -> &[u8]
+    ensures { result.now ≡ strip_carriage_return line.now }
+{
+    if line.is_empty() {
+        return line;
+    }
+    let last = line.len() - 1;
+    if line[last] == b'\r' {
+        &line[..last]
+    } else {
+        line
+    }
+}
+
+// The first line, and what stands behind it.
+fn next_line(text: &[u8]) -> Option<(&[u8], &[u8])>
+    ensures { MatchOption result (lines text.now ≡ [])
+        (λ x. (lines text.now ≡ x.0.now ∷ lines x.1.now) × (length x.1.now < length text.now)) }
+{
+    if text.is_empty() {
+        return None;
+    }
+    match newline_in(text) {
+        Some(end) => Some((without_carriage_return(&text[..end]), &text[end + 1..])),
+        None => Some((text, &text[text.len()..])),
+    }
+}
+
+// Adds what this line says, which is nothing where it is empty.
+fn add_line(records: &mut Records, alloc: Global, line: &[u8], number: u64) -> Result<(), RunFault>
+    ensures good { OnOk result (is_good line.now ≡ true) }
+    ensures added { OnOk result (AddsEntries records.old records.new (option_to_list (entry_of line.now))) }
+    ensures err { IfErr result (IsLineFault line.now number) }
+{
+    if line.is_empty() {
+        return Ok(());
+    }
+    let Some(statement) = statement_of(line) else {
+        return Err(RunFault::BadLine(number));
+    };
+    records.add(alloc, statement)?;
+    Ok(())
+}
+
+/// The records that the lines of an input say, or `BadLine` with the number of the first bad line. Takes
+/// memory for the records, and time linear in the input's length.
+pub fn records_of(alloc: Global, text: &[u8]) -> Result<Records, RunFault>
+    ensures good { OnOk result (IsAllGood text.now) }
+    ensures ok { IfOk result (λ r. AreRecordsOf (entries_of text.now) r.packages.items r.links.items r.workspace) }
+    ensures err { IfErr result (IsReadingFault text.now) }
+{
+    let mut records = Records::new(alloc)?;
+    let mut rest = text;
+    let mut passed = 0;
+    while let Some((line, after)) = next_line(rest) {
+        add_line(&mut records, alloc, line, passed + 1)?;
+        rest = after;
+        passed += 1;
+    }
+    Ok(records)
+}

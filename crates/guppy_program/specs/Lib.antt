@@ -1,0 +1,4 @@
+pub mod Loaded
+pub mod Answer
+pub mod Run
+pub mod Asked

@@ -1,0 +1,40 @@
+-- The package graph that an input says.
+use Rattle.std.specs.Prelude.{ℕ, List}
+use Rattle.guppy_data.specs.declared.records.PackageRecord.{PackageRecord}
+use Rattle.guppy_data.specs.declared.records.LinkRecord.{LinkRecord}
+use Rattle.guppy_data.specs.declared.records.WorkspaceRecord.{WorkspaceRecord}
+use Rattle.guppy_data.specs.declared.texts.fault.ConstructFault.{ConstructFault}
+use Rattle.guppy.specs.Accepted.{IsAccepted, IsFirstFault}
+use Rattle.guppy.specs.Graph.{GraphData, Holds}
+use Rattle.guppy.specs.Refused.{TellsFault}
+use Rattle.guppy_input.specs.declared.fault.RunFault.{RunFault}
+use Rattle.guppy_input.specs.declared.fault.RunFault.TheVariants.{Library, BadArguments, BadLine, InputFailed, OutputFailed}
+use Rattle.guppy_input.specs.Text.{IsAllGood, IsFirstBadLine, entries_of}
+use Rattle.guppy_input.specs.Records.{AreRecordsOf}
+
+-- every line is good, the records that they say break no rule, and the graph holds exactly these
+pub record IsLoaded (input : List ℕ) (g : GraphData) : Type 0 where
+  pub good : IsAllGood input
+  pub packages : List PackageRecord
+  pub links : List LinkRecord
+  pub workspace : WorkspaceRecord
+  pub said : AreRecordsOf (entries_of input) packages links workspace
+  pub accepted : IsAccepted packages links workspace
+  pub held : Holds g packages links workspace
+
+-- every line is good, and the fault is the first of the records that they say
+pub record IsRecordFault (input : List ℕ) (fault : ConstructFault) : Type 0 where
+  pub good : IsAllGood input
+  pub packages : List PackageRecord
+  pub links : List LinkRecord
+  pub workspace : WorkspaceRecord
+  pub said : AreRecordsOf (entries_of input) packages links workspace
+  pub first : IsFirstFault packages links workspace fault
+
+-- the number is that of the first bad line, or every line is good and the error tells the first fault of the records, or memory ran out
+abbrev pub IsLoadFault : List ℕ → RunFault → Type 0
+IsLoadFault input (Library error) = TellsFault (IsRecordFault input) error
+IsLoadFault input BadArguments = ⊥
+IsLoadFault input (BadLine n) = IsFirstBadLine input n
+IsLoadFault input InputFailed = ⊥
+IsLoadFault input OutputFailed = ⊥

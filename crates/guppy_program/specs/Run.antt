@@ -1,0 +1,68 @@
+-- What a run of the program does.
+use Rattle.std.specs.Prelude.{◌≡◌, ℕ, List, ◌++◌, Option, Some, IfSome, Result, Ok, Err}
+use Rattle.std.specs.Io.KnownBytes.{IsAtEnd}
+use Rattle.guppy_data.specs.declared.texts.error.Error.{Error}
+use Rattle.guppy_data.specs.declared.texts.error.Error.TheVariants.{PackageGraphConstructError, UnknownPackageId, UnknownFeatureId, UnknownWorkspacePath, UnknownWorkspaceName, PackageGraphInternalError, FeatureGraphInternalError, OutOfMemory}
+use Rattle.guppy_data.specs.declared.texts.fault.VerifyFault.{VerifyFault}
+use Rattle.guppy.specs.Graph.{GraphData}
+use Rattle.guppy_input.specs.declared.fault.RunFault.{RunFault}
+use Rattle.guppy_input.specs.declared.fault.RunFault.TheVariants.{Library, BadArguments, BadLine, InputFailed, OutputFailed}
+use Rattle.guppy_command.specs.Command.{Command, command_of}
+use Rattle.guppy_program.specs.Loaded.{IsLoaded, IsRecordFault}
+use Rattle.guppy_program.specs.Answer.{IsAnswer, IsFirstUnknownNamed, IsVerifyFault}
+
+-- the output is an answer to the arguments and the input
+pub record IsProgramAnswer (args : List (List ℕ)) (input output : List ℕ) : Type 0 where
+  pub command : Command
+  pub asked : command_of args ≡ Some command
+  pub graph : GraphData
+  pub loaded : IsLoaded input graph
+  pub answer : IsAnswer command graph output
+
+-- P holds of an answer
+abbrev pub IsAnswered : List (List ℕ) → List ℕ → (List ℕ → Type 0) → Type 0
+IsAnswered args input P = (output : List ℕ) × IsProgramAnswer args input output × P output
+
+-- P holds of a beginning of an answer
+abbrev pub IsBegun : List (List ℕ) → List ℕ → (List ℕ → Type 0) → Type 0
+IsBegun args input P = (front rest : List ℕ) × IsProgramAnswer args input (front ++ rest) × P front
+
+-- every line is good, the records are accepted, and the ID is the first of the command that is no package's
+pub record IsUnknownId (args : List (List ℕ)) (input id : List ℕ) : Type 0 where
+  pub command : Command
+  pub asked : command_of args ≡ Some command
+  pub graph : GraphData
+  pub loaded : IsLoaded input graph
+  pub first : IsFirstUnknownNamed command graph id
+
+-- every line is good, the records are accepted, and the fault is the first of the graph, which the command asks for
+pub record IsFaultFound (args : List (List ℕ)) (input : List ℕ) (fault : VerifyFault) : Type 0 where
+  pub command : Command
+  pub asked : command_of args ≡ Some command
+  pub graph : GraphData
+  pub loaded : IsLoaded input graph
+  pub first : IsVerifyFault command graph fault
+
+-- the source has come to its end, and P holds of all that it had
+abbrev pub OfWholeInput : Option (List ℕ) → Option (List ℕ) → (List ℕ → Type 0) → Type 0
+OfWholeInput old new P = IsAtEnd new × IfSome old P
+
+-- the library refuses the input or the command so, or memory ran out
+abbrev pub IsLibraryRefusal : List (List ℕ) → Option (List ℕ) → Option (List ℕ) → Error → Type 0
+IsLibraryRefusal args old new (PackageGraphConstructError fault) = OfWholeInput old new (λ input. IsRecordFault input fault)
+IsLibraryRefusal args old new (UnknownPackageId id) = OfWholeInput old new (λ input. IsUnknownId args input id)
+IsLibraryRefusal args old new (UnknownFeatureId id feature) = ⊥
+IsLibraryRefusal args old new (UnknownWorkspacePath path) = ⊥
+IsLibraryRefusal args old new (UnknownWorkspaceName name) = ⊥
+IsLibraryRefusal args old new (PackageGraphInternalError fault) = OfWholeInput old new (λ input. IsFaultFound args input fault)
+IsLibraryRefusal args old new (FeatureGraphInternalError text) = ⊥
+IsLibraryRefusal args old new OutOfMemory = Unit {0}
+
+-- a run that gives up before it writes leaves the sink as it was
+abbrev pub WritesNothing : {T W : Type 0} → W → W → Result T RunFault → Type 0
+WritesNothing old new (Ok x) = Unit {0}
+WritesNothing old new (Err (Library error)) = new ≡ old
+WritesNothing old new (Err BadArguments) = new ≡ old
+WritesNothing old new (Err (BadLine n)) = new ≡ old
+WritesNothing old new (Err InputFailed) = new ≡ old
+WritesNothing old new (Err OutputFailed) = Unit {0}

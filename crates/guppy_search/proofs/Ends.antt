@@ -1,0 +1,36 @@
+-- Links as numbers with ends.
+use Rattle.std.proofs.Common.{◌≡◌, ℕ, ◌<◌, List, [], ◌∷◌, length, map, refl, sym, ap, ◌∙◌, arith, inl, inr, Bool, Some}
+use Rattle.std.specs.Prelude.{slice_get, slice_index, All}
+use Rattle.std.proofs.lemmas.List.{get_or-map}
+use Rattle.std.proofs.lemmas.List.Elements.{All-map, All-weaker, Contains-get_or}
+use Rattle.std.proofs.lemmas.Option.{slice_get_within, slice_get_cases, get_or_from_slice_get}
+use Rattle.guppy_search.specs.declared.ix.direction.DependencyDirection.{DependencyDirection}
+use Rattle.guppy_search.specs.declared.graph_core.link.Link.{Link}
+use Rattle.guppy_search.specs.Graph.{LinkIs}
+use Rattle.guppy_search.specs.Walked.{AreWalked, LinkEnds, ends_at, numbers_of}
+
+module _ {E : Type 0} (links : List (Link E)) where
+  read_at : (f : Link E → ℕ) (n : ℕ) (l : Link E) → slice_get links n ≡ Some l → slice_index (map f links) n ≡ f l
+  read_at f n l found = get_or-map f links n l 0 (slice_get_within links n l found) ∙ ap f (get_or_from_slice_get links n l l found)
+
+  pub ends_at-found : (n : ℕ) (l : Link E) → slice_get links n ≡ Some l → ends_at links n ≡ (let ends : LinkEnds = record { from = l.from; to = l.to; number = n } in ends)
+  ends_at-found n l found = rw (read_at (λ (l : Link E). l.from) n l found, read_at (λ (l : Link E). l.to) n l found)
+
+  ends_are : (n : ℕ) → n < length links → LinkIs links (ends_at links n).from (ends_at links n).to n
+  ends_are n within = elim (slice_get_cases links n).1 [
+    | inl s ↦ (s.0, s.2, sym (read_at (λ (l : Link E). l.from) n s.0 s.2), sym (read_at (λ (l : Link E). l.to) n s.0 s.2))
+    | inr s ↦ absurd (let past = s.0 in omega arith)
+  ]
+
+  pub all_ends : (numbers : List ℕ) → All (λ n. n < length links) numbers → All (λ (l : LinkEnds). LinkIs links l.from l.to l.number) (map (ends_at links) numbers)
+  all_ends numbers below = All-map (λ (l : LinkEnds). LinkIs links l.from l.to l.number) (ends_at links) numbers (All-weaker (λ n. n < length links) _ ends_are numbers below)
+
+  pub numbers_of-ends : (numbers : List ℕ) → numbers_of (map (ends_at links) numbers) ≡ numbers
+  numbers_of-ends [] = refl
+  numbers_of-ends (n ∷ numbers) = ap (λ ns. n ∷ ns) (numbers_of-ends numbers)
+
+  -- walked links are links
+  pub walked_below : (d : DependencyDirection) (set : List Bool) (IsStart : ℕ → Type 0) (numbers : List ℕ) → AreWalked d links set IsStart numbers → All (λ n. n < length links) numbers
+  walked_below d set IsStart numbers are k n h =
+      let w = (are.walked _).0 (Contains-get_or numbers k n h) in
+      slice_get_within links _ w.link w.found

@@ -1,0 +1,15 @@
+-- What a clause on one outcome says at the other one.
+use Rattle.std.proofs.Common.{◌≡◌, true, Result, Ok, Err, is_err}
+use Rattle.std.specs.Prelude.{IfOk, OnOk, OnErr}
+
+pub if_ok : {T E : Type 0} (P : T → Type 0) (r : Result T E) → is_err r ≡ true → IfOk r P
+if_ok P (Ok x) failed = absurd (cc)
+if_ok P (Err e) failed = tt
+
+pub on_ok : {T E : Type 0} (P : Type 0) (r : Result T E) → is_err r ≡ true → OnOk r P
+on_ok P (Ok x) failed = absurd (cc)
+on_ok P (Err e) failed = tt
+
+pub on_err : {T E P : Type 0} (r : Result T E) → P → OnErr r P
+on_err (Ok x) p = tt
+on_err (Err e) p = p

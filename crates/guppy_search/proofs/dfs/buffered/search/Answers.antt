@@ -1,0 +1,131 @@
+use Rattle.std.proofs.Common.{◌≡◌, ℕ, ◌+◌, List, [], ◌∷◌, ◌++◌, length, refl, sym, ap, ◌∙◌, arith}
+use Rattle.std.proofs.lemmas.Fn.{FoldsTo-push}
+use Rattle.guppy_search.specs.IxSet.{member_count}
+use Rattle.guppy_search.specs.Buffered.Question.{discover}
+use Rattle.guppy_search.proofs.Exits.{on_err}
+use Rattle.guppy_search.proofs.Lists.{no_items, FoldsTo-append}
+use Rattle.guppy_search.proofs.Members.{IsIn-below, member_count-le-length}
+use Rattle.guppy_search.proofs.Searching.{Waits-pop}
+use Rattle.guppy_search.proofs.Buffering.{Buffering-begin, Buffering-discovered, Buffering-discover_error, Buffering-end}
+use Rattle.guppy_search.proofs.dfs.buffered.search.Goals as goal
+
+pub positions-init : goal.positions-init
+positions-init g c = record {
+  size = c.requires.count;
+  room = c.requires.room;
+  ready = c.requires.ready;
+  same_place = refl;
+  searched = ([], rw c.requires.waiting (Buffering-begin _ _ _), refl);
+}
+
+pub new-requires : goal.new-requires
+new-requires g c =
+    let s = c.positions.invariant in
+    let e : c.positions.waiting.items ≡ c.pop.new.self.items ++ c.in-Some.position ∷ [] = c.in-Some.ensures.items in
+    let waits = s.searched.1.waits in
+    let below = IsIn-below c.positions.set c.in-Some.position (Waits-pop _ _ _ (rw e at waits)).1 in
+    let size = s.size in
+    let few = c.requires.graph.few_nodes in
+    omega arith
+
+pub discover-requires-clause-node : goal.discover-requires-clause-node
+discover-requires-clause-node g c =
+    let s = c.positions.invariant in
+    let e : c.positions.waiting.items ≡ c.pop.new.self.items ++ c.in-Some.position ∷ [] = c.in-Some.ensures.items in
+    let waits = s.searched.1.waits in
+    rw (c.new.ensures, ← s.size) (IsIn-below c.positions.set c.in-Some.position (Waits-pop _ _ _ (rw e at waits)).1)
+
+pub returns-in_err-handed-clause-refused : goal.returns-in_err-handed-clause-refused
+returns-in_err-handed-clause-refused g c =
+    let s = c.positions.invariant.searched in
+    let e : c.positions.waiting.items ≡ c.pop.new.self.items ++ c.in-Some.position ∷ [] = c.in-Some.ensures.items in
+    let error = rw c.new.ensures at c.in_err-handed.ensures.error in
+    on_err c.from_residual.result (Buffering-discover_error _ _ _ _ s.0 _ c.pop.new.self.items _ _ _ s.2 c.in-Some.position (rw e at s.1) error)
+
+pub follow_all-requires-clause-room : goal.follow_all-requires-clause-room
+follow_all-requires-clause-room g c =
+    let s = c.positions.invariant in
+    let e : c.positions.waiting.items ≡ c.pop.new.self.items ++ c.in-Some.position ∷ [] = c.in-Some.ensures.items in
+    let waits = s.searched.1.waits in
+    let few = (Waits-pop _ _ _ (rw e at waits)).0.few in
+    let size = s.size in
+    let room = s.room in
+    let capacity = c.pop.ensures.capacity in
+    omega (arith, c.pop.new.self.ok.0)
+
+pub ask_links-requires-clause-position : goal.ask_links-requires-clause-position
+ask_links-requires-clause-position g c =
+    let s = c.positions.invariant in
+    let e : c.positions.waiting.items ≡ c.pop.new.self.items ++ c.in-Some.position ∷ [] = c.in-Some.ensures.items in
+    let waits = s.searched.1.waits in
+    rw (← s.size) (IsIn-below c.positions.set c.in-Some.position (Waits-pop _ _ _ (rw e at waits)).1)
+
+pub ask_links-requires-clause-room : goal.ask_links-requires-clause-room
+ask_links-requires-clause-room g c =
+    let s = c.positions.invariant in
+    let e : c.positions.waiting.items ≡ c.pop.new.self.items ++ c.in-Some.position ∷ [] = c.in-Some.ensures.items in
+    let waits = s.searched.1.waits in
+    let few = (Waits-pop _ _ _ (rw e at waits)).0.few in
+    let size = s.size in
+    let room = s.room in
+    let popped = c.pop.ensures.capacity in
+    let capacity = c.follow_all.ensures.capacity in
+    let count = c.follow_all.ensures.count in
+    let balance = c.follow_all.ensures.balance in
+    omega (arith, c.pop.new.self.ok.0, c.follow_all.new.waiting.ok.0)
+
+-- the position is discovered, and the links handed back are followed
+pub returns-in_err-ask_links-clause-refused : goal.returns-in_err-ask_links-clause-refused
+returns-in_err-ask_links-clause-refused g c =
+    let s = c.positions.invariant in
+    let e : c.positions.waiting.items ≡ c.pop.new.self.items ++ c.in-Some.position ∷ [] = c.in-Some.ensures.items in
+    let k = c.follow_all.ensures.added in
+    let balance : length (c.pop.new.self.items ++ k.0) + member_count c.positions.set ≡ length c.pop.new.self.items + member_count c.follow_all.new.set =
+    let same = ap (λ (ps : List ℕ). length ps) k.1 in
+    let b = c.follow_all.ensures.balance in
+    omega (arith, c.pop.new.self.ok.0, c.follow_all.new.waiting.ok.0) in
+    let answered = rw c.new.ensures at c.in_ok-handed.ensures.discovers in
+    on_err c.from_residual-in_err-ask_links.result (
+    c.in_err-ask_links.ensures.refused.after _ (s.searched.0 ++ (discover c.in-Some.position, c.in_ok-handed.handed.items) ∷ []) _
+    (rw k.1 (Buffering-discovered _ _ _ s.searched.0 _ _ _ _ k.2 c.pop.new.self.items balance c.in-Some.position (rw e at s.searched.1)))
+    (FoldsTo-push _ _ s.searched.0 _ (discover c.in-Some.position, c.in_ok-handed.handed.items) _ s.searched.2 answered)
+    )
+
+pub positions-preserved : goal.positions-preserved
+positions-preserved g c =
+    let s = c.positions.invariant in
+    let e : c.positions.waiting.items ≡ c.pop.new.self.items ++ c.in-Some.position ∷ [] = c.in-Some.ensures.items in
+    let k = c.follow_all.ensures.added in
+    let balance : length (c.pop.new.self.items ++ k.0) + member_count c.positions.set ≡ length c.pop.new.self.items + member_count c.follow_all.new.set =
+    let same = ap (λ (ps : List ℕ). length ps) k.1 in
+    let b = c.follow_all.ensures.balance in
+    omega (arith, c.pop.new.self.ok.0, c.follow_all.new.waiting.ok.0) in
+    let answered = rw c.new.ensures at c.in_ok-handed.ensures.discovers in
+    let asked = c.in_ok-ask_links.ensures.asked in
+    let before = s.searched.0 ++ (discover c.in-Some.position, c.in_ok-handed.handed.items) ∷ [] in
+    record {
+      size = c.ask_links.ensures.count;
+      room = rw (c.ask_links.ensures.capacity, c.follow_all.ensures.capacity, c.pop.ensures.capacity) s.room;
+      ready = c.in_ok-ask_links.ensures.ready;
+      same_place = c.ask_links.ensures.same_place ∙ (c.in_ok-handed.ensures.same_place ∙ s.same_place);
+      searched = (
+        before ++ asked.0,
+        asked.2.after _ before (rw k.1 (Buffering-discovered _ _ _ s.searched.0 _ _ _ _ k.2 c.pop.new.self.items balance c.in-Some.position (rw e at s.searched.1))),
+        FoldsTo-append _ _ before _ asked.0 _ (FoldsTo-push _ _ s.searched.0 _ (discover c.in-Some.position, c.in_ok-handed.handed.items) _ s.searched.2 answered) asked.1,
+      );
+    }
+
+pub positions-smaller : goal.positions-smaller
+positions-smaller g c =
+    let size = c.ask_links.ensures.count ∙ sym c.positions.invariant.size in
+    let balance = c.ask_links.ensures.balance in
+    let followed = c.follow_all.ensures.balance in
+    let before = member_count-le-length c.positions.set in
+    let after = member_count-le-length c.ask_links.new.set in
+    omega (arith, c.in-Some.ensures.cases, c.positions.waiting.ok.0, c.pop.new.self.ok.0, c.follow_all.new.waiting.ok.0)
+
+pub returns-clause-judged : goal.returns-clause-judged
+returns-clause-judged g c =
+    let s = c.positions.invariant.searched in
+    let e : c.positions.waiting.items ≡ [] = no_items c.positions.waiting.items (let h = c.in_default.ensures.cases in omega (arith, c.positions.waiting.ok.0, h.0)) in
+    (s.0, Buffering-end _ _ _ _ _ (rw e at s.1), s.2)

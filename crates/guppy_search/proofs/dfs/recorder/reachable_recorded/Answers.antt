@@ -1,0 +1,33 @@
+use Rattle.std.proofs.Common.{◌≤◌, length, arith, vec_capacity}
+use Rattle.guppy_search.proofs.Exits.{if_ok}
+use Rattle.guppy_search.proofs.Traces.{FoldsTo-along, length-judged, trace_kept}
+use Rattle.guppy_search.proofs.dfs.recorder.reachable_recorded.Goals as goal
+
+pub returns : goal.returns
+returns g c =
+    let s = c.in_ok-set.ensures.judged in
+    let fits : length s.0 ≤ vec_capacity c.in_ok-recorder.recorder.entries = let few = length-judged _ _ _ _ _ s.1 in omega (arith, c.link_count.ensures, c.in_ok-recorder.ensures.room) in
+    let same = trace_kept _ (λ r. r.entries.items) (λ r. vec_capacity r.entries) (λ r e t k. (k.1, k.2)) s.0 _ _ c.in_ok-recorder.ensures.entries fits s.2 in
+    record {
+      count = c.in_ok-set.ensures.count;
+      judged = rw same s.1;
+      visits = rw (same, ← c.in_ok-recorder.ensures.visitor) (FoldsTo-along (λ r. r.visitor) _ _ (λ r e t k. k.0) s.0 _ _ s.2);
+    }
+
+pub returns-in_err-recorder-clause-count : goal.returns-in_err-recorder-clause-count
+returns-in_err-recorder-clause-count g c = if_ok _ _ c.from_residual.ensures.0
+
+pub returns-in_err-recorder-clause-judged : goal.returns-in_err-recorder-clause-judged
+returns-in_err-recorder-clause-judged g c = if_ok _ _ c.from_residual.ensures.0
+
+pub returns-in_err-recorder-clause-visits : goal.returns-in_err-recorder-clause-visits
+returns-in_err-recorder-clause-visits g c = if_ok _ _ c.from_residual.ensures.0
+
+pub returns-in_err-set-clause-count : goal.returns-in_err-set-clause-count
+returns-in_err-set-clause-count g c = if_ok _ _ c.from_residual-in_err-set.ensures.0
+
+pub returns-in_err-set-clause-judged : goal.returns-in_err-set-clause-judged
+returns-in_err-set-clause-judged g c = if_ok _ _ c.from_residual-in_err-set.ensures.0
+
+pub returns-in_err-set-clause-visits : goal.returns-in_err-set-clause-visits
+returns-in_err-set-clause-visits g c = if_ok _ _ c.from_residual-in_err-set.ensures.0

@@ -1,0 +1,122 @@
+use Rattle.std.proofs.Common.{◌≡◌, ℕ, ◌+◌, ◌<◌, true, false, inl, inr, [], ◌∷◌, ◌++◌, length, refl, sym, ap, ◌∙◌, get_or, arith}
+use Rattle.std.proofs.Math.ListN.{length-set}
+use Rattle.std.proofs.lemmas.Bool.{false_from_ne_true}
+use Rattle.std.proofs.lemmas.Fn.{FoldsTo-push}
+use Rattle.std.proofs.lemmas.List.{drop_all}
+use Rattle.guppy_search.specs.Links.{far_end}
+use Rattle.guppy_search.specs.IxSet.{has, member_count}
+use Rattle.guppy_search.proofs.Lists.{drop_next}
+use Rattle.guppy_search.proofs.Members.{member_count-lt-length}
+use Rattle.guppy_search.proofs.Rows.{row_within}
+use Rattle.guppy_search.proofs.Searching.{Shows-none, Shows-refused, Shows-known, Shows-new, balance-added, far_end_below}
+use Rattle.guppy_search.proofs.dfs.search.show_links.Goals as goal
+
+pub links-init : goal.links-init
+links-init g c = record {
+  size = c.requires.count;
+  ready = c.requires.ready;
+  same_place = refl;
+  balance = refl;
+  capacity = refl;
+  shown = ([], refl, Shows-none _ _ _ _ _);
+}
+
+pub visit-requires : goal.visit-requires
+visit-requires g c =
+    let row = c.links_at-number-items in
+    c.links.invariant.ready _ (row_within _ _ _ row.result.now row.ensures.links c.links.number-index 0 c.links-test.true)
+
+pub links-preserved-then-not-visit : goal.links-preserved-then-not-visit
+links-preserved-then-not-visit g c =
+    let s = c.links.invariant in
+    let row = c.links_at-number-items.result.now in
+    let n = get_or row c.links.number-index 0 in
+    let e = drop_next row c.links.number-index c.links-test.true in
+    record {
+      size = s.size;
+      ready = λ m h. c.if-not-visit.ensures.again m (s.ready m h);
+      same_place = c.if-not-visit.ensures.same_place ∙ s.same_place;
+      balance = s.balance;
+      capacity = s.capacity;
+      shown = (
+        s.shown.0 ++ (n, false) ∷ [],
+        FoldsTo-push _ _ s.shown.0 _ (n, false) _ s.shown.1 c.if-not-visit.ensures.visits,
+        Shows-refused _ _ s.shown.0 _ _ _ _ _ _ n (rw e at s.shown.2),
+      );
+    }
+
+pub link-requires : goal.link-requires
+link-requires g c =
+    let row = c.links_at-number-items in
+    row_within _ _ _ row.result.now row.ensures.links c.links.number-index 0 c.links-test.true
+
+pub include-requires-clause-in_range : goal.include-requires-clause-in_range
+include-requires-clause-in_range g c =
+    rw (c.far_end-far_end.ensures, c.links.invariant.size) (far_end_below c.args.direction c.args.graph.now.links _ _ c.link.result.now c.link.ensures.link c.link.ensures.graph.ends)
+
+pub include-requires-clause-small : goal.include-requires-clause-small
+include-requires-clause-small g c =
+    let few = c.link.ensures.graph.few_nodes in
+    let below = far_end_below c.args.direction c.args.graph.now.links _ _ c.link.result.now c.link.ensures.link c.link.ensures.graph.ends in
+    rw c.far_end-far_end.ensures (omega arith)
+
+pub include-requires-clause-room : goal.include-requires-clause-room
+include-requires-clause-room g c = λ new.
+    let s = c.links.invariant in
+    let size = s.size in
+    let count = c.requires.count in
+    let capacity = s.capacity in
+    let balance = s.balance in
+    let room = c.requires.room in
+    let below : c.far_end-far_end.result < length c.links.set = rw (c.far_end-far_end.ensures, s.size) (far_end_below c.args.direction c.args.graph.now.links _ _ c.link.result.now c.link.ensures.link c.link.ensures.graph.ends) in
+    let lacks = member_count-lt-length c.links.set c.far_end-far_end.result below (false_from_ne_true (has c.links.set c.far_end-far_end.result) new) in
+    omega (arith, c.links.waiting.ok.0)
+
+pub links-preserved : goal.links-preserved
+links-preserved g c =
+    let s = c.links.invariant in
+    let row = c.links_at-number-items.result.now in
+    let n = get_or row c.links.number-index 0 in
+    let link = c.link.result.now in
+    let far = far_end c.args.direction link in
+    let e = drop_next row c.links.number-index c.links-test.true in
+    let shows = rw e at s.shown.2 in
+    let k = rw c.far_end-far_end.ensures at c.include.ensures.cases in
+    let ready = λ (m : ℕ) (h : m < length c.args.graph.now.links). c.if-not-visit.ensures.again m (s.ready m h) in
+    let same_place = c.if-not-visit.ensures.same_place ∙ s.same_place in
+    let capacity = c.include.ensures.capacity ∙ s.capacity in
+    let steps = FoldsTo-push _ _ s.shown.0 _ (n, true) _ s.shown.1 c.if-not-visit.ensures.visits in
+    elim k [
+      | inl q ↦ record {
+        size = rw q.1 s.size;
+        ready = ready;
+        same_place = same_place;
+        balance = rw (q.1, q.2) s.balance;
+        capacity = capacity;
+        shown = (s.shown.0 ++ (n, true) ∷ [], steps, rw (q.1, q.2) (Shows-known _ _ s.shown.0 _ _ _ _ _ _ n link c.link.ensures.link q.0 shows));
+      }
+      | inr q ↦
+          let below : far < length c.links.set = rw s.size (far_end_below c.args.direction c.args.graph.now.links _ _ link c.link.ensures.link c.link.ensures.graph.ends) in
+          record {
+            size = rw q.1 (length-set c.links.set far true ∙ s.size);
+            ready = ready;
+            same_place = same_place;
+            balance = rw (q.1, q.2) (balance-added c.links.set c.links.waiting.items far _ _ below q.0 s.balance);
+            capacity = capacity;
+            shown = (s.shown.0 ++ (n, true) ∷ [], steps, rw (q.1, q.2) (Shows-new _ _ s.shown.0 _ _ _ _ _ _ n link c.link.ensures.link below q.0 shows));
+          }
+    ]
+
+pub returns : goal.returns
+returns g c =
+    let s = c.links.invariant in
+    let row = c.links_at-number-items in
+    let e = drop_all c.links.number-index row.result.now c.links-test.false in
+    record {
+      count = s.size;
+      ready = s.ready;
+      same_place = s.same_place;
+      shown = (s.shown.0, s.shown.1, rw (← row.ensures.links) (rw e at s.shown.2));
+      balance = s.balance;
+      capacity = s.capacity;
+    }

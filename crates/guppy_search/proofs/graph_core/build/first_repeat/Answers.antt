@@ -1,0 +1,39 @@
+use Rattle.std.proofs.Common.{◌≡◌, ◌∙◌, length, refl, arith}
+use Rattle.std.proofs.lemmas.List.{with_items_is}
+use Rattle.std.proofs.lemmas.Option.{slice_get_read}
+use Rattle.guppy_search.specs.declared.ix.direction.DependencyDirection.TheVariants.{Forward}
+use Rattle.guppy_search.specs.Links.{links_at}
+use Rattle.guppy_search.proofs.Rows.{row_within}
+use Rattle.guppy_search.proofs.Repeats.{scanned_apart, scanned_again, scanned_all}
+use Rattle.guppy_search.proofs.graph_core.build.first_repeat.Goals.{in-Some, in_default}
+use Rattle.guppy_search.proofs.graph_core.build.first_repeat.Goals as goal
+
+pub first_again-requires-clause-numbers : goal.first_again-requires-clause-numbers
+first_again-requires-clause-numbers g c =
+    let row : c.as_slice-row.result.now ≡ links_at Forward c.args.links.now c.loop-position.position = c.as_slice-row.ensures.value ∙ c.requires.rows.row_is c.loop-position.position c.index-forward-position.result (slice_get_read c.args.forward.now _ c.loop-position.position c.index-forward-position.result refl c.loop-position-test.true c.index-forward-position.is) in
+    row_within Forward c.args.links.now c.loop-position.position c.as_slice-row.result.now row
+
+pub loop-position-preserved : goal.loop-position-preserved
+loop-position-preserved g c =
+    let row : c.as_slice-row.result.now ≡ links_at Forward c.args.links.now c.loop-position.position = c.as_slice-row.ensures.value ∙ c.requires.rows.row_is c.loop-position.position c.index-forward-position.result (slice_get_read c.args.forward.now _ c.loop-position.position c.index-forward-position.result refl c.loop-position-test.true c.index-forward-position.is) in
+    let marks = c.loop-position.marks in
+    let ok = marks.ok in
+    let lent = c.as_mut_slice.ensures.len in
+    let kept = c.first_again.ensures.len in
+    let was = c.loop-position.invariant.len in
+    let len : length c.first_again.new.marks ≡ marks.len = omega arith in
+    let count : length c.first_again.new.marks ≡ length c.args.forward.now = omega arith in
+    rw (with_items_is marks c.first_again.new.marks len) (record {
+      len = count;
+      scanned = elim c.match-first_again.branch [
+        | in-Some w ↦
+            let again = rw row at w.in-Some.ensures.again in
+            rw (w.lowest-is, w.min-lowest.ensures) (scanned_again c.args.links.now c.loop-position.position c.loop-position.lowest marks.items c.first_again.new.marks c.loop-position.invariant.scanned c.first_again.ensures.used _ again)
+        | in_default w ↦
+            let apart = rw row at w.in_default.ensures.again in
+            rw w.lowest-is (scanned_apart c.args.links.now c.loop-position.position c.loop-position.lowest marks.items c.first_again.new.marks c.loop-position.invariant.scanned c.first_again.ensures.used apart)
+      ];
+    })
+
+pub returns : goal.returns
+returns g c = scanned_all c.args.links.now (length c.args.forward.now) c.loop-position.position c.loop-position.lowest c.loop-position.marks.items c.requires.ends c.loop-position.invariant.scanned c.loop-position-test.false c.then_some.result c.then_some.ensures

@@ -1,0 +1,13 @@
+pub mod IxSet
+pub mod Links
+pub mod Graph
+pub mod Pairs
+pub mod Fault
+pub mod Stored
+pub mod Reach
+pub mod Resolve
+pub mod Searching
+pub mod Walked
+pub mod Buffered
+pub mod Buffering
+pub mod Counted
