@@ -1,6 +1,7 @@
 //! Searches of small graphs with filters that hand links back.
 ghost use Rattle.std.specs.Prelude.{◌≡◌, ◌<◌, length, All, IfOk};
 
+use crate::positions::{positions_in, set_of};
 use guppy_core::dfs::{
     BufferedEdgeFilter, SimpleEdgeFilterFn, reachable_buffered, reachable_buffered_mut,
 };
@@ -138,20 +139,6 @@ fn graph_of(alloc: Global, node_count: u8, ends: &[(usize, usize)]) -> Result<Gr
     Ok(Graph::from_parts(nodes, links)?)
 }
 
-fn set_of(graph: &Graph<Stages>, start: usize) -> Result<IxSet<Stages>, AllocError>
-    ensures { IfOk result (λ set. length set ≡ length graph.now.nodes) }
-{
-    let mut set = IxSet::empty(graph.alloc(), graph.node_count())?;
-    if start < graph.node_count() && start < NEVER {
-        set.insert(StageIx::new(start));
-    }
-    Ok(set)
-}
-
-fn positions(alloc: Global, set: &IxSet<Stages>) -> Result<Vec<usize>, AllocError> {
-    set.ones().map(|ix| ix.index()).collect(alloc)
-}
-
 // What is included from one position.
 fn included(
     graph: &Graph<Stages>,
@@ -159,93 +146,113 @@ fn included(
     direction: DependencyDirection,
     filter: &mut Recording<'_>,
 ) -> Result<Vec<usize>, AllocError> {
-    let start = set_of(graph, start)?;
+    let start = set_of(graph, &[start])?;
     let set = reachable_buffered_mut(graph, &start, direction, filter)?;
-    positions(graph.alloc(), &set)
+    positions_in(graph.alloc(), &set)
+}
+
+// A search from one position with a filter that hands links back at one question, and the
+// questions that it is asked.
+struct Search {
+    name: &'static str,
+    node_count: u8,
+    ends: &'static [(usize, usize)],
+    start: usize,
+    direction: DependencyDirection,
+    at: Asked,
+    handed: &'static [usize],
+    included: &'static [usize],
+    asked: &'static [Asked],
+}
+
+const SEARCHES: &[Search] = &[
+    Search {
+        name: "handed_ahead",
+        node_count: 4,
+        ends: &[(0, 1), (2, 3)],
+        start: 0,
+        direction: DependencyDirection::Forward,
+        at: Asked::Filter(0),
+        handed: &[1],
+        included: &[0, 3],
+        asked: &[Asked::Discover(0), Asked::Filter(0), Asked::Discover(3)],
+    },
+    Search {
+        name: "discover_hands_back",
+        node_count: 3,
+        ends: &[(0, 1), (1, 2)],
+        start: 0,
+        direction: DependencyDirection::Forward,
+        at: Asked::Discover(0),
+        handed: &[1],
+        included: &[0, 2],
+        asked: &[Asked::Discover(0), Asked::Filter(0), Asked::Discover(2)],
+    },
+    Search {
+        name: "far_end_in_reverse",
+        node_count: 4,
+        ends: &[(0, 1), (2, 3)],
+        start: 1,
+        direction: DependencyDirection::Reverse,
+        at: Asked::Filter(0),
+        handed: &[1],
+        included: &[1, 2],
+        asked: &[Asked::Discover(1), Asked::Filter(0), Asked::Discover(2)],
+    },
+];
+
+fn search_holds(rt: &impl Abort, graph: &Graph<Stages>, search: &Search) -> Result<(), AllocError> {
+    let mut filter = recording_at(graph.alloc(), search.at, search.handed);
+    let set = included(graph, search.start, search.direction, &mut filter)?;
+    assert_eq!(rt; set.as_slice(), search.included, "{}", search.name);
+    assert_eq!(rt; filter.asked.as_slice(), search.asked, "{}", search.name);
+    Ok(())
+}
+
+#[test]
+fn searches(rt: HostRuntime) -> Result<(), Fail> {
+    for search in SEARCHES {
+        let graph = graph_of(rt.alloc(), search.node_count, search.ends)?;
+        search_holds(&rt, &graph, search)?;
+    }
+    Ok(())
 }
 
 fn times_asked(asked: &[Asked], question: Asked) -> usize {
     asked.iter().filter(|a| **a == question).count()
 }
 
-#[test]
-fn handed_ahead(rt: HostRuntime) -> Result<(), Fail> {
-    let graph = graph_of(rt.alloc(), 4, [(0, 1), (2, 3)].as_slice())?;
-    handed_ahead_holds(&rt, &graph)
-}
-
-fn handed_ahead_holds(rt: &impl Abort, graph: &Graph<Stages>) -> Result<(), Fail> {
-    let mut filter = recording_at(graph.alloc(), Asked::Filter(0), &[1]);
-    let set = included(graph, 0, DependencyDirection::Forward, &mut filter)?;
-    assert_eq!(rt; set.as_slice(), [0, 3].as_slice());
-    let questions = [Asked::Discover(0), Asked::Filter(0), Asked::Discover(3)];
-    assert_eq!(rt; filter.asked.as_slice(), questions.as_slice());
-    Ok(())
-}
-
-#[test]
-fn discover_hands_back(rt: HostRuntime) -> Result<(), Fail> {
-    let graph = graph_of(rt.alloc(), 3, [(0, 1), (1, 2)].as_slice())?;
-    discover_hands_back_holds(&rt, &graph)
-}
-
-fn discover_hands_back_holds(rt: &impl Abort, graph: &Graph<Stages>) -> Result<(), Fail> {
-    let mut filter = recording_at(graph.alloc(), Asked::Discover(0), &[1]);
-    let set = included(graph, 0, DependencyDirection::Forward, &mut filter)?;
-    assert_eq!(rt; set.as_slice(), [0, 2].as_slice());
-    let questions = [Asked::Discover(0), Asked::Filter(0), Asked::Discover(2)];
-    assert_eq!(rt; filter.asked.as_slice(), questions.as_slice());
-    Ok(())
-}
-
-#[test]
-fn far_end_in_reverse(rt: HostRuntime) -> Result<(), Fail> {
-    let graph = graph_of(rt.alloc(), 4, [(0, 1), (2, 3)].as_slice())?;
-    far_end_in_reverse_holds(&rt, &graph)
-}
-
-fn far_end_in_reverse_holds(rt: &impl Abort, graph: &Graph<Stages>) -> Result<(), Fail> {
-    let mut filter = recording_at(graph.alloc(), Asked::Filter(0), &[1]);
-    let set = included(graph, 1, DependencyDirection::Reverse, &mut filter)?;
-    assert_eq!(rt; set.as_slice(), [1, 2].as_slice());
-    Ok(())
-}
-
 const RING: [(usize, usize); 4] = [(0, 1), (1, 2), (2, 3), (3, 0)];
 
-#[test]
-fn hands_back_everything(rt: HostRuntime) -> Result<(), Fail> {
-    let graph = graph_of(rt.alloc(), 4, RING.as_slice())?;
-    hands_back_everything_holds(&rt, &graph, &[0, 1, 2, 3])?;
-    let many = (0..4000).map(|i| i % 4).collect::<Vec<_>>(rt.alloc())?;
-    hands_back_everything_holds(&rt, &graph, many.as_slice())
-}
-
-fn hands_back_everything_holds(
+// The filter hands back these links at the ring's first position, and so all of its links.
+fn ring_is_asked_once(
     rt: &impl Abort,
     graph: &Graph<Stages>,
     links: &[usize],
-) -> Result<(), Fail> {
+) -> Result<(), AllocError> {
     let mut filter = recording_at(graph.alloc(), Asked::Discover(0), links);
     let set = included(graph, 0, DependencyDirection::Forward, &mut filter)?;
     assert_eq!(rt; set.as_slice(), [0, 1, 2, 3].as_slice());
     assert_eq!(rt; filter.asked.len(), 8);
     for number in 0..4 {
-        let discovered = times_asked(filter.asked.as_slice(), Asked::Discover(number));
-        assert_eq!(rt; discovered, 1, "position {number}");
-        let filtered = times_asked(filter.asked.as_slice(), Asked::Filter(number));
-        assert_eq!(rt; filtered, 1, "link {number}");
+        for question in [Asked::Discover(number), Asked::Filter(number)] {
+            let times = times_asked(filter.asked.as_slice(), question);
+            assert_eq!(rt; times, 1, "{question:?}");
+        }
     }
     Ok(())
 }
 
 #[test]
-fn an_error_ends_the_search(rt: HostRuntime) -> Result<(), Fail> {
+fn hands_back_everything(rt: HostRuntime) -> Result<(), Fail> {
     let graph = graph_of(rt.alloc(), 4, RING.as_slice())?;
-    an_error_ends_the_search_holds(&rt, &graph)
+    ring_is_asked_once(&rt, &graph, &[0, 1, 2, 3])?;
+    let many = (0..4000).map(|i| i % 4).collect::<Vec<_>>(rt.alloc())?;
+    ring_is_asked_once(&rt, &graph, many.as_slice())?;
+    Ok(())
 }
 
-fn an_error_ends_the_search_holds(rt: &impl Abort, graph: &Graph<Stages>) -> Result<(), Fail> {
+fn errors_end_the_search(rt: &impl Abort, graph: &Graph<Stages>) {
     for count in 0..8 {
         let mut filter = recording_at(graph.alloc(), Asked::Discover(0), &[0, 1, 2, 3]);
         filter.fails_after = count;
@@ -253,42 +260,71 @@ fn an_error_ends_the_search_holds(rt: &impl Abort, graph: &Graph<Stages>) -> Res
         assert!(rt; set.is_err());
         assert_eq!(rt; filter.asked.len(), count + 1);
     }
+}
+
+#[test]
+fn an_error_ends_the_search(rt: HostRuntime) -> Result<(), Fail> {
+    let graph = graph_of(rt.alloc(), 4, RING.as_slice())?;
+    errors_end_the_search(&rt, &graph);
     Ok(())
 }
 
 #[test]
 fn simple_filters(rt: HostRuntime) -> Result<(), Fail> {
     let graph = graph_of(rt.alloc(), 4, [(0, 1), (0, 2), (1, 3), (2, 3)].as_slice())?;
-    simple_filters_hold(&rt, &graph)
+    let start = set_of(&graph, &[0])?;
+    let is_odd = SimpleEdgeFilterFn(|_graph: &Graph<Stages>, link: usize| link % 2 == 1);
+    let set = reachable_buffered(&graph, &start, DependencyDirection::Forward, is_odd)?;
+    let followed = positions_in(rt.alloc(), &set)?;
+    assert_eq!(rt; followed.as_slice(), [0, 2, 3].as_slice());
+    Ok(())
 }
 
-fn simple_filters_hold(rt: &impl Abort, graph: &Graph<Stages>) -> Result<(), Fail> {
-    let start = set_of(graph, 0)?;
+fn resolved(
+    graph: &Graph<Stages>,
+    start: &IxSet<Stages>,
+    filter: &mut Recording<'_>,
+) -> Result<Vec<usize>, AllocError>
+    requires { length start.now ≡ length graph.now.nodes }
+{
     let direction = DependencyDirection::Forward;
-    let is_odd = |_graph: &Graph<Stages>, link: usize| link % 2 == 1;
-    let set = reachable_buffered(graph, &start, direction, SimpleEdgeFilterFn(is_odd))?;
-    let followed = positions(graph.alloc(), &set)?;
-    assert_eq!(rt; followed.as_slice(), [0, 2, 3].as_slice());
+    let set = ResolveCore::with_buffered_edge_filter(graph, start, direction, filter)?;
+    positions_in(graph.alloc(), set.included())
+}
+
+fn resolved_lent(
+    graph: &Graph<Stages>,
+    start: &IxSet<Stages>,
+    filter: &mut Recording<'_>,
+) -> Result<Vec<usize>, AllocError>
+    requires { length start.now ≡ length graph.now.nodes }
+{
+    let direction = DependencyDirection::Forward;
+    let set = ResolveCore::with_buffered_edge_filter_mut(graph, start, direction, filter)?;
+    positions_in(graph.alloc(), set.included())
+}
+
+fn resolves_hold(
+    rt: &impl Abort,
+    graph: &Graph<Stages>,
+    start: &IxSet<Stages>,
+) -> Result<(), AllocError>
+    requires { length start.now ≡ length graph.now.nodes }
+{
+    let mut filter = recording_at(graph.alloc(), Asked::Filter(2), &[2, 0]);
+    let included = resolved(graph, start, &mut filter)?;
+    assert_eq!(rt; included.as_slice(), [1, 2, 3].as_slice());
+    assert_eq!(rt; filter.asked.len(), 6);
+    let included = resolved_lent(graph, start, &mut filter)?;
+    assert_eq!(rt; included.as_slice(), [1, 2, 3].as_slice());
+    assert_eq!(rt; filter.asked.len(), 12);
     Ok(())
 }
 
 #[test]
 fn resolves_with_filters(rt: HostRuntime) -> Result<(), Fail> {
     let graph = graph_of(rt.alloc(), 4, RING.as_slice())?;
-    resolves_with_filters_hold(&rt, &graph)
-}
-
-fn resolves_with_filters_hold(rt: &impl Abort, graph: &Graph<Stages>) -> Result<(), Fail> {
-    let start = set_of(graph, 2)?;
-    let direction = DependencyDirection::Forward;
-    let mut filter = recording_at(graph.alloc(), Asked::Filter(2), &[2, 0]);
-    let set = ResolveCore::with_buffered_edge_filter(graph, &start, direction, &mut filter)?;
-    let by_value = positions(graph.alloc(), set.included())?;
-    assert_eq!(rt; by_value.as_slice(), [1, 2, 3].as_slice());
-    assert_eq!(rt; filter.asked.len(), 6);
-    let set = ResolveCore::with_buffered_edge_filter_mut(graph, &start, direction, &mut filter)?;
-    let lent = positions(graph.alloc(), set.included())?;
-    assert_eq!(rt; lent.as_slice(), [1, 2, 3].as_slice());
-    assert_eq!(rt; filter.asked.len(), 12);
+    let start = set_of(&graph, &[2])?;
+    resolves_hold(&rt, &graph, &start)?;
     Ok(())
 }

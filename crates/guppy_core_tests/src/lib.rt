@@ -1,6 +1,7 @@
 //! Tests of `guppy_core` through its public calls alone.
 //!
 //! They stand beside the library and not in it: a crate with tests is proved twice, with them and without.
+//! Examples of one kind are the cases of a table, each with its name, what is given, and what holds of it.
 #![tactic(auto)]
 
 #[cfg(test)]
@@ -9,6 +10,8 @@ mod buffered;
 mod dfs;
 #[cfg(test)]
 mod graphs;
+#[cfg(test)]
+mod positions;
 #[cfg(test)]
 mod resolve_core;
 #[cfg(test)]

@@ -2,8 +2,9 @@
 ghost use Rattle.std.specs.Prelude.{◌≡◌, length, IfOk};
 ghost use Rattle.std.specs.List.{concat};
 
+use crate::positions::{ixs_of, positions_of, set_of};
 use guppy_core::graph_core::{CountedGraph, Graph, Link};
-use guppy_core::ix::{DependencyDirection, GraphSpec, IndexType, IxSet, PackageIx};
+use guppy_core::ix::{DependencyDirection, GraphSpec, IndexType, PackageIx};
 use guppy_core::resolve_core::ResolveCore;
 use guppy_core::scc::Sccs;
 use guppy_core::topo::TopoWithCycles;
@@ -45,18 +46,18 @@ pub(crate) fn make_ordered(graph: &Graph<DevLinks>) -> Result<Ordered, AllocErro
     })
 }
 
-pub(crate) fn graph_of(
+fn graph_of(
     alloc: Global,
     node_count: usize,
-    ends: &[(usize, usize, bool)],
+    ends: &[(usize, usize)],
 ) -> Result<Graph<DevLinks>, Fail> {
     let nodes = vec![in alloc; (); node_count]?;
     let links = ends
         .iter()
-        .map(|(from, to, is_dev_only)| Link {
+        .map(|(from, to)| Link {
             from: *from,
             to: *to,
-            edge: *is_dev_only,
+            edge: false,
         })
         .collect(alloc)?;
     Ok(Graph::from_parts(nodes, links)?)
@@ -68,7 +69,9 @@ pub(crate) fn chain_of(
     alloc: Global,
     node_count: usize,
     more: &[(usize, usize)],
-) -> Result<Graph<DevLinks>, Fail> {
+) -> Result<Graph<DevLinks>, Fail>
+    ensures { IfOk result (λ graph. length graph.nodes ≡ node_count) }
+{
     let nodes = vec![in alloc; (); node_count]?;
     let mut links = Vec::new(alloc);
     for to in 1..node_count {
@@ -129,143 +132,202 @@ fn counts_up(list: &[usize]) -> bool {
     true
 }
 
-fn same(sccs: &Sccs<PackageIx>, a: usize, b: usize) -> Option<bool> {
-    let count = sccs.node_iter(DependencyDirection::Forward).len();
-    if count < 4_294_967_295 && a < count && b < count {
-        Some(sccs.is_same_scc(PackageIx::new(a), PackageIx::new(b)))
-    } else {
-        None
-    }
+// The positions of a graph by their index.
+struct Indexed {
+    name: &'static str,
+    node_count: usize,
+    links: &'static [(usize, usize)],
+    by_index: &'static [usize],
 }
 
-fn is_multi(sccs: &Sccs<PackageIx>, position: usize) -> Option<bool> {
-    let count = sccs.node_iter(DependencyDirection::Forward).len();
-    if count < 4_294_967_295 && position < count {
-        Some(sccs.in_multi_scc(PackageIx::new(position)))
-    } else {
-        None
-    }
+const INDEXED: &[Indexed] = &[
+    Indexed {
+        name: "unreached_last",
+        node_count: 3,
+        links: &[(0, 1), (1, 0)],
+        by_index: &[2, 0, 1],
+    },
+    Indexed {
+        name: "self_link_is_no_root_loss",
+        node_count: 2,
+        links: &[(1, 0), (1, 1)],
+        by_index: &[1, 0],
+    },
+    Indexed {
+        name: "sorts_by_the_index",
+        node_count: 3,
+        links: &[(2, 0), (0, 1)],
+        by_index: &[2, 0, 1],
+    },
+];
+
+fn sorted(
+    graph: &Graph<DevLinks>,
+    topo: &TopoWithCycles<PackageIx>,
+) -> Result<Vec<usize>, AllocError> {
+    let mut ixs = ixs_of(graph.alloc(), &[0, 1, 2], graph.node_count())?;
+    topo.sort_nodes(ixs.as_mut_slice());
+    positions_of(graph.alloc(), ixs.as_slice())
 }
 
-#[test]
-fn unreached_last(rt: HostRuntime) -> Result<(), Fail> {
-    let graph = graph_of(rt.alloc(), 3, &[(0, 1, false), (1, 0, false)])?;
-    let ordered = make_ordered(&graph)?;
-    assert_eq!(rt;
-        by_index(&graph, &ordered.topo)?.as_slice(),
-        [2, 0, 1].as_slice()
-    );
+fn indexed_holds(
+    rt: &impl Abort,
+    graph: &Graph<DevLinks>,
+    ordered: &Ordered,
+    indexed: &Indexed,
+) -> Result<(), AllocError>
+    requires { length ordered.now.topo ≡ length graph.now.nodes }
+{
     assert!(rt; ordered.looks <= 8);
+    let positions = by_index(graph, &ordered.topo)?;
+    assert_eq!(rt; positions.as_slice(), indexed.by_index, "{}", indexed.name);
+    let positions = sorted(graph, &ordered.topo)?;
+    assert_eq!(rt; positions.as_slice(), indexed.by_index, "{}", indexed.name);
     Ok(())
 }
 
 #[test]
-fn self_link_is_no_root_loss(rt: HostRuntime) -> Result<(), Fail> {
-    let graph = graph_of(rt.alloc(), 2, &[(1, 0, false), (1, 1, false)])?;
-    let ordered = make_ordered(&graph)?;
-    assert_eq!(rt;
-        by_index(&graph, &ordered.topo)?.as_slice(),
-        [1, 0].as_slice()
-    );
+fn indexes(rt: HostRuntime) -> Result<(), Fail> {
+    for indexed in INDEXED {
+        let graph = graph_of(rt.alloc(), indexed.node_count, indexed.links)?;
+        let ordered = make_ordered(&graph)?;
+        indexed_holds(&rt, &graph, &ordered, indexed)?;
+    }
     Ok(())
+}
+
+// The roots of all three nodes of a graph.
+struct Rooted {
+    name: &'static str,
+    links: &'static [(usize, usize)],
+    direction: DependencyDirection,
+    roots: &'static [usize],
+}
+
+const CYCLIC: [(usize, usize); 4] = [(0, 1), (1, 0), (0, 0), (0, 2)];
+
+const SELF_LINKS: [(usize, usize); 5] = [(0, 1), (1, 2), (0, 0), (1, 1), (2, 2)];
+
+const ROOTED: &[Rooted] = &[
+    Rooted {
+        name: "cyclic_roots",
+        links: &CYCLIC,
+        direction: DependencyDirection::Forward,
+        roots: &[0, 1],
+    },
+    Rooted {
+        name: "cyclic_roots",
+        links: &CYCLIC,
+        direction: DependencyDirection::Reverse,
+        roots: &[2],
+    },
+    Rooted {
+        name: "chain_with_self_links",
+        links: &SELF_LINKS,
+        direction: DependencyDirection::Forward,
+        roots: &[0],
+    },
+    Rooted {
+        name: "chain_with_self_links",
+        links: &SELF_LINKS,
+        direction: DependencyDirection::Reverse,
+        roots: &[2],
+    },
+];
+
+fn external_positions(
+    graph: &Graph<DevLinks>,
+    sccs: &Sccs<PackageIx>,
+    set: &ResolveCore<DevLinks>,
+    direction: DependencyDirection,
+) -> Result<Vec<usize>, AllocError>
+    requires set { length set.now ≡ length graph.now.nodes }
+    requires components { length (concat sccs.now) ≡ length graph.now.nodes }
+{
+    let ixs = sccs.externals(graph, set.included(), direction)?;
+    positions_of(graph.alloc(), ixs.as_slice())
+}
+
+fn root_positions(
+    graph: &Graph<DevLinks>,
+    sccs: &Sccs<PackageIx>,
+    set: &ResolveCore<DevLinks>,
+    direction: DependencyDirection,
+) -> Result<Vec<usize>, AllocError>
+    requires set { length set.now ≡ length graph.now.nodes }
+    requires components { length (concat sccs.now) ≡ length graph.now.nodes }
+{
+    let ixs = set.roots(graph, sccs, direction)?;
+    positions_of(graph.alloc(), ixs.as_slice())
+}
+
+fn rooted_holds(
+    rt: &impl Abort,
+    graph: &Graph<DevLinks>,
+    sccs: &Sccs<PackageIx>,
+    rooted: &Rooted,
+) -> Result<(), AllocError>
+    requires { length (concat sccs.now) ≡ length graph.now.nodes }
+{
+    let set = ResolveCore::from_included(set_of(graph, &[0, 1, 2])?);
+    let positions = external_positions(graph, sccs, &set, rooted.direction)?;
+    assert_eq!(rt; positions.as_slice(), rooted.roots, "{}", rooted.name);
+    let positions = root_positions(graph, sccs, &set, rooted.direction)?;
+    assert_eq!(rt; positions.as_slice(), rooted.roots, "{}", rooted.name);
+    Ok(())
+}
+
+#[test]
+fn roots(rt: HostRuntime) -> Result<(), Fail> {
+    for rooted in ROOTED {
+        let graph = graph_of(rt.alloc(), 3, rooted.links)?;
+        let ordered = make_ordered(&graph)?;
+        rooted_holds(&rt, &graph, &ordered.sccs, rooted)?;
+    }
+    Ok(())
+}
+
+fn components_hold(rt: &impl Abort, sccs: &Sccs<PackageIx>)
+    requires { length (concat sccs.now) ≡ 4 }
+{
+    let (first, second, last) = (PackageIx::new(1), PackageIx::new(2), PackageIx::new(3));
+    assert!(rt; sccs.is_same_scc(first, second));
+    assert!(rt; !sccs.is_same_scc(first, last));
+    assert!(rt; sccs.in_multi_scc(second));
+    assert!(rt; !sccs.in_multi_scc(last));
+    let mut components = sccs.all_sccs();
+    assert_eq!(rt; components.len(), 3);
+    for length in [1, 2] {
+        let component = components.next_back();
+        assert_eq!(rt; component.map(|component| component.len()), Some(length));
+    }
+    assert_eq!(rt; components.len(), 1);
+    let nodes = sccs.node_iter(DependencyDirection::Reverse);
+    assert_eq!(rt; nodes.direction(), DependencyDirection::Reverse);
 }
 
 #[test]
 fn components_of_a_chain_with_a_ring(rt: HostRuntime) -> Result<(), Fail> {
     let graph = chain_of(rt.alloc(), 4, &[(2, 1)])?;
     let ordered = make_ordered(&graph)?;
-    assert_eq!(rt; same(&ordered.sccs, 1, 2), Some(true));
-    assert_eq!(rt; same(&ordered.sccs, 1, 3), Some(false));
-    assert_eq!(rt; is_multi(&ordered.sccs, 2), Some(true));
-    assert_eq!(rt; is_multi(&ordered.sccs, 3), Some(false));
-    let mut components = ordered.sccs.all_sccs();
-    assert_eq!(rt; components.len(), 3);
-    assert_eq!(rt; components.next_back().map(|last| last.len()), Some(1));
-    assert_eq!(rt; components.next_back().map(|middle| middle.len()), Some(2));
-    assert_eq!(rt; components.len(), 1);
-    let nodes = ordered.sccs.node_iter(DependencyDirection::Reverse);
-    assert_eq!(rt; nodes.direction(), DependencyDirection::Reverse);
+    components_hold(&rt, &ordered.sccs);
     Ok(())
 }
 
-#[test]
-fn sorts_by_the_index(rt: HostRuntime) -> Result<(), Fail> {
-    let graph = graph_of(rt.alloc(), 3, &[(2, 0, false), (0, 1, false)])?;
-    let ordered = make_ordered(&graph)?;
-    let mut nodes = [PackageIx::new(0), PackageIx::new(1), PackageIx::new(2)];
-    ordered.topo.sort_nodes(nodes.as_mut_slice());
-    assert_eq!(rt;
-        nodes.as_slice(),
-        [PackageIx::new(2), PackageIx::new(0), PackageIx::new(1)].as_slice()
-    );
+fn ring_1000_holds(rt: &impl Abort, graph: &Graph<DevLinks>) -> Result<(), AllocError> {
+    let ordered = make_ordered(graph)?;
+    let positions = by_index(graph, &ordered.topo)?;
+    assert!(rt; counts_up(positions.as_slice()));
+    let forward = listed(graph.alloc(), &ordered.sccs, DependencyDirection::Forward)?;
+    assert!(rt; counts_up(forward.as_slice()));
+    let lengths = lengths(graph.alloc(), &ordered.sccs)?;
+    assert_eq!(rt; lengths.as_slice(), [1000].as_slice());
     Ok(())
 }
 
 #[test]
 fn ring_1000(rt: HostRuntime) -> Result<(), Fail> {
     let graph = chain_of(rt.alloc(), 1000, &[(999, 0)])?;
-    let ordered = make_ordered(&graph)?;
-    assert!(rt; counts_up(by_index(&graph, &ordered.topo)?.as_slice()));
-    let forward = listed(rt.alloc(), &ordered.sccs, DependencyDirection::Forward)?;
-    assert!(rt; counts_up(forward.as_slice()));
-    assert_eq!(rt;
-        lengths(rt.alloc(), &ordered.sccs)?.as_slice(),
-        [1000].as_slice()
-    );
+    ring_1000_holds(&rt, &graph)?;
     Ok(())
-}
-
-/// The set of those of the positions that the graph has.
-pub(crate) fn set_of(
-    graph: &Graph<DevLinks>,
-    positions: &[usize],
-) -> Result<IxSet<DevLinks>, AllocError>
-    ensures { IfOk result (λ set. length set ≡ length graph.now.nodes) }
-{
-    let mut set = IxSet::empty(graph.alloc(), graph.node_count())?;
-    for position in positions {
-        if *position < graph.node_count() && *position < 4_294_967_295 {
-            set.insert(PackageIx::new(*position));
-        }
-    }
-    Ok(set)
-}
-
-fn positions_of(alloc: Global, ixs: &[PackageIx]) -> Result<Vec<usize>, AllocError> {
-    ixs.iter().map(|ix| ix.index()).collect(alloc)
-}
-
-fn roots_hold(
-    rt: &impl Abort,
-    graph: &Graph<DevLinks>,
-    members: &[usize],
-    direction: DependencyDirection,
-    expected: &[usize],
-) -> Result<(), Fail> {
-    let ordered = make_ordered(graph)?;
-    let set = set_of(graph, members)?;
-    let externals = ordered.sccs.externals(graph, &set, direction)?;
-    let found = positions_of(graph.alloc(), externals.as_slice())?;
-    assert_eq!(rt; found.as_slice(), expected);
-    let roots = ResolveCore::from_included(set).roots(graph, &ordered.sccs, direction)?;
-    let found = positions_of(graph.alloc(), roots.as_slice())?;
-    assert_eq!(rt; found.as_slice(), expected);
-    Ok(())
-}
-
-#[test]
-fn cyclic_roots(rt: HostRuntime) -> Result<(), Fail> {
-    let links = [(0, 1, false), (1, 0, false), (0, 0, false), (0, 2, false)];
-    let graph = graph_of(rt.alloc(), 3, links.as_slice())?;
-    let all = [0, 1, 2];
-    roots_hold(&rt, &graph, &all, DependencyDirection::Forward, &[0, 1])?;
-    roots_hold(&rt, &graph, &all, DependencyDirection::Reverse, &[2])
-}
-
-#[test]
-fn chain_with_self_links(rt: HostRuntime) -> Result<(), Fail> {
-    let graph = chain_of(rt.alloc(), 3, &[(0, 0), (1, 1), (2, 2)])?;
-    let all = [0, 1, 2];
-    roots_hold(&rt, &graph, &all, DependencyDirection::Forward, &[0])?;
-    roots_hold(&rt, &graph, &all, DependencyDirection::Reverse, &[2])
 }

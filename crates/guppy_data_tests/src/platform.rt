@@ -1,3 +1,5 @@
+//! Platform statuses and what they enable.
+
 use crate::evaluators::{ByTable, KnowsNothing, Machine};
 use guppy_data::{
     EnabledTernary, PlatformSpec, PlatformStatus, PlatformStatusImpl, TargetSpec,
@@ -51,82 +53,134 @@ fn assert_texts(rt: &impl Abort, status: &PlatformStatusImpl, texts: &[&str]) {
     }
 }
 
-#[test]
-fn statuses_grow(rt: HostRuntime) -> Result<(), Fail> {
-    let alloc = rt.alloc();
-    let mut status = specs(alloc, "x")?;
+fn assert_always(rt: &impl Abort, status: &PlatformStatusImpl) {
+    let status = PlatformStatus::new(status);
+    assert!(rt; status.is_always());
+    assert!(rt; status.is_present());
+}
+
+fn status_grows(
+    rt: &impl Abort,
+    alloc: Global,
+    status: &mut PlatformStatusImpl,
+) -> Result<(), AllocError> {
+    let x = target_spec(alloc, "x")?;
     status.extend(&specs(alloc, "y")?)?;
-    assert_texts(&rt, &status, &["x", "y"]);
+    assert_texts(rt, status, &["x", "y"]);
     assert!(rt; !status.is_never());
     status.add_spec(None)?;
-    assert!(rt; PlatformStatus::new(&status).is_always());
-    status.add_spec(Some(&target_spec(alloc, "x")?))?;
-    assert!(rt; PlatformStatus::new(&status).is_always());
-
-    let mut never = PlatformStatusImpl::never(alloc);
-    assert!(rt; never.is_never());
-    assert!(rt; PlatformStatus::new(&never).is_never());
-    assert!(rt; !PlatformStatus::new(&never).is_present());
-    never.extend(&status)?;
-    assert!(rt; PlatformStatus::new(&never).is_always());
-    assert!(rt; PlatformStatus::new(&never).is_present());
+    assert_always(rt, status);
+    status.add_spec(Some(&x))?;
+    assert_always(rt, status);
     Ok(())
+}
+
+#[test]
+fn statuses_grow(rt: HostRuntime) -> Result<(), Fail> {
+    let mut status = specs(rt.alloc(), "x")?;
+    status_grows(&rt, rt.alloc(), &mut status)?;
+    let mut never = PlatformStatusImpl::never(rt.alloc());
+    assert!(rt; never.is_never());
+    let seen = PlatformStatus::new(&never);
+    assert!(rt; seen.is_never());
+    assert!(rt; !seen.is_present());
+    never.extend(&status)?;
+    assert_always(&rt, &never);
+    Ok(())
+}
+
+// A status of one text, or that is always enabled, on some machines.
+struct OnMachines {
+    status: Option<&'static str>,
+    machines: &'static [Machine],
+    enabled: EnabledTernary,
+}
+
+const TARGET_TABLE: &[OnMachines] = &[
+    OnMachines {
+        status: Some("cfg(windows)"),
+        machines: &[LINUX, WINDOWS],
+        enabled: ENABLED,
+    },
+    OnMachines {
+        status: Some("cfg(windows)"),
+        machines: &[LINUX],
+        enabled: DISABLED,
+    },
+    OnMachines {
+        status: None,
+        machines: &[],
+        enabled: DISABLED,
+    },
+    OnMachines {
+        status: None,
+        machines: &[LINUX],
+        enabled: ENABLED,
+    },
+    OnMachines {
+        status: Some("S"),
+        machines: &[LINUX, WINDOWS],
+        enabled: UNKNOWN,
+    },
+    OnMachines {
+        status: Some("S"),
+        machines: &[WINDOWS, WINDOWS_SSE],
+        enabled: ENABLED,
+    },
+];
+
+// One machine is made a list by a call of its own.
+fn platforms_of(alloc: Global, machines: &[Machine]) -> Result<PlatformSpec<Machine>, AllocError> {
+    match machines {
+        [machine] => PlatformSpec::one(alloc, *machine),
+        _ => PlatformSpec::platforms(alloc, machines.iter().copied()),
+    }
 }
 
 #[test]
 fn target_table(rt: HostRuntime) -> Result<(), Fail> {
-    let alloc = rt.alloc();
-    let windows = specs(alloc, "cfg(windows)")?;
-    let s = specs(alloc, "S")?;
-    let always = PlatformStatusImpl::Always;
-    let both = PlatformSpec::platforms(alloc, [LINUX, WINDOWS].iter().copied())?;
-    let linux = PlatformSpec::one(alloc, LINUX)?;
-    let none = PlatformSpec::platforms(alloc, [].iter().copied())?;
-    let with_sse = PlatformSpec::platforms(alloc, [WINDOWS, WINDOWS_SSE].iter().copied())?;
-    assert_eq!(rt;
-        PlatformStatus::new(&windows).enabled_on(&both, &ByTable),
-        ENABLED
-    );
-    assert_eq!(rt;
-        PlatformStatus::new(&windows).enabled_on(&linux, &ByTable),
-        DISABLED
-    );
-    assert_eq!(rt;
-        PlatformStatus::new(&always).enabled_on(&none, &ByTable),
-        DISABLED
-    );
-    assert_eq!(rt;
-        PlatformStatus::new(&always).enabled_on(&linux, &ByTable),
-        ENABLED
-    );
-    assert_eq!(rt;
-        PlatformStatus::new(&s).enabled_on(&both, &ByTable),
-        UNKNOWN
-    );
-    assert_eq!(rt;
-        PlatformStatus::new(&s).enabled_on(&with_sse, &ByTable),
-        ENABLED
-    );
+    for case in TARGET_TABLE {
+        let platforms = platforms_of(rt.alloc(), case.machines)?;
+        let status = match case.status {
+            Some(text) => specs(rt.alloc(), text)?,
+            None => PlatformStatusImpl::Always,
+        };
+        let enabled = PlatformStatus::new(&status).enabled_on(&platforms, &ByTable);
+        assert_eq!(rt; enabled, case.enabled, "{:?}", case.status);
+    }
     Ok(())
+}
+
+fn knows_nothing_holds(
+    rt: &impl Abort,
+    status: &PlatformStatusImpl,
+    one: &PlatformSpec<()>,
+    none: &PlatformSpec<()>,
+) {
+    let seen = PlatformStatus::new(status);
+    for (platforms, enabled) in [
+        (one, UNKNOWN),
+        (none, DISABLED),
+        (&PlatformSpec::Always, DISABLED),
+        (&PlatformSpec::Any, ENABLED),
+    ] {
+        assert_eq!(rt;
+            seen.enabled_on(platforms, &KnowsNothing),
+            enabled,
+            "{platforms:?}"
+        );
+    }
+    if let PlatformStatus::PlatformDependent { eval } = seen {
+        assert_eq!(rt; eval.eval(&(), &KnowsNothing), UNKNOWN);
+    }
 }
 
 #[test]
 fn knows_nothing(rt: HostRuntime) -> Result<(), Fail> {
-    let alloc = rt.alloc();
-    let status = specs(alloc, "s")?;
-    let seen = PlatformStatus::new(&status);
-    let one = PlatformSpec::one(alloc, ())?;
-    let none = PlatformSpec::platforms(alloc, [].iter().copied())?;
-    assert_eq!(rt; seen.enabled_on(&one, &KnowsNothing), UNKNOWN);
-    assert_eq!(rt; seen.enabled_on(&none, &KnowsNothing), DISABLED);
-    assert_eq!(rt;
-        seen.enabled_on(&PlatformSpec::Always, &KnowsNothing),
-        DISABLED
-    );
-    assert_eq!(rt; seen.enabled_on(&PlatformSpec::Any, &KnowsNothing), ENABLED);
-    if let PlatformStatus::PlatformDependent { eval } = seen {
-        assert_eq!(rt; eval.eval(&(), &KnowsNothing), UNKNOWN);
-    }
+    let status = specs(rt.alloc(), "s")?;
+    let one = PlatformSpec::one(rt.alloc(), ())?;
+    let none = PlatformSpec::platforms(rt.alloc(), [].iter().copied())?;
+    knows_nothing_holds(&rt, &status, &one, &none);
     Ok(())
 }
 
@@ -134,11 +188,11 @@ fn knows_nothing(rt: HostRuntime) -> Result<(), Fail> {
 fn ternaries(rt: HostRuntime) {
     for (low, high) in [(DISABLED, UNKNOWN), (UNKNOWN, ENABLED)] {
         assert!(rt; low < high);
-        assert_eq!(rt; low & high, low);
-        assert_eq!(rt; low | high, high);
-        assert_eq!(rt; ternaries_ascend(low, high), Ordering::Less);
-        assert_eq!(rt; and_is_the_minimum(high, low), low);
-        assert_eq!(rt; or_is_the_maximum(high, low), high);
+        assert!(rt; low & high == low);
+        assert!(rt; low | high == high);
+        assert!(rt; ternaries_ascend(low, high) == Ordering::Less);
+        assert!(rt; and_is_the_minimum(high, low) == low);
+        assert!(rt; or_is_the_maximum(high, low) == high);
     }
     assert!(rt; DISABLED.is_known());
     assert!(rt; !UNKNOWN.is_known());
@@ -149,9 +203,9 @@ fn ternaries(rt: HostRuntime) {
 fn laws_hold(rt: HostRuntime) -> Result<(), Fail> {
     questions_ascend::<ByTable>();
     platforms_together_are_either::<ByTable>();
-    let alloc = rt.alloc();
-    let mut status = specs(alloc, "x")?;
-    extended_is_either::<ByTable>(&mut status, &specs(alloc, "y")?)?;
+    let other = specs(rt.alloc(), "y")?;
+    let mut status = specs(rt.alloc(), "x")?;
+    extended_is_either::<ByTable>(&mut status, &other)?;
     assert_texts(&rt, &status, &["x", "y"]);
     Ok(())
 }

@@ -1,9 +1,9 @@
 //! A graph with each field filled, and read back.
-use crate::records::{id, link, member, package, path, text, workspace};
+use crate::records::{Records, graph_of, id, path, records_of, text};
 use guppy::{PackageGraph, PackageLink, PackageMetadata, Workspace};
 use guppy_data::{
-    DependencyKind, Error, LinkRecord, NamedFeatureDep, PackagePublishRecord, PackageRecord,
-    Utf8Path, WorkspaceRecord,
+    DependencyKind, LinkRecord, NamedFeatureDep, PackagePublishRecord, PackageRecord, Utf8Path,
+    WorkspaceRecord,
 };
 use semver::Version;
 use serde_json::Value;
@@ -119,24 +119,12 @@ fn fill_package(alloc: Global, package: &mut PackageRecord) -> Result<(), AllocE
     fill_features(alloc, package)
 }
 
-fn filled_package(alloc: Global) -> Result<PackageRecord, AllocError> {
-    let mut package = member(alloc, "a", "n", "p")?;
-    fill_package(alloc, &mut package)?;
-    Ok(package)
-}
-
 fn fill_link(alloc: Global, link: &mut LinkRecord) -> Result<(), AllocError> {
     link.dep_name = text(alloc, "dep-name")?;
     link.resolved_name = text(alloc, "dep_name")?;
     link.registry = Some(text(alloc, "registry")?);
     link.path = Some(path(alloc, "../b")?);
     Ok(())
-}
-
-fn filled_link(alloc: Global) -> Result<LinkRecord, AllocError> {
-    let mut link = link(alloc, "a", "b")?;
-    fill_link(alloc, &mut link)?;
-    Ok(link)
 }
 
 fn assert_link(rt: &impl Abort, link: PackageLink<'_>) {
@@ -166,12 +154,6 @@ fn fill_workspace(alloc: Global, workspace: &mut WorkspaceRecord) -> Result<(), 
     Ok(())
 }
 
-fn filled_workspace(alloc: Global) -> Result<WorkspaceRecord, AllocError> {
-    let mut workspace = workspace(alloc);
-    fill_workspace(alloc, &mut workspace)?;
-    Ok(workspace)
-}
-
 fn assert_workspace(rt: &impl Abort, workspace: Workspace<'_>) {
     assert!(rt; workspace.root() == Utf8Path::new("/w"));
     assert!(rt; workspace.target_directory() == Utf8Path::new("/w/target"));
@@ -180,36 +162,48 @@ fn assert_workspace(rt: &impl Abort, workspace: Workspace<'_>) {
     assert_eq!(rt; workspace.member_count(), 1);
 }
 
-fn filled(alloc: Global) -> Result<PackageGraph, Error> {
-    let mut packages = Vec::new(alloc);
-    packages.push(filled_package(alloc)?)?;
-    packages.push(package(alloc, "b")?)?;
-    let mut links = Vec::new(alloc);
-    links.push(filled_link(alloc)?)?;
-    PackageGraph::from_records(packages, links, filled_workspace(alloc)?)
+fn fill(alloc: Global, records: &mut Records) -> Result<(), AllocError> {
+    if let Some(package) = records.packages.first_mut() {
+        fill_package(alloc, package)?;
+    }
+    if let Some(link) = records.links.first_mut() {
+        fill_link(alloc, link)?;
+    }
+    fill_workspace(alloc, &mut records.workspace)
+}
+
+fn filled(alloc: Global) -> Result<Records, Fail> {
+    let mut records = records_of(alloc, "a=n@p b: a>b")?;
+    fill(alloc, &mut records)?;
+    Ok(records)
+}
+
+fn every_field_of_a_package_holds(rt: &impl Abort, package: PackageMetadata<'_>) {
+    assert_named(rt, package);
+    assert_texts(rt, package);
+    assert_urls(rt, package);
+    assert_paths(rt, package);
+    assert_lists(rt, package);
+    assert_features(rt, package);
+}
+
+fn every_field_of_a_link_holds(rt: &impl Abort, package: PackageMetadata<'_>) {
+    for link in package.direct_links() {
+        assert_link(rt, link);
+        assert_sections(rt, link);
+    }
+}
+
+fn every_field_holds(rt: &impl Abort, graph: &PackageGraph) -> Result<(), Fail> {
+    let package = graph.metadata(&id(graph.alloc(), "a")?)?;
+    every_field_of_a_package_holds(rt, package);
+    every_field_of_a_link_holds(rt, package);
+    assert_workspace(rt, graph.workspace());
+    Ok(())
 }
 
 #[test]
 fn every_field(rt: HostRuntime) -> Result<(), Fail> {
-    let graph = filled(rt.alloc())?;
-    let package = graph.metadata(&id(rt.alloc(), "a")?)?;
-    assert_named(&rt, package);
-    assert_texts(&rt, package);
-    assert_urls(&rt, package);
-    assert_paths(&rt, package);
-    assert_lists(&rt, package);
-    assert_features(&rt, package);
-    Ok(())
-}
-
-#[test]
-fn every_field_of_a_link(rt: HostRuntime) -> Result<(), Fail> {
-    let graph = filled(rt.alloc())?;
-    let package = graph.metadata(&id(rt.alloc(), "a")?)?;
-    for link in package.direct_links() {
-        assert_link(&rt, link);
-        assert_sections(&rt, link);
-    }
-    assert_workspace(&rt, graph.workspace());
-    Ok(())
+    let graph = graph_of(filled(rt.alloc())?)?;
+    every_field_holds(&rt, &graph)
 }

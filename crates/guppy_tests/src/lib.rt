@@ -1,9 +1,12 @@
 //! Tests of package graphs through the public calls of `guppy` alone.
 //!
 //! They stand beside the library and not in it: a crate with tests is proved twice, with them and without.
-//! `visitors` has a visitor with a stated meaning, and `records` builds the graphs that the tests ask.
+//! Most are examples, written as texts: `records` says how a graph is written, and `examples` how a
+//! question and its answer are. `visitors` has a visitor with a stated meaning.
 #![tactic(auto)]
 
+#[cfg(test)]
+mod examples;
 #[cfg(test)]
 mod filled;
 #[cfg(test)]
@@ -15,17 +18,7 @@ mod queries;
 #[cfg(test)]
 mod records;
 #[cfg(test)]
-mod rules;
-#[cfg(test)]
 mod sets;
-#[cfg(test)]
-mod targets;
-#[cfg(test)]
-mod verified;
 #[cfg(test)]
 mod views;
 pub mod visitors;
-#[cfg(test)]
-mod walks;
-#[cfg(test)]
-mod workspaces;

@@ -1,324 +1,209 @@
-//! Lists of sets, cycles, the looks for the order, and the cache.
+//! Lists of sets, cycles, and the looks for the order.
 ghost use Rattle.std.specs.Iterator.{IsFinite};
 
-use crate::records::{
-    LETTERS, absent, assert_error, graph, id, ids, link, packages, present, workspace,
-};
-use guppy::{CycleIds, DependsCache, PackageGraph, PackageSet};
+use crate::examples::{Questions, assert_examples, put, put_number, put_truth};
+use crate::records::{Records, Sections, add_link, add_package, graph_of, id};
+use crate::sets::ask_set;
+use guppy::{CycleIds, PackageGraph};
 use guppy_core::{
     CountedGraph, DependencyDirection, Graph, GraphSpec, Link, PackageIx, Sccs, TopoWithCycles,
 };
-use guppy_data::{Error, LinkRecord, PackageId};
+use guppy_data::{Error, PackageId};
 use std::alloc::{AllocError, Global};
 use std::process::Abort;
 use std::test::Fail;
 
-// A link that is for development alone.
-fn dev_link(alloc: Global, from: &str, to: &str) -> Result<LinkRecord, AllocError> {
-    let mut link = link(alloc, from, to)?;
-    link.normal = absent(alloc);
-    link.dev = present(alloc);
-    Ok(link)
-}
-
-fn mixed_link(
-    alloc: Global,
-    from: &str,
-    to: &str,
-    is_dev_only: bool,
-) -> Result<LinkRecord, AllocError> {
-    if is_dev_only {
-        dev_link(alloc, from, to)
-    } else {
-        link(alloc, from, to)
+// The cycle behind a comma, if it isn't the first.
+fn put_cycle(cycle: CycleIds<'_>, out: &mut String) -> Result<(), AllocError> {
+    if !out.is_empty() {
+        out.push_str(",")?;
     }
-}
-
-fn mixed_links(alloc: Global, ends: &[(&str, &str, bool)]) -> Result<Vec<LinkRecord>, AllocError> {
-    ends.iter()
-        .map(|(from, to, is_dev_only)| mixed_link(alloc, from, to, *is_dev_only))
-        .try_collect(alloc)
-}
-
-// The graph of these packages and links; a link with `true` is for development alone.
-fn mixed(
-    alloc: Global,
-    names: &[&str],
-    ends: &[(&str, &str, bool)],
-) -> Result<PackageGraph, Error> {
-    let packages = packages(alloc, names)?;
-    let links = mixed_links(alloc, ends)?;
-    PackageGraph::from_records(packages, links, workspace(alloc))
-}
-
-fn push_parted(text: &mut String, part: &str, between: &str) -> Result<(), AllocError> {
-    if !text.is_empty() {
-        text.push_str(between)?;
-    }
-    text.push_str(part)
-}
-
-pub(super) fn listed(
-    alloc: Global,
-    set: &PackageSet<'_>,
-    direction: DependencyDirection,
-) -> Result<String, AllocError> {
-    let mut text = String::new(alloc);
-    for id in set.package_ids(direction) {
-        push_parted(&mut text, id.repr(), " ")?;
-    }
-    Ok(text)
-}
-
-fn push_cycle(text: &mut String, alloc: Global, cycle: CycleIds<'_>) -> Result<(), AllocError> {
-    let mut line = String::new(alloc);
     for id in cycle {
-        push_parted(&mut line, id.repr(), " ")?;
+        put(out, id.repr())?;
     }
-    push_parted(text, line.as_str(), ", ")
+    Ok(())
 }
 
-fn cycles(graph: &PackageGraph) -> Result<String, AllocError> {
-    let mut text = String::new(graph.alloc());
+fn put_cycles(graph: &PackageGraph, out: &mut String) -> Result<(), Error> {
     for cycle in graph.cycles().all_cycles() {
-        push_cycle(&mut text, graph.alloc(), cycle)?;
+        put_cycle(cycle, out)?;
     }
-    Ok(text)
+    Ok(())
 }
 
-fn cycles_from_back(graph: &PackageGraph) -> Result<String, AllocError> {
-    let mut text = String::new(graph.alloc());
+fn put_cycles_from_back(graph: &PackageGraph, out: &mut String) -> Result<(), Error> {
     for cycle in graph.cycles().all_cycles().rev() {
-        push_cycle(&mut text, graph.alloc(), cycle)?;
+        put_cycle(cycle, out)?;
     }
-    Ok(text)
-}
-
-#[derive(Clone, Copy)]
-struct Wanted<'a> {
-    forward: &'a str,
-    reverse: &'a str,
-    cycles: &'a str,
-    cycles_from_back: &'a str,
-    most_looks: u64,
-}
-
-fn assert_ordered(rt: &impl Abort, graph: &PackageGraph, wanted: Wanted<'_>) -> Result<(), Fail> {
-    let alloc = graph.alloc();
-    let all = graph.resolve_all()?;
-    assert_eq!(rt;
-        listed(alloc, &all, DependencyDirection::Forward)?.as_str(),
-        wanted.forward
-    );
-    assert_eq!(rt;
-        listed(alloc, &all, DependencyDirection::Reverse)?.as_str(),
-        wanted.reverse
-    );
-    assert_eq!(rt; cycles(graph)?.as_str(), wanted.cycles);
-    assert_eq!(rt; cycles_from_back(graph)?.as_str(), wanted.cycles_from_back);
-    assert!(rt; graph.order_looks() <= wanted.most_looks);
     Ok(())
 }
 
-fn empty_graph_holds(rt: &impl Abort, graph: &PackageGraph) -> Result<(), Fail> {
-    let nothing = Wanted {
-        forward: "",
-        reverse: "",
-        cycles: "",
-        cycles_from_back: "",
-        most_looks: 0,
-    };
-    assert_ordered(rt, graph, nothing)?;
-    assert_eq!(rt; (graph.package_count(), graph.link_count()), (0, 0));
-    assert_eq!(rt; (graph.package_ids().len(), graph.packages().len()), (0, 0));
-    assert_eq!(rt; graph.workspace().member_count(), 0);
+fn put_cycle_lengths(graph: &PackageGraph, out: &mut String) -> Result<(), Error> {
+    for cycle in graph.cycles().all_cycles() {
+        put_number(out, cycle.len())?;
+    }
     Ok(())
 }
 
-#[test]
-fn empty_graph(rt: HostRuntime) -> Result<(), Fail> {
-    let graph = graph(rt.alloc(), &[], &[])?;
-    empty_graph_holds(&rt, &graph)
-}
-
-fn are_cyclic(graph: &PackageGraph, a: &str, b: &str) -> Result<bool, Error> {
+fn put_cyclic(graph: &PackageGraph, a: &str, b: &str, out: &mut String) -> Result<(), Error> {
     let a = id(graph.alloc(), a)?;
     let b = id(graph.alloc(), b)?;
-    graph.cycles().is_cyclic(&a, &b)
-}
-
-fn self_links_holds(rt: &impl Abort, graph: &PackageGraph) -> Result<(), Fail> {
-    assert!(rt; are_cyclic(graph, "a", "a")?);
-    assert!(rt; !are_cyclic(graph, "a", "b")?);
-    let wanted = Wanted {
-        forward: "a b",
-        reverse: "b a",
-        cycles: "a, b",
-        cycles_from_back: "b, a",
-        most_looks: 12,
-    };
-    assert_ordered(rt, graph, wanted)
-}
-
-#[test]
-fn self_links(rt: HostRuntime) -> Result<(), Fail> {
-    let graph = graph(
-        rt.alloc(),
-        &["a", "b"],
-        &[("a", "a"), ("a", "b"), ("b", "b")],
-    )?;
-    self_links_holds(&rt, &graph)
-}
-
-fn unreached_last_holds(rt: &impl Abort, graph: &PackageGraph) -> Result<(), Fail> {
-    let all = graph.resolve_all()?;
-    let forward = listed(graph.alloc(), &all, DependencyDirection::Forward)?;
-    assert!(rt; forward.as_str() == "a b c" || forward.as_str() == "c a b");
-    assert_eq!(rt; cycles(graph)?.as_str(), "a b");
-    assert!(rt; graph.order_looks() <= 8);
+    put_truth(out, graph.cycles().is_cyclic(&a, &b)?)?;
     Ok(())
 }
 
-#[test]
-fn unreached_last(rt: HostRuntime) -> Result<(), Fail> {
-    let graph = graph(rt.alloc(), &["a", "b", "c"], &[("a", "b"), ("b", "a")])?;
-    unreached_last_holds(&rt, &graph)
-}
-
-fn four_with_dev_backs_holds(rt: &impl Abort, graph: &PackageGraph) -> Result<(), Fail> {
-    let alloc = graph.alloc();
-    let wanted = Wanted {
-        forward: "a b c d",
-        reverse: "d c b a",
-        cycles: "a b, c d",
-        cycles_from_back: "c d, a b",
-        most_looks: 20,
-    };
-    assert_ordered(rt, graph, wanted)?;
-    let some = graph.resolve_ids(ids(alloc, &["d", "a", "b"])?.iter())?;
-    assert_eq!(rt;
-        listed(alloc, &some, DependencyDirection::Forward)?.as_str(),
-        "a b d"
-    );
-    assert_eq!(rt; some.packages(DependencyDirection::Reverse).len(), 3);
-    for cycle in graph.cycles().all_cycles() {
-        assert_eq!(rt; cycle.len(), 2);
+// Whether there were at most so many looks.
+fn put_looks(graph: &PackageGraph, most: &str, out: &mut String) -> Result<(), Error> {
+    match most.parse::<u64>() {
+        Ok(most) => put_truth(out, graph.order_looks() <= most)?,
+        Err(_) => put(out, "no number")?,
     }
     Ok(())
 }
 
-// a to b, b to c and c to d, with dev-dependencies back from b and d.
-pub(super) fn with_dev_backs(alloc: Global) -> Result<PackageGraph, Error> {
-    let ends = [
-        ("a", "b", false),
-        ("b", "a", true),
-        ("b", "c", false),
-        ("c", "d", false),
-        ("d", "c", true),
-    ];
-    mixed(alloc, &["d", "c", "b", "a"], &ends)
-}
-
-#[test]
-fn four_with_dev_backs(rt: HostRuntime) -> Result<(), Fail> {
-    let graph = with_dev_backs(rt.alloc())?;
-    four_with_dev_backs_holds(&rt, &graph)
-}
-
-fn dev_between_components_holds(rt: &impl Abort, graph: &PackageGraph) -> Result<(), Fail> {
-    let wanted = Wanted {
-        forward: "a0 a1 b0 b1",
-        reverse: "b1 b0 a1 a0",
-        cycles: "a0 a1, b0 b1",
-        cycles_from_back: "b0 b1, a0 a1",
-        most_looks: 20,
-    };
-    assert_ordered(rt, graph, wanted)
-}
-
-#[test]
-fn dev_between_components(rt: HostRuntime) -> Result<(), Fail> {
-    let ends = [
-        ("a0", "a1", false),
-        ("a1", "a0", false),
-        ("b0", "b1", false),
-        ("b1", "b0", false),
-        ("a1", "b0", true),
-    ];
-    let graph = mixed(rt.alloc(), &["b0", "b1", "a0", "a1"], &ends)?;
-    dev_between_components_holds(&rt, &graph)
-}
-
-fn dev_link_orders_holds(rt: &impl Abort, graph: &PackageGraph) -> Result<(), Fail> {
-    let wanted = Wanted {
-        forward: "x y",
-        reverse: "y x",
-        cycles: "",
-        cycles_from_back: "",
-        most_looks: 4,
-    };
-    assert_ordered(rt, graph, wanted)
-}
-
-#[test]
-fn dev_link_orders(rt: HostRuntime) -> Result<(), Fail> {
-    let graph = mixed(rt.alloc(), &["y", "x"], &[("x", "y", true)])?;
-    dev_link_orders_holds(&rt, &graph)
-}
-
-fn no_cycle_holds(rt: &impl Abort, graph: &PackageGraph) -> Result<(), Fail> {
-    let alloc = graph.alloc();
-    assert_eq!(rt; cycles(graph)?.as_str(), "");
-    assert_error(
-        rt,
-        alloc,
-        are_cyclic(graph, "z", "a"),
-        "unknown package ID: z",
-    )?;
+// How many the walks over IDs and packages have, and how many members there are.
+fn put_lengths(graph: &PackageGraph, out: &mut String) -> Result<(), Error> {
+    put_number(out, graph.package_ids().len())?;
+    put_number(out, graph.packages().len())?;
+    put_number(out, graph.workspace().member_count())?;
     Ok(())
 }
 
+struct OfLists;
+
+impl Questions for OfLists {
+    fn answer(&self, graph: &PackageGraph, words: &[&str], out: &mut String) -> Result<(), Error> {
+        match words {
+            ["cycles"] => put_cycles(graph, out),
+            ["cycles", "from-back"] => put_cycles_from_back(graph, out),
+            ["cycles", "lengths"] => put_cycle_lengths(graph, out),
+            ["cyclic", a, b] => put_cyclic(graph, a, b, out),
+            ["looks", most] => put_looks(graph, most, out),
+            ["lengths"] => put_lengths(graph, out),
+            _ => ask_set(graph, words, out),
+        }
+    }
+}
+
+const LISTS: &str = "
+empty_graph | :
+    list forward of all = nothing
+    list reverse of all = nothing
+    cycles = nothing
+    cycles from-back = nothing
+    looks 0 = yes
+    lengths = 0 0 0
+
+self_links | a b: a>a a>b b>b
+    cyclic a a = yes
+    cyclic a b = no
+    list forward of all = a b
+    list reverse of all = b a
+    cycles = a, b
+    cycles from-back = b, a
+    looks 12 = yes
+
+unreached_last | a b c: a>b b>a
+    list forward of all = a b c or c a b
+    cycles = a b
+    looks 8 = yes
+
+four_with_dev_backs | d c b a: a>b b~a b>c c>d d~c
+    list forward of all = a b c d
+    list reverse of all = d c b a
+    cycles = a b, c d
+    cycles from-back = c d, a b
+    cycles lengths = 2 2
+    looks 20 = yes
+
+dev_between_components | b0 b1 a0 a1: a0>a1 a1>a0 b0>b1 b1>b0 a1~b0
+    list forward of all = a0 a1 b0 b1
+    list reverse of all = b1 b0 a1 a0
+    cycles = a0 a1, b0 b1
+    cycles from-back = b0 b1, a0 a1
+    looks 20 = yes
+
+dev_link_orders | y x: x~y
+    list forward of all = x y
+    list reverse of all = y x
+    cycles = nothing
+    cycles from-back = nothing
+    looks 4 = yes
+
+no_cycle | a b c d: a>b
+    cycles = nothing
+    cyclic z a = unknown package ID: z
+";
+
 #[test]
-fn no_cycle(rt: HostRuntime) -> Result<(), Fail> {
-    let graph = graph(rt.alloc(), &LETTERS, &[("a", "b")])?;
-    no_cycle_holds(&rt, &graph)
+fn lists(rt: HostRuntime) -> Result<(), Fail> {
+    assert_examples(&rt, rt.alloc(), &OfLists, LISTS)
 }
 
 fn numbered_name(alloc: Global, position: usize) -> Result<String, AllocError> {
     format!(in alloc; "p{position}")
 }
 
-fn numbered_names(alloc: Global, count: usize) -> Result<Vec<String>, AllocError> {
-    (0..count)
-        .map(|position| numbered_name(alloc, position))
-        .try_collect(alloc)
+fn add_numbered(records: &mut Records, alloc: Global, position: usize) -> Result<(), AllocError> {
+    let name = numbered_name(alloc, position)?;
+    add_package(&mut records.packages, alloc, name.as_str(), name.as_str())
 }
 
-// The ends by their names.
-fn named_ends<'a>(
+fn add_ends(
+    records: &mut Records,
     alloc: Global,
-    names: &[&'a str],
-    ends: &[(usize, usize, bool)],
-) -> Result<Vec<(&'a str, &'a str, bool)>, AllocError> {
-    let mut named = Vec::new(alloc);
-    for (from, to, is_dev_only) in ends {
-        if let (Some(from), Some(to)) = (names.get(*from), names.get(*to)) {
-            named.push((*from, *to, *is_dev_only))?;
-        }
-    }
-    Ok(named)
+    from: usize,
+    to: usize,
+    is_dev_only: bool,
+) -> Result<(), AllocError> {
+    let from = numbered_name(alloc, from)?;
+    let to = numbered_name(alloc, to)?;
+    let sections = if is_dev_only {
+        Sections::DEV
+    } else {
+        Sections::NORMAL
+    };
+    add_link(
+        &mut records.links,
+        alloc,
+        from.as_str(),
+        to.as_str(),
+        sections,
+    )
 }
 
-// The graph of p0, p1 and so on with links between these positions.
+fn add_all_numbered(
+    records: &mut Records,
+    alloc: Global,
+    count: usize,
+    ends: &[(usize, usize, bool)],
+) -> Result<(), AllocError> {
+    for position in 0..count {
+        add_numbered(records, alloc, position)?;
+    }
+    for (from, to, is_dev_only) in ends {
+        add_ends(records, alloc, *from, *to, *is_dev_only)?;
+    }
+    Ok(())
+}
+
+// p0, p1 and so on with links between these positions.
+fn numbered_records(
+    alloc: Global,
+    count: usize,
+    ends: &[(usize, usize, bool)],
+) -> Result<Records, AllocError> {
+    let mut records = Records::new(alloc);
+    add_all_numbered(&mut records, alloc, count, ends)?;
+    Ok(records)
+}
+
 fn numbered(
     alloc: Global,
     count: usize,
     ends: &[(usize, usize, bool)],
 ) -> Result<PackageGraph, Error> {
-    let names = numbered_names(alloc, count)?;
-    let names: Vec<&str> = names.iter().map(|name| name.as_str()).collect(alloc)?;
-    let ends = named_ends(alloc, &names, ends)?;
-    mixed(alloc, &names, &ends)
+    graph_of(numbered_records(alloc, count, ends)?)
 }
 
 // The links of a chain, in its order.
@@ -327,6 +212,13 @@ fn chain(alloc: Global, count: usize) -> Result<Vec<(usize, usize, bool)>, Alloc
     for to in 1..count {
         ends.push((to - 1, to, false))?;
     }
+    Ok(ends)
+}
+
+// The links of a chain, and one from its end to its start.
+fn ring(alloc: Global, count: usize) -> Result<Vec<(usize, usize, bool)>, AllocError> {
+    let mut ends = chain(alloc, count)?;
+    ends.push((count.saturating_sub(1), 0, false))?;
     Ok(ends)
 }
 
@@ -390,8 +282,7 @@ fn assert_one_cycle(
 
 #[test]
 fn ring_1000(rt: HostRuntime) -> Result<(), Fail> {
-    let mut ends = chain(rt.alloc(), 1000)?;
-    ends.push((999, 0, false))?;
+    let ends = ring(rt.alloc(), 1000)?;
     let graph = numbered(rt.alloc(), 1000, ends.as_slice())?;
     assert_one_cycle(&rt, &graph, 1000, 4000)
 }
@@ -406,8 +297,7 @@ fn chain_200000(rt: HostRuntime) -> Result<(), Fail> {
 
 #[test]
 fn ring_200000(rt: HostRuntime) -> Result<(), Fail> {
-    let mut ends = chain(rt.alloc(), 200_000)?;
-    ends.push((199_999, 0, false))?;
+    let ends = ring(rt.alloc(), 200_000)?;
     let graph = numbered(rt.alloc(), 200_000, ends.as_slice())?;
     assert_one_cycle(&rt, &graph, 200_000, 800_000)
 }
@@ -488,26 +378,4 @@ fn complete_300(rt: HostRuntime) -> Result<(), Fail> {
     let ends = complete(rt.alloc(), 300)?;
     let graph = numbered(rt.alloc(), 300, ends.as_slice())?;
     complete_300_holds(&rt, &graph, ends.as_slice())
-}
-
-fn asked(cache: &mut DependsCache<'_>, alloc: Global, a: &str, b: &str) -> Result<bool, Error> {
-    let a = id(alloc, a)?;
-    let b = id(alloc, b)?;
-    cache.depends_on(&a, &b)
-}
-
-fn cache_forgets_holds(rt: &impl Abort, graph: &PackageGraph) -> Result<(), Fail> {
-    let alloc = graph.alloc();
-    let mut cache = graph.new_depends_cache()?;
-    assert!(rt; asked(&mut cache, alloc, "a", "c")?);
-    assert!(rt; !asked(&mut cache, alloc, "c", "a")?);
-    assert!(rt; asked(&mut cache, alloc, "a", "a")?);
-    Ok(())
-}
-
-#[test]
-fn cache_forgets(rt: HostRuntime) -> Result<(), Fail> {
-    let alloc = rt.alloc();
-    let graph = graph(alloc, &LETTERS, &[("a", "b"), ("b", "c")])?;
-    cache_forgets_holds(&rt, &graph)
 }

@@ -1,38 +1,17 @@
 //! Resolves with visitors.
-use crate::records::{LETTERS, assert_error, graph, graph_of, id, ids, package, packages, text};
+//!
+//! A resolve is written as its visitor, a direction, and where it starts. The answer is the set's letters
+//! and how many they are, and then each link that was shown, with `+` where it was accepted and `-` where
+//! it was refused.
+use crate::examples::{Questions, assert_examples, put, put_number};
+use crate::records::ids;
+use crate::sets::{ask_set, direction_of, put_letters};
 use crate::visitors::RefusesOnce;
 use guppy::{
     PackageGraph, PackageLink, PackageLinkContext, PackageLinkVisitor, PackageQuery, PackageSet,
 };
-use guppy_core::DependencyDirection;
 use guppy_data::Error;
-use std::alloc::Global;
-use std::process::Abort;
 use std::test::Fail;
-
-fn query<'g>(
-    graph: &'g PackageGraph,
-    starts: &[&str],
-    direction: DependencyDirection,
-) -> Result<PackageQuery<'g>, Error> {
-    let starts = ids(graph.alloc(), starts)?;
-    graph.query_directed(starts.iter(), direction)
-}
-
-fn forward<'g>(graph: &'g PackageGraph, start: &str) -> Result<PackageQuery<'g>, Error> {
-    query(graph, &[start], DependencyDirection::Forward)
-}
-
-// The letters whose packages are in the set.
-fn letters(alloc: Global, set: &PackageSet<'_>) -> Result<String, Error> {
-    let mut letters = String::new(alloc);
-    for letter in LETTERS {
-        if set.contains(&id(alloc, letter)?)? {
-            letters.push_str(letter)?;
-        }
-    }
-    Ok(letters)
-}
 
 // Accepts its first calls, so many.
 #[derive(Drop)]
@@ -50,73 +29,6 @@ impl PackageLinkVisitor for First {
     }
 }
 
-fn second_link_refused_holds(rt: &impl Abort, graph: &PackageGraph) -> Result<(), Fail> {
-    let (set, recorder) = forward(graph, "a")?.resolve_recorded(First(1))?;
-    assert_eq!(rt; letters(graph.alloc(), &set)?.as_str(), "ab");
-    assert_eq!(rt;
-        recorder.entries.as_slice(),
-        [(0, true), (1, false)].as_slice()
-    );
-    Ok(())
-}
-
-#[test]
-fn second_link_refused(rt: HostRuntime) -> Result<(), Fail> {
-    let graph = graph(rt.alloc(), &LETTERS, &[("a", "b"), ("b", "c")])?;
-    second_link_refused_holds(&rt, &graph)
-}
-
-fn self_link_shown_holds(rt: &impl Abort, graph: &PackageGraph) -> Result<(), Fail> {
-    let (set, recorder) = forward(graph, "a")?.resolve_recorded(First(0))?;
-    assert_eq!(rt; letters(graph.alloc(), &set)?.as_str(), "a");
-    assert_eq!(rt; recorder.entries.as_slice(), [(0, false)].as_slice());
-    Ok(())
-}
-
-#[test]
-fn self_link_shown(rt: HostRuntime) -> Result<(), Fail> {
-    let graph = graph(rt.alloc(), &LETTERS, &[("a", "a")])?;
-    self_link_shown_holds(&rt, &graph)
-}
-
-fn reverse_recorder_holds(rt: &impl Abort, graph: &PackageGraph) -> Result<(), Fail> {
-    let query = query(graph, &["c"], DependencyDirection::Reverse)?;
-    let (set, recorder) = query.resolve_recorded(First(9))?;
-    assert_eq!(rt; letters(graph.alloc(), &set)?.as_str(), "abc");
-    assert_eq!(rt;
-        recorder.entries.as_slice(),
-        [(1, true), (0, true)].as_slice()
-    );
-    Ok(())
-}
-
-#[test]
-fn reverse_recorder(rt: HostRuntime) -> Result<(), Fail> {
-    let graph = graph(rt.alloc(), &LETTERS, &[("a", "b"), ("b", "c")])?;
-    reverse_recorder_holds(&rt, &graph)
-}
-
-fn diamond_with_refusal_holds(rt: &impl Abort, graph: &PackageGraph) -> Result<(), Fail> {
-    let (set, recorder) = forward(graph, "a")?.resolve_recorded(RefusesOnce {
-        has_refused: false,
-    })?;
-    assert_eq!(rt; set.len(), 4);
-    let mut numbers = Vec::new(graph.alloc());
-    for (number, _) in recorder.entries.iter() {
-        numbers.push(*number)?;
-    }
-    numbers.sort_unstable();
-    assert_eq!(rt; numbers.as_slice(), [0, 1, 2, 3].as_slice());
-    Ok(())
-}
-
-#[test]
-fn diamond_with_refusal(rt: HostRuntime) -> Result<(), Fail> {
-    let links = [("a", "b"), ("a", "c"), ("b", "d"), ("c", "d")];
-    let graph = graph(rt.alloc(), &LETTERS, &links)?;
-    diamond_with_refusal_holds(&rt, &graph)
-}
-
 // Accepts its odd calls, and counts them all.
 #[derive(Drop)]
 struct Odd {
@@ -132,81 +44,6 @@ impl PackageLinkVisitor for Odd {
     }
 }
 
-fn chain(alloc: Global) -> Result<PackageGraph, Error> {
-    graph(alloc, &LETTERS, &[("a", "b"), ("b", "c"), ("c", "d")])
-}
-
-fn counting_visitor_holds(rt: &impl Abort, graph: &PackageGraph) -> Result<(), Fail> {
-    let mut counter = Odd { calls: 0 };
-    let set = forward(graph, "a")?.resolve_with(&mut counter)?;
-    assert_eq!(rt; (set.len(), counter.calls), (2, 2));
-    let set = forward(graph, "a")?.resolve_with(Odd { calls: 0 })?;
-    assert_eq!(rt; set.len(), 2);
-    Ok(())
-}
-
-#[test]
-fn counting_visitor(rt: HostRuntime) -> Result<(), Fail> {
-    let graph = chain(rt.alloc())?;
-    counting_visitor_holds(&rt, &graph)
-}
-
-fn counting_visitor_behind_dyn_holds(rt: &impl Abort, graph: &PackageGraph) -> Result<(), Fail> {
-    let mut counter = Odd { calls: 0 };
-    let visitor: &mut dyn PackageLinkVisitor = &mut counter;
-    let set = forward(graph, "a")?.resolve_with(visitor)?;
-    assert_eq!(rt; (set.len(), counter.calls), (2, 2));
-    Ok(())
-}
-
-#[test]
-fn counting_visitor_behind_dyn(rt: HostRuntime) -> Result<(), Fail> {
-    let graph = chain(rt.alloc())?;
-    counting_visitor_behind_dyn_holds(&rt, &graph)
-}
-
-fn counting_visitor_in_a_box_holds(rt: &impl Abort, graph: &PackageGraph) -> Result<(), Fail> {
-    let visitor: Box<dyn PackageLinkVisitor + Drop> = Box::new(graph.alloc(), Odd { calls: 0 })?;
-    let set = forward(graph, "a")?.resolve_with(visitor)?;
-    assert_eq!(rt; set.len(), 2);
-    Ok(())
-}
-
-#[test]
-fn counting_visitor_in_a_box(rt: HostRuntime) -> Result<(), Fail> {
-    let graph = chain(rt.alloc())?;
-    counting_visitor_in_a_box_holds(&rt, &graph)
-}
-
-fn counting_closure_holds(rt: &impl Abort, graph: &PackageGraph) -> Result<(), Fail> {
-    let mut calls = 0_usize;
-    let set = forward(graph, "a")?.resolve_with_fn(|_cx, _link| {
-        calls = calls.wrapping_add(1);
-        calls % 2 == 1
-    })?;
-    assert_eq!(rt; (letters(graph.alloc(), &set)?.as_str(), calls), ("ab", 2));
-    Ok(())
-}
-
-#[test]
-fn counting_closure(rt: HostRuntime) -> Result<(), Fail> {
-    let graph = chain(rt.alloc())?;
-    counting_closure_holds(&rt, &graph)
-}
-
-fn empty_start_holds(rt: &impl Abort, graph: &PackageGraph) -> Result<(), Fail> {
-    let query = query(graph, &[], DependencyDirection::Forward)?;
-    let (set, recorder) = query.resolve_recorded(First(9))?;
-    assert_eq!(rt; (set.len(), recorder.entries.len()), (0, 0));
-    Ok(())
-}
-
-#[test]
-fn empty_start(rt: HostRuntime) -> Result<(), Fail> {
-    let graph = chain(rt.alloc())?;
-    empty_start_holds(&rt, &graph)
-}
-
 // Accepts links that start from an initial package.
 #[derive(Drop)]
 struct FromInitials;
@@ -219,56 +56,214 @@ impl PackageLinkVisitor for FromInitials {
     }
 }
 
-fn two_initial_starts_holds(rt: &impl Abort, graph: &PackageGraph) -> Result<(), Fail> {
-    let set = query(graph, &["b"], DependencyDirection::Reverse)?.resolve_with(FromInitials)?;
-    assert_eq!(rt; letters(graph.alloc(), &set)?.as_str(), "abc");
+fn put_entry(number: usize, is_accepted: bool, out: &mut String) -> Result<(), Error> {
+    put_number(out, number)?;
+    out.push_str(if is_accepted { "+" } else { "-" })?;
     Ok(())
 }
 
-#[test]
-fn two_initial_starts(rt: HostRuntime) -> Result<(), Fail> {
-    let graph = graph(rt.alloc(), &LETTERS, &[("a", "b"), ("c", "b"), ("d", "c")])?;
-    two_initial_starts_holds(&rt, &graph)
-}
-
-#[test]
-fn package_name(rt: HostRuntime) -> Result<(), Fail> {
-    let alloc = rt.alloc();
-    let mut packages = packages(alloc, &["n", "k"])?;
-    let name = text(alloc, "n")?;
-    let mut another = package(alloc, "m")?;
-    another.name = name;
-    packages.push(another)?;
-    let graph = graph_of(alloc, packages)?;
-    assert_eq!(rt; graph.resolve_package_name("n")?.len(), 2);
-    assert_eq!(rt; graph.resolve_package_name("m")?.len(), 0);
+fn put_recorded(
+    graph: &PackageGraph,
+    set: &PackageSet<'_>,
+    entries: &[(usize, bool)],
+    out: &mut String,
+) -> Result<(), Error> {
+    put_letters(graph, set, out)?;
+    for (number, is_accepted) in entries {
+        put_entry(*number, *is_accepted, out)?;
+    }
     Ok(())
 }
 
-fn first_unknown_name_holds(rt: &impl Abort, graph: &PackageGraph) -> Result<(), Fail> {
-    let alloc = graph.alloc();
-    let unknown = query(graph, &["a", "z", "y"], DependencyDirection::Reverse);
-    assert_error(rt, alloc, unknown, "unknown package ID: z")?;
+fn ask_first(
+    graph: &PackageGraph,
+    query: PackageQuery<'_>,
+    accepted: usize,
+    out: &mut String,
+) -> Result<(), Error> {
+    let (set, recorder) = query.resolve_recorded(First(accepted))?;
+    put_recorded(graph, &set, recorder.entries.as_slice(), out)
+}
+
+// The set, and the numbers of the links in their order, whichever was shown first.
+fn put_numbers(
+    graph: &PackageGraph,
+    set: &PackageSet<'_>,
+    entries: &mut [(usize, bool)],
+    out: &mut String,
+) -> Result<(), Error> {
+    put_letters(graph, set, out)?;
+    entries.sort_unstable();
+    for (number, _) in entries {
+        put_number(out, *number)?;
+    }
     Ok(())
 }
 
-#[test]
-fn first_unknown_name(rt: HostRuntime) -> Result<(), Fail> {
-    let alloc = rt.alloc();
-    let graph = chain(alloc)?;
-    first_unknown_name_holds(&rt, &graph)
+fn ask_refuses_once(
+    graph: &PackageGraph,
+    query: PackageQuery<'_>,
+    out: &mut String,
+) -> Result<(), Error> {
+    let visitor = RefusesOnce { has_refused: false };
+    let (set, mut recorder) = query.resolve_recorded(visitor)?;
+    put_numbers(graph, &set, recorder.entries.as_mut_slice(), out)
 }
 
-fn sets_of_a_graph_holds(rt: &impl Abort, graph: &PackageGraph) -> Result<(), Fail> {
-    let all = graph.resolve_all()?;
-    assert_eq!(rt; (all.len(), graph.resolve_none()?.len()), (4, 0));
-    let again = all.clone()?.to_package_query(DependencyDirection::Forward)?;
-    assert_eq!(rt; again.clone()?.resolve()?.len(), 4);
+fn put_counted(
+    graph: &PackageGraph,
+    set: &PackageSet<'_>,
+    calls: usize,
+    out: &mut String,
+) -> Result<(), Error> {
+    put_letters(graph, set, out)?;
+    put_number(out, calls)?;
     Ok(())
 }
 
+fn ask_odd_lent(
+    graph: &PackageGraph,
+    query: PackageQuery<'_>,
+    out: &mut String,
+) -> Result<(), Error> {
+    let mut counter = Odd { calls: 0 };
+    let set = query.resolve_with(&mut counter)?;
+    put_counted(graph, &set, counter.calls, out)
+}
+
+fn ask_odd_moved(
+    graph: &PackageGraph,
+    query: PackageQuery<'_>,
+    out: &mut String,
+) -> Result<(), Error> {
+    let set = query.resolve_with(Odd { calls: 0 })?;
+    put_letters(graph, &set, out)
+}
+
+fn ask_odd_behind_dyn(
+    graph: &PackageGraph,
+    query: PackageQuery<'_>,
+    out: &mut String,
+) -> Result<(), Error> {
+    let mut counter = Odd { calls: 0 };
+    let visitor: &mut dyn PackageLinkVisitor = &mut counter;
+    let set = query.resolve_with(visitor)?;
+    put_counted(graph, &set, counter.calls, out)
+}
+
+fn ask_odd_in_a_box(
+    graph: &PackageGraph,
+    query: PackageQuery<'_>,
+    out: &mut String,
+) -> Result<(), Error> {
+    let visitor: Box<dyn PackageLinkVisitor + Drop> = Box::new(graph.alloc(), Odd { calls: 0 })?;
+    let set = query.resolve_with(visitor)?;
+    put_letters(graph, &set, out)
+}
+
+fn ask_odd_closure(
+    graph: &PackageGraph,
+    query: PackageQuery<'_>,
+    out: &mut String,
+) -> Result<(), Error> {
+    let mut calls = 0_usize;
+    let set = query.resolve_with_fn(|_cx, _link| {
+        calls = calls.wrapping_add(1);
+        calls % 2 == 1
+    })?;
+    put_counted(graph, &set, calls, out)
+}
+
+fn ask_from_initials(
+    graph: &PackageGraph,
+    query: PackageQuery<'_>,
+    out: &mut String,
+) -> Result<(), Error> {
+    let set = query.resolve_with(FromInitials)?;
+    put_letters(graph, &set, out)
+}
+
+fn query<'g>(
+    graph: &'g PackageGraph,
+    direction: &str,
+    starts: &[&str],
+) -> Result<PackageQuery<'g>, Error> {
+    let starts = ids(graph.alloc(), starts)?;
+    graph.query_directed(starts.iter(), direction_of(direction))
+}
+
+fn ask_query(
+    graph: &PackageGraph,
+    visitor: &str,
+    query: PackageQuery<'_>,
+    out: &mut String,
+) -> Result<(), Error> {
+    match visitor {
+        "none" => ask_first(graph, query, 0, out),
+        "first" => ask_first(graph, query, 1, out),
+        "all" => ask_first(graph, query, 9, out),
+        "refuses-once" => ask_refuses_once(graph, query, out),
+        "odd-lent" => ask_odd_lent(graph, query, out),
+        "odd-moved" => ask_odd_moved(graph, query, out),
+        "odd-behind-dyn" => ask_odd_behind_dyn(graph, query, out),
+        "odd-in-a-box" => ask_odd_in_a_box(graph, query, out),
+        "odd-closure" => ask_odd_closure(graph, query, out),
+        "from-initials" => ask_from_initials(graph, query, out),
+        _ => Ok(put(out, "unknown visitor")?),
+    }
+}
+
+struct OfQueries;
+
+impl Questions for OfQueries {
+    fn answer(&self, graph: &PackageGraph, words: &[&str], out: &mut String) -> Result<(), Error> {
+        match words {
+            [visitor, direction, starts @ ..] => {
+                let query = query(graph, direction, starts)?;
+                ask_query(graph, visitor, query, out)
+            }
+            _ => ask_set(graph, words, out),
+        }
+    }
+}
+
+const QUERIES: &str = "
+second_link_refused | a b c d: a>b b>c
+    first forward a = ab 2 0+ 1-
+
+self_link_shown | a b c d: a>a
+    none forward a = a 1 0-
+
+reverse_recorder | a b c d: a>b b>c
+    all reverse c = abc 3 1+ 0+
+
+diamond_with_refusal | a b c d: a>b a>c b>d c>d
+    refuses-once forward a = abcd 4 0 1 2 3
+
+counting_visitor | a b c d: a>b b>c c>d
+    odd-lent forward a = ab 2 2
+    odd-moved forward a = ab 2
+
+counting_visitor_behind_dyn | a b c d: a>b b>c c>d
+    odd-behind-dyn forward a = ab 2 2
+
+counting_visitor_in_a_box | a b c d: a>b b>c c>d
+    odd-in-a-box forward a = ab 2
+
+counting_closure | a b c d: a>b b>c c>d
+    odd-closure forward a = ab 2 2
+
+empty_start | a b c d: a>b b>c c>d
+    all forward = 0 empty
+
+two_initial_starts | a b c d: a>b c>b d>c
+    from-initials reverse b = abc 3
+
+first_unknown_name | a b c d: a>b b>c c>d
+    all reverse a z y = unknown package ID: z
+";
+
 #[test]
-fn sets_of_a_graph(rt: HostRuntime) -> Result<(), Fail> {
-    let graph = chain(rt.alloc())?;
-    sets_of_a_graph_holds(&rt, &graph)
+fn queries(rt: HostRuntime) -> Result<(), Fail> {
+    assert_examples(&rt, rt.alloc(), &OfQueries, QUERIES)
 }

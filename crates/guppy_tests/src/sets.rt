@@ -1,221 +1,191 @@
-//! Sets made of sets, equal sets, and roots.
-use crate::lists::{listed, with_dev_backs};
-use crate::records::{graph, id, ids};
+//! Sets: their members, lists, roots and walked links, sets made of sets, and equal sets.
+//!
+//! A set is written as its IDs, or as `all`, `none`, `forward` with where a resolve starts, `name` with the
+//! name of packages, or `query`, a resolve of all of them. What is asked of it stands before an `of`: its
+//! letters and how many they are, where nothing does.
+use crate::examples::{Questions, assert_examples, put, put_number, put_truth};
+use crate::records::{graph_of, id, ids, records_of};
+use guppy::set::laws::resolved_sets_are_whole;
 use guppy::{PackageGraph, PackageMetadata, PackageSet};
 use guppy_core::{DependencyDirection, IndexType};
 use guppy_data::Error;
-use std::alloc::Global;
 use std::process::Abort;
 use std::test::Fail;
 
+const LETTERS: [&str; 4] = ["a", "b", "c", "d"];
+
+pub(super) fn direction_of(word: &str) -> DependencyDirection {
+    if word == "reverse" {
+        DependencyDirection::Reverse
+    } else {
+        DependencyDirection::Forward
+    }
+}
+
 // The packages with these IDs.
-fn set<'g>(graph: &'g PackageGraph, texts: &[&str]) -> Result<PackageSet<'g>, Error> {
+fn set_of_ids<'g>(graph: &'g PackageGraph, texts: &[&str]) -> Result<PackageSet<'g>, Error> {
     let ids = ids(graph.alloc(), texts)?;
     graph.resolve_ids(ids.iter())
 }
 
-// Those of the IDs whose packages are in the set.
-fn members(alloc: Global, set: &PackageSet<'_>, texts: &[&str]) -> Result<String, Error> {
-    let mut members = String::new(alloc);
-    for text in texts {
-        if set.contains(&id(alloc, text)?)? {
-            members.push_str(text)?;
+fn resolved<'g>(graph: &'g PackageGraph, starts: &[&str]) -> Result<PackageSet<'g>, Error> {
+    let starts = ids(graph.alloc(), starts)?;
+    graph.query_forward(starts.iter())?.resolve()
+}
+
+// All packages, by a query that starts at a copy of their set.
+fn resolved_again(graph: &PackageGraph) -> Result<PackageSet<'_>, Error> {
+    let all = graph.resolve_all()?.clone()?;
+    let query = all.to_package_query(DependencyDirection::Forward)?;
+    query.clone()?.resolve()
+}
+
+fn set_of<'g>(graph: &'g PackageGraph, words: &[&str]) -> Result<PackageSet<'g>, Error> {
+    match words {
+        ["all"] => graph.resolve_all(),
+        ["none"] => graph.resolve_none(),
+        ["query"] => resolved_again(graph),
+        ["name", name] => graph.resolve_package_name(name),
+        ["forward", starts @ ..] => resolved(graph, starts),
+        _ => set_of_ids(graph, words),
+    }
+}
+
+// Those of the graph's letters whose packages are in the set, and how many packages it has.
+pub(super) fn put_letters(
+    graph: &PackageGraph,
+    set: &PackageSet<'_>,
+    out: &mut String,
+) -> Result<(), Error> {
+    for letter in LETTERS.iter().take(graph.package_count()) {
+        let id = id(graph.alloc(), letter)?;
+        if set.contains(&id)? {
+            out.push_str(letter)?;
         }
     }
-    Ok(members)
-}
-
-// The names of the set's roots.
-fn roots(
-    alloc: Global,
-    set: &PackageSet<'_>,
-    direction: DependencyDirection,
-) -> Result<String, Error> {
-    let mut names = String::new(alloc);
-    for package in set.root_packages(direction)? {
-        names.push_str(package.name())?;
+    put_number(out, set.len())?;
+    if set.is_empty() {
+        put(out, "empty")?;
     }
-    Ok(names)
+    Ok(())
 }
 
-fn assert_members(
-    rt: &impl Abort,
-    alloc: Global,
+// How many packages the set has, and how many its list has.
+fn put_lengths(
     set: &PackageSet<'_>,
-    wanted: &str,
-) -> Result<(), Fail> {
-    let members = members(alloc, set, &["a", "b", "c"])?;
-    assert_eq!(rt; members.as_str(), wanted);
-    Ok(())
-}
-
-fn assert_listed(
-    rt: &impl Abort,
-    alloc: Global,
-    set: &PackageSet<'_>,
-    wanted: &str,
-) -> Result<(), Fail> {
-    let listed = listed(alloc, set, DependencyDirection::Forward)?;
-    assert_eq!(rt; listed.as_str(), wanted);
-    Ok(())
-}
-
-fn operations_hold(
-    rt: &impl Abort,
-    alloc: Global,
-    x: &PackageSet<'_>,
-    y: &PackageSet<'_>,
-) -> Result<(), Fail> {
-    assert!(rt; x.same_packages(y));
-    assert_members(rt, alloc, &x.union(y)?, "abc")?;
-    assert_members(rt, alloc, &x.intersection(y)?, "b")?;
-    assert_members(rt, alloc, &x.difference(y)?, "a")?;
-    let either = x.symmetric_difference(y)?;
-    assert_eq!(rt; either.len(), 2);
-    assert_members(rt, alloc, &either, "ac")
-}
-
-fn set_operations_holds(rt: &impl Abort, graph: &PackageGraph) -> Result<(), Fail> {
-    let x = set(graph, &["a", "b"])?;
-    let y = set(graph, &["b", "c"])?;
-    operations_hold(rt, graph.alloc(), &x, &y)
-}
-
-#[test]
-fn set_operations(rt: HostRuntime) -> Result<(), Fail> {
-    let graph = graph(rt.alloc(), &["a", "b", "c"], &[])?;
-    set_operations_holds(&rt, &graph)
-}
-
-fn cyclic_roots_holds(rt: &impl Abort, graph: &PackageGraph) -> Result<(), Fail> {
-    let all = graph.resolve_all()?;
-    assert_eq!(rt;
-        roots(graph.alloc(), &all, DependencyDirection::Forward)?.as_str(),
-        "ab"
-    );
-    assert_eq!(rt;
-        roots(graph.alloc(), &all, DependencyDirection::Reverse)?.as_str(),
-        "c"
-    );
-    let mut ids = all.root_ids(DependencyDirection::Forward)?;
-    assert_eq!(rt; ids.len(), 2);
-    assert_eq!(rt; ids.next().map(|id| id.repr()), Some("a"));
-    assert_eq!(rt; ids.len(), 1);
-    Ok(())
-}
-
-#[test]
-fn cyclic_roots(rt: HostRuntime) -> Result<(), Fail> {
-    let links = [("a", "b"), ("b", "a"), ("a", "a"), ("a", "c")];
-    let graph = graph(rt.alloc(), &["a", "b", "c"], &links)?;
-    cyclic_roots_holds(&rt, &graph)
-}
-
-fn cut_component_holds(rt: &impl Abort, graph: &PackageGraph) -> Result<(), Fail> {
-    let cut = set(graph, &["r", "a", "b"])?;
-    assert_eq!(rt;
-        roots(graph.alloc(), &cut, DependencyDirection::Forward)?.as_str(),
-        "r"
-    );
-    assert_eq!(rt;
-        roots(graph.alloc(), &cut, DependencyDirection::Reverse)?.as_str(),
-        "ab"
-    );
-    Ok(())
-}
-
-#[test]
-fn cut_component(rt: HostRuntime) -> Result<(), Fail> {
-    let links = [("r", "a"), ("a", "c"), ("c", "b"), ("b", "a")];
-    let graph = graph(rt.alloc(), &["r", "a", "b", "c"], &links)?;
-    cut_component_holds(&rt, &graph)
-}
-
-fn self_links_holds(rt: &impl Abort, graph: &PackageGraph) -> Result<(), Fail> {
-    let all = graph.resolve_all()?;
-    assert_eq!(rt;
-        roots(graph.alloc(), &all, DependencyDirection::Forward)?.as_str(),
-        "a"
-    );
-    assert_eq!(rt;
-        roots(graph.alloc(), &all, DependencyDirection::Reverse)?.as_str(),
-        "b"
-    );
-    Ok(())
-}
-
-#[test]
-fn self_links(rt: HostRuntime) -> Result<(), Fail> {
-    let links = [("a", "a"), ("a", "b"), ("b", "b")];
-    let graph = graph(rt.alloc(), &["a", "b"], &links)?;
-    self_links_holds(&rt, &graph)
-}
-
-// The packages stand in the order d, c, b, a, so the positions seen make the number 3210 from a to d,
-// and 0123 from d to a.
-fn filter_asks_in_order(
-    rt: &impl Abort,
-    alloc: Global,
-    all: &PackageSet<'_>,
     direction: DependencyDirection,
-    order: usize,
-    kept: &str,
-) -> Result<(), Fail> {
-    let mut seen = 0_usize;
+    out: &mut String,
+) -> Result<(), Error> {
+    put_number(out, set.len())?;
+    put_number(out, set.packages(direction).len())?;
+    Ok(())
+}
+
+fn put_has(
+    graph: &PackageGraph,
+    set: &PackageSet<'_>,
+    text: &str,
+    out: &mut String,
+) -> Result<(), Error> {
+    let id = id(graph.alloc(), text)?;
+    put_truth(out, set.contains(&id)?)?;
+    Ok(())
+}
+
+fn put_list(
+    set: &PackageSet<'_>,
+    direction: DependencyDirection,
+    out: &mut String,
+) -> Result<(), Error> {
+    for id in set.package_ids(direction) {
+        put(out, id.repr())?;
+    }
+    Ok(())
+}
+
+fn put_roots(
+    set: &PackageSet<'_>,
+    direction: DependencyDirection,
+    out: &mut String,
+) -> Result<(), Error> {
+    for package in set.root_packages(direction)? {
+        put(out, package.name())?;
+    }
+    Ok(())
+}
+
+// How many IDs there are, the first, and how many are left then.
+fn put_root_ids(
+    set: &PackageSet<'_>,
+    direction: DependencyDirection,
+    out: &mut String,
+) -> Result<(), Error> {
+    let mut ids = set.root_ids(direction)?;
+    put_number(out, ids.len())?;
+    if let Some(id) = ids.next() {
+        put(out, id.repr())?;
+    }
+    put_number(out, ids.len())?;
+    Ok(())
+}
+
+// The numbers of the walked links.
+fn put_links(
+    set: &PackageSet<'_>,
+    direction: DependencyDirection,
+    out: &mut String,
+) -> Result<(), Error> {
+    for link in set.links(direction)? {
+        put_number(out, link.link_ix())?;
+    }
+    Ok(())
+}
+
+// The calls, the positions as the digits of a number, and the packages that the callback kept.
+fn put_kept(
+    kept: &PackageSet<'_>,
+    calls: usize,
+    positions: usize,
+    out: &mut String,
+) -> Result<(), Error> {
+    put_number(out, calls)?;
+    put_number(out, positions)?;
+    put_list(kept, DependencyDirection::Forward, out)
+}
+
+// Keeps the first two packages.
+fn filter_two(
+    set: &PackageSet<'_>,
+    direction: DependencyDirection,
+    out: &mut String,
+) -> Result<(), Error> {
+    let mut positions = 0_usize;
     let mut calls = 0_usize;
     let mut callback = |package: PackageMetadata<'_>| {
-        seen = seen
+        positions = positions
             .wrapping_mul(10)
             .wrapping_add(package.package_ix().index());
         calls = calls.wrapping_add(1);
         calls <= 2
     };
-    let set = all.filter_mut(direction, &mut callback)?;
-    assert_eq!(rt; (calls, seen), (4, order));
-    assert_listed(rt, alloc, &set, kept)
+    let kept = set.filter_mut(direction, &mut callback)?;
+    put_kept(&kept, calls, positions, out)
 }
 
-fn filter_by_order_holds(rt: &impl Abort, graph: &PackageGraph) -> Result<(), Fail> {
-    let all = graph.resolve_all()?;
-    filter_asks_in_order(
-        rt,
-        graph.alloc(),
-        &all,
-        DependencyDirection::Forward,
-        3210,
-        "a b",
-    )?;
-    filter_asks_in_order(
-        rt,
-        graph.alloc(),
-        &all,
-        DependencyDirection::Reverse,
-        123,
-        "c d",
-    )
-}
-
-#[test]
-fn filter_by_order(rt: HostRuntime) -> Result<(), Fail> {
-    let graph = with_dev_backs(rt.alloc())?;
-    filter_by_order_holds(&rt, &graph)
-}
-
-fn halves_hold(
-    rt: &impl Abort,
-    alloc: Global,
+fn put_halves(
     first: &PackageSet<'_>,
     second: &PackageSet<'_>,
-    wanted: (&str, &str),
-) -> Result<(), Fail> {
-    assert_listed(rt, alloc, first, wanted.0)?;
-    assert_listed(rt, alloc, second, wanted.1)
+    out: &mut String,
+) -> Result<(), Error> {
+    put_list(first, DependencyDirection::Forward, out)?;
+    put(out, "and")?;
+    put_list(second, DependencyDirection::Forward, out)
 }
 
-fn filter_partition_holds(rt: &impl Abort, graph: &PackageGraph) -> Result<(), Fail> {
-    let all = graph.resolve_all()?;
+// Leaves out the first package, and parts the second from the others.
+fn part_second(set: &PackageSet<'_>, out: &mut String) -> Result<(), Error> {
     let mut calls = 0_usize;
-    let (first, second) = all.filter_partition(DependencyDirection::Forward, |_package| {
+    let (first, second) = set.filter_partition(DependencyDirection::Forward, |_package| {
         calls = calls.wrapping_add(1);
         match calls {
             1 => None,
@@ -223,121 +193,279 @@ fn filter_partition_holds(rt: &impl Abort, graph: &PackageGraph) -> Result<(), F
             _ => Some(false),
         }
     })?;
-    halves_hold(rt, graph.alloc(), &first, &second, ("b", "c d"))
+    put_halves(&first, &second, out)
 }
 
-#[test]
-fn filter_partition(rt: HostRuntime) -> Result<(), Fail> {
-    let graph = with_dev_backs(rt.alloc())?;
-    filter_partition_holds(&rt, &graph)
-}
-
-fn filter_by_name_holds(
-    rt: &impl Abort,
-    alloc: Global,
-    all: &PackageSet<'_>,
-    first: &PackageSet<'_>,
-    second: &PackageSet<'_>,
-) -> Result<(), Fail> {
-    let only = all.filter(
-        DependencyDirection::Forward,
-        |package| package.name() == "c",
-    )?;
-    assert!(rt; only == *first);
-    assert!(rt; only != *second);
-    halves_hold(rt, alloc, first, second, ("c", "a b d"))
-}
-
-fn partition_by_name_holds(rt: &impl Abort, graph: &PackageGraph) -> Result<(), Fail> {
-    let all = graph.resolve_all()?;
-    let direction = DependencyDirection::Forward;
-    let (first, second) = all.partition(direction, |package| package.name() == "c")?;
-    filter_by_name_holds(rt, graph.alloc(), &all, &first, &second)
-}
-
-#[test]
-fn partition_by_name(rt: HostRuntime) -> Result<(), Fail> {
-    let graph = with_dev_backs(rt.alloc())?;
-    partition_by_name_holds(&rt, &graph)
-}
-
-fn unions_hold(
-    rt: &impl Abort,
-    alloc: Global,
-    first: &PackageSet<'_>,
-    second: &PackageSet<'_>,
-) -> Result<(), Fail> {
-    assert!(rt; first.same_packages(second));
-    assert!(rt; second.same_packages(first));
-    assert!(rt; *first != *second);
-    assert_listed(rt, alloc, &first.union(second)?, "a b")?;
-    assert_listed(rt, alloc, &second.union(first)?, "b a")
-}
-
-fn equal_sets_hold(
-    rt: &impl Abort,
+// Whether a filter makes the one half and not the other.
+fn put_filtered(
     set: &PackageSet<'_>,
-    same: &PackageSet<'_>,
-    turned: &PackageSet<'_>,
-) {
-    assert!(rt; *set == *same);
-    assert!(rt; *set != *turned);
+    name: &str,
+    halves: (&PackageSet<'_>, &PackageSet<'_>),
+    out: &mut String,
+) -> Result<(), Error> {
+    let only = set.filter(
+        DependencyDirection::Forward,
+        |package| package.name() == name,
+    )?;
+    put_truth(out, only == *halves.0 && only != *halves.1)?;
+    Ok(())
 }
 
-fn equal_packages_hold(
-    rt: &impl Abort,
+fn put_parted(
+    set: &PackageSet<'_>,
+    name: &str,
+    halves: (&PackageSet<'_>, &PackageSet<'_>),
+    out: &mut String,
+) -> Result<(), Error> {
+    put_filtered(set, name, halves, out)?;
+    put_halves(halves.0, halves.1, out)
+}
+
+// Parts the packages of this name from the others.
+fn part_by_name(set: &PackageSet<'_>, name: &str, out: &mut String) -> Result<(), Error> {
+    let direction = DependencyDirection::Forward;
+    let (first, second) = set.partition(direction, |package| package.name() == name)?;
+    put_parted(set, name, (&first, &second), out)
+}
+
+fn read(
+    graph: &PackageGraph,
+    set: &PackageSet<'_>,
+    reading: (&str, &str),
+    out: &mut String,
+) -> Result<(), Error> {
+    let (reading, argument) = reading;
+    let direction = direction_of(argument);
+    match reading {
+        "letters" => put_letters(graph, set, out),
+        "has" => put_has(graph, set, argument, out),
+        "list" => put_list(set, direction, out),
+        "roots" => put_roots(set, direction, out),
+        "root-ids" => put_root_ids(set, direction, out),
+        "links" => put_links(set, direction, out),
+        "first-two" => filter_two(set, direction, out),
+        "second-apart" => part_second(set, out),
+        "apart" => part_by_name(set, argument, out),
+        "len" => put_lengths(set, direction, out),
+        _ => Ok(put(out, "unknown question")?),
+    }
+}
+
+fn ask(
+    graph: &PackageGraph,
+    reading: (&str, &str),
+    set: &[&str],
+    out: &mut String,
+) -> Result<(), Error> {
+    let set = set_of(graph, set)?;
+    read(graph, &set, reading, out)
+}
+
+/// Answers a question about a set of the graph.
+pub(super) fn ask_set(graph: &PackageGraph, words: &[&str], out: &mut String) -> Result<(), Error> {
+    match words {
+        [reading, "of", set @ ..] => ask(graph, (reading, ""), set, out),
+        [reading, argument, "of", set @ ..] => ask(graph, (reading, argument), set, out),
+        _ => ask(graph, ("letters", ""), words, out),
+    }
+}
+
+// The set that the operation makes.
+fn combined<'g>(
+    operation: &str,
+    x: &PackageSet<'g>,
+    y: &PackageSet<'g>,
+) -> Result<PackageSet<'g>, Error> {
+    if !x.same_packages(y) {
+        return Ok(x.clone()?);
+    }
+    match operation {
+        "union" => x.union(y),
+        "intersection" => x.intersection(y),
+        "difference" => x.difference(y),
+        _ => x.symmetric_difference(y),
+    }
+}
+
+fn put_combined(
+    graph: &PackageGraph,
+    operation: &str,
+    sets: (&PackageSet<'_>, &PackageSet<'_>),
+    out: &mut String,
+) -> Result<(), Error> {
+    let set = combined(operation, sets.0, sets.1)?;
+    put_letters(graph, &set, out)
+}
+
+// Both sets are written with commas, as `a,b`.
+fn combine(
+    graph: &PackageGraph,
+    operation: &str,
+    x: &str,
+    y: &str,
+    out: &mut String,
+) -> Result<(), Error> {
+    let x = set_of_list(graph, x)?;
+    let y = set_of_list(graph, y)?;
+    put_combined(graph, operation, (&x, &y), out)
+}
+
+fn set_of_list<'g>(graph: &'g PackageGraph, texts: &str) -> Result<PackageSet<'g>, Error> {
+    let texts: Vec<&str> = texts.split(',').collect(graph.alloc())?;
+    set_of_ids(graph, &texts)
+}
+
+struct OfSets;
+
+impl Questions for OfSets {
+    fn answer(&self, graph: &PackageGraph, words: &[&str], out: &mut String) -> Result<(), Error> {
+        match words {
+            ["make", operation, x, y] => combine(graph, operation, x, y, out),
+            _ => ask_set(graph, words, out),
+        }
+    }
+}
+
+const SETS: &str = "
+set_operations | a b c
+    make union a,b b,c = abc 3
+    make intersection a,b b,c = b 1
+    make difference a,b b,c = a 1
+    make symmetric-difference a,b b,c = ac 2
+
+sets_of_a_graph | a b c d: a>b b>c c>d
+    all = abcd 4
+    none = 0 empty
+    query = abcd 4
+
+four_with_dev_backs | d c b a: a>b b~a b>c c>d d~c
+    list forward of d a b = a b d
+    len reverse of d a b = 3 3
+
+cyclic_roots | a b c: a>b b>a a>a a>c
+    roots forward of all = a b
+    roots reverse of all = c
+    root-ids forward of all = 2 a 1
+
+cut_component | r a b c: r>a a>c c>b b>a
+    roots forward of r a b = r
+    roots reverse of r a b = a b
+    links forward of r a b = 0
+    links reverse of r a b = 0 3 or 3 0
+
+links_of_a_loop | r a b c: r>a a>c c>b b>a
+    links forward of r a b c = 0 1 2 3
+    links forward of a b = 3
+    links reverse of a b = 3
+
+self_links | a b: a>a a>b b>b
+    roots forward of all = a
+    roots reverse of all = b
+    links forward of a b = 0 1 2 or 1 0 2 or 1 2 0
+    links reverse of a b = 2 1 0 or 1 2 0 or 1 0 2
+";
+
+#[test]
+fn sets(rt: HostRuntime) -> Result<(), Fail> {
+    resolved_sets_are_whole();
+    assert_examples(&rt, rt.alloc(), &OfSets, SETS)
+}
+
+// The packages stand in the order d, c, b, a, so the positions seen make the number 3210 from a to d,
+// and 0123 from d to a.
+const PARTS: &str = "
+filter_by_order | d c b a: a>b b~a b>c c>d d~c
+    first-two forward of all = 4 3210 a b
+    first-two reverse of all = 4 123 c d
+
+filter_partition | d c b a: a>b b~a b>c c>d d~c
+    second-apart of all = b and c d
+
+partition_by_name | d c b a: a>b b~a b>c c>d d~c
+    apart c of all = yes c and a b d
+";
+
+#[test]
+fn parts(rt: HostRuntime) -> Result<(), Fail> {
+    assert_examples(&rt, rt.alloc(), &OfSets, PARTS)
+}
+
+// Whether the graphs have the same packages, and whether the packages and the sets of a are equal.
+fn put_equal(
     one: &PackageGraph,
-    two: &PackageGraph,
-    turned: &PackageGraph,
-) -> Result<(), Fail> {
+    other: &PackageGraph,
+    here: &PackageSet<'_>,
+    there: &PackageSet<'_>,
+    out: &mut String,
+) -> Result<(), Error> {
     let a = id(one.alloc(), "a")?;
-    let here = one.metadata(&a)?;
-    assert!(rt; here == two.metadata(&a)?);
-    assert!(rt; here != turned.metadata(&a)?);
+    put_truth(out, one.same_packages(other))?;
+    put_truth(out, one.metadata(&a)? == other.metadata(&a)?)?;
+    put_truth(out, *here == *there)?;
     Ok(())
 }
 
-fn two_graphs_hold(rt: &impl Abort, one: &PackageGraph, two: &PackageGraph) -> Result<(), Fail> {
-    assert!(rt; one.same_packages(two));
-    let first = set(one, &["a"])?;
-    let second = set(two, &["b"])?;
-    unions_hold(rt, one.alloc(), &first, &second)
+fn compare(one: &PackageGraph, other: &PackageGraph, out: &mut String) -> Result<(), Error> {
+    let here = set_of_ids(one, &["a"])?;
+    let there = set_of_ids(other, &["a"])?;
+    put_equal(one, other, &here, &there, out)
 }
 
-fn three_graphs_hold(
+fn put_union(x: &PackageSet<'_>, y: &PackageSet<'_>, out: &mut String) -> Result<(), Error> {
+    put_truth(out, x.same_packages(y))?;
+    put_truth(out, *x == *y)?;
+    if x.same_packages(y) {
+        let union = x.union(y)?;
+        return put_list(&union, DependencyDirection::Forward, out);
+    }
+    Ok(())
+}
+
+// The union of the one graph's a and the other's b, from either side.
+fn unite(one: &PackageGraph, other: &PackageGraph, out: &mut String) -> Result<(), Error> {
+    let first = set_of_ids(one, &["a"])?;
+    let second = set_of_ids(other, &["b"])?;
+    put_union(&first, &second, out)?;
+    put_union(&second, &first, out)
+}
+
+fn compare_and_unite(
+    one: &PackageGraph,
+    other: &PackageGraph,
+    out: &mut String,
+) -> Result<(), Error> {
+    compare(one, other, out)?;
+    if one.same_packages(other) {
+        unite(one, other, out)?;
+    }
+    Ok(())
+}
+
+fn beside(one: &PackageGraph, other: &str, out: &mut String) -> Result<(), Fail> {
+    let other = graph_of(records_of(one.alloc(), other)?)?;
+    Ok(compare_and_unite(one, &other, out)?)
+}
+
+fn assert_beside(
     rt: &impl Abort,
     one: &PackageGraph,
-    two: &PackageGraph,
-    turned: &PackageGraph,
+    other: &str,
+    wanted: &str,
 ) -> Result<(), Fail> {
-    assert!(rt; !one.same_packages(turned));
-    equal_packages_hold(rt, one, two, turned)?;
-    let here = set(one, &["a"])?;
-    let there = set(two, &["a"])?;
-    let elsewhere = set(turned, &["a"])?;
-    equal_sets_hold(rt, &here, &there, &elsewhere);
+    let mut answer = String::new(one.alloc());
+    beside(one, other, &mut answer)?;
+    assert_eq!(rt; answer.as_str(), wanted);
     Ok(())
 }
 
-// a and b in the other order.
-fn with_turned(rt: &impl Abort, one: &PackageGraph, two: &PackageGraph) -> Result<(), Fail> {
-    let turned = graph(one.alloc(), &["b", "a"], &[])?;
-    three_graphs_hold(rt, one, two, &turned)
-}
-
-// The same packages with the link turned round.
-fn with_second(rt: &impl Abort, one: &PackageGraph) -> Result<(), Fail> {
-    let two = graph(one.alloc(), &["a", "b"], &[("b", "a")])?;
-    sets_of_both_hold(rt, one, &two)
-}
-
-fn sets_of_both_hold(rt: &impl Abort, one: &PackageGraph, two: &PackageGraph) -> Result<(), Fail> {
-    two_graphs_hold(rt, one, two)?;
-    with_turned(rt, one, two)
+// The same packages with the link turned round, and then in the other order.
+fn two_graphs_hold(rt: &impl Abort, one: &PackageGraph) -> Result<(), Fail> {
+    assert_beside(rt, one, "a b: b>a", "yes yes yes yes no a b yes no b a")?;
+    assert_beside(rt, one, "b a", "no no no")
 }
 
 #[test]
 fn sets_of_two_graphs(rt: HostRuntime) -> Result<(), Fail> {
-    let one = graph(rt.alloc(), &["a", "b"], &[("a", "b")])?;
-    with_second(&rt, &one)
+    let one = graph_of(records_of(rt.alloc(), "a b: a>b")?)?;
+    two_graphs_hold(&rt, &one)
 }

@@ -1,6 +1,6 @@
 //! A package's record with each field filled and read back.
 
-use crate::views::{path, text};
+use crate::owned::{path, text, texts};
 use guppy_data::{
     BuildTargetId, BuildTargetKindRecord, BuildTargetRecord, NamedFeatureDep, OwnedBuildTargetId,
     PackageId, PackagePublish, PackagePublishRecord, PackageRecord, PackageSource,
@@ -12,12 +12,6 @@ use serde_json::Value;
 use std::alloc::{AllocError, Global};
 use std::process::Abort;
 use std::test::Fail;
-
-fn list(alloc: Global, item: &str) -> Result<Vec<String>, AllocError> {
-    let mut items = Vec::new(alloc);
-    items.push(text(alloc, item)?)?;
-    Ok(items)
-}
 
 fn bare(
     alloc: Global,
@@ -63,18 +57,14 @@ fn named(alloc: Global) -> Result<PackageRecord, AllocError> {
 }
 
 fn assert_named(rt: &impl Abort, package: &PackageRecord) {
-    assert_eq!(rt; package.id.repr(), "path+file:///a#1.2.3");
-    assert_eq!(rt; package.name.as_str(), "a");
-    assert_eq!(rt; package.edition.as_str(), "2024");
+    let texts = (
+        package.id.repr(),
+        package.name.as_str(),
+        package.edition.as_str(),
+    );
+    assert_eq!(rt; texts, ("path+file:///a#1.2.3", "a", "2024"));
     assert!(rt; package.manifest_path.as_path() == Utf8Path::new("a/Cargo.toml"));
     assert!(rt; package.version == Version::new(1, 2, 3));
-}
-
-fn is_text(value: &Option<String>, wanted: &str) -> bool {
-    match value {
-        Some(text) => text.as_str() == wanted,
-        None => false,
-    }
 }
 
 fn fill_texts(alloc: Global, package: &mut PackageRecord) -> Result<(), AllocError> {
@@ -85,13 +75,6 @@ fn fill_texts(alloc: Global, package: &mut PackageRecord) -> Result<(), AllocErr
     Ok(())
 }
 
-fn assert_texts(rt: &impl Abort, package: &PackageRecord) {
-    assert!(rt; is_text(&package.description, "description"));
-    assert!(rt; is_text(&package.license, "MIT"));
-    assert!(rt; is_text(&package.links, "z"));
-    assert!(rt; is_text(&package.default_run, "run"));
-}
-
 fn fill_urls(alloc: Global, package: &mut PackageRecord) -> Result<(), AllocError> {
     package.repository = Some(text(alloc, "repository")?);
     package.homepage = Some(text(alloc, "homepage")?);
@@ -99,16 +82,24 @@ fn fill_urls(alloc: Global, package: &mut PackageRecord) -> Result<(), AllocErro
     Ok(())
 }
 
-fn assert_urls(rt: &impl Abort, package: &PackageRecord) {
-    assert!(rt; is_text(&package.repository, "repository"));
-    assert!(rt; is_text(&package.homepage, "homepage"));
-    assert!(rt; is_text(&package.documentation, "documentation"));
+fn is_text(value: &Option<String>, wanted: &str) -> bool {
+    match value {
+        Some(text) => text.as_str() == wanted,
+        None => false,
+    }
 }
 
-fn is_path(value: &Option<Utf8PathBuf>, wanted: &str) -> bool {
-    match value {
-        Some(path) => path.as_path() == Utf8Path::new(wanted),
-        None => false,
+fn assert_texts(rt: &impl Abort, package: &PackageRecord) {
+    for (field, wanted) in [
+        (&package.description, "description"),
+        (&package.license, "MIT"),
+        (&package.links, "z"),
+        (&package.default_run, "run"),
+        (&package.repository, "repository"),
+        (&package.homepage, "homepage"),
+        (&package.documentation, "documentation"),
+    ] {
+        assert!(rt; is_text(field, wanted), "{wanted}");
     }
 }
 
@@ -119,11 +110,30 @@ fn fill_paths(alloc: Global, package: &mut PackageRecord) -> Result<(), AllocErr
     Ok(())
 }
 
+fn is_path(value: &Option<Utf8PathBuf>, wanted: &str) -> bool {
+    match value {
+        Some(path) => path.as_path() == Utf8Path::new(wanted),
+        None => false,
+    }
+}
+
 fn assert_paths(rt: &impl Abort, package: &PackageRecord) {
-    assert!(rt; is_path(&package.license_file, "LICENSE"));
-    assert!(rt; is_path(&package.readme, "README.md"));
+    for (field, wanted) in [
+        (&package.license_file, "LICENSE"),
+        (&package.readme, "README.md"),
+    ] {
+        assert!(rt; is_path(field, wanted), "{wanted}");
+    }
     let source = PackageSource::new(&package.source);
     assert!(rt; source == PackageSource::Workspace(Utf8Path::new("a")));
+}
+
+fn fill_lists(alloc: Global, package: &mut PackageRecord) -> Result<(), AllocError> {
+    package.authors = texts(alloc, &["author"])?;
+    package.categories = texts(alloc, &["category"])?;
+    package.keywords = texts(alloc, &["keyword"])?;
+    package.publish = PackagePublishRecord::Registries(texts(alloc, &["registry"])?);
+    Ok(())
 }
 
 fn is_list(items: &[String], wanted: &str) -> bool {
@@ -133,18 +143,14 @@ fn is_list(items: &[String], wanted: &str) -> bool {
     }
 }
 
-fn fill_lists(alloc: Global, package: &mut PackageRecord) -> Result<(), AllocError> {
-    package.authors = list(alloc, "author")?;
-    package.categories = list(alloc, "category")?;
-    package.keywords = list(alloc, "keyword")?;
-    package.publish = PackagePublishRecord::Registries(list(alloc, "registry")?);
-    Ok(())
-}
-
 fn assert_lists(rt: &impl Abort, package: &PackageRecord) {
-    assert!(rt; is_list(package.authors.as_slice(), "author"));
-    assert!(rt; is_list(package.categories.as_slice(), "category"));
-    assert!(rt; is_list(package.keywords.as_slice(), "keyword"));
+    for (field, wanted) in [
+        (&package.authors, "author"),
+        (&package.categories, "category"),
+        (&package.keywords, "keyword"),
+    ] {
+        assert!(rt; is_list(field.as_slice(), wanted), "{wanted}");
+    }
     assert!(rt; PackagePublish::new(&package.publish).can_publish_to("registry"));
 }
 
@@ -206,17 +212,19 @@ fn fill(alloc: Global, package: &mut PackageRecord) -> Result<(), AllocError> {
     fill_others(alloc, package)
 }
 
+fn assert_filled(rt: &impl Abort, package: &PackageRecord) {
+    assert_named(rt, package);
+    assert_texts(rt, package);
+    assert_paths(rt, package);
+    assert_lists(rt, package);
+    assert_features(rt, package);
+    assert_others(rt, package);
+}
+
 #[test]
 fn filled_record(rt: HostRuntime) -> Result<(), Fail> {
-    let alloc = rt.alloc();
-    let mut package = named(alloc)?;
-    fill(alloc, &mut package)?;
-    assert_named(&rt, &package);
-    assert_texts(&rt, &package);
-    assert_urls(&rt, &package);
-    assert_paths(&rt, &package);
-    assert_lists(&rt, &package);
-    assert_features(&rt, &package);
-    assert_others(&rt, &package);
+    let mut package = named(rt.alloc())?;
+    fill(rt.alloc(), &mut package)?;
+    assert_filled(&rt, &package);
     Ok(())
 }

@@ -1,7 +1,8 @@
+//! Build targets: their IDs, kinds and fields.
 ghost use Rattle.std.specs.Prelude.{IsSome, IfOk};
 ghost use Rattle.guppy_data.specs.TargetName.{target_name};
 
-use crate::views::{path, text};
+use crate::owned::{path, text, texts};
 use guppy_data::{
     BuildTarget, BuildTargetId, BuildTargetKind, BuildTargetKindRecord, BuildTargetRecord,
     OwnedBuildTargetId, SortedSet, Utf8Path,
@@ -54,27 +55,30 @@ fn target_ids(rt: HostRuntime) -> Result<(), Fail> {
     Ok(())
 }
 
-fn assert_id(rt: &impl Abort, record: &OwnedBuildTargetId, id: BuildTargetId<'_>) {
-    assert!(rt; BuildTargetId::new(record) == id);
+fn recorded(alloc: Global, id: BuildTargetId<'_>) -> Result<OwnedBuildTargetId, AllocError> {
+    match id {
+        BuildTargetId::Library => Ok(OwnedBuildTargetId::Library),
+        BuildTargetId::BuildScript => Ok(OwnedBuildTargetId::BuildScript),
+        BuildTargetId::Binary(name) => Ok(OwnedBuildTargetId::Binary(text(alloc, name)?)),
+        BuildTargetId::Example(name) => Ok(OwnedBuildTargetId::Example(text(alloc, name)?)),
+        BuildTargetId::Test(name) => Ok(OwnedBuildTargetId::Test(text(alloc, name)?)),
+        BuildTargetId::Benchmark(name) => Ok(OwnedBuildTargetId::Benchmark(text(alloc, name)?)),
+    }
 }
 
 #[test]
 fn recorded_ids(rt: HostRuntime) -> Result<(), Fail> {
-    let alloc = rt.alloc();
-    assert_id(&rt, &OwnedBuildTargetId::Library, BuildTargetId::Library);
-    assert_id(
-        &rt,
-        &OwnedBuildTargetId::BuildScript,
+    for id in [
+        BuildTargetId::Library,
         BuildTargetId::BuildScript,
-    );
-    let binary = OwnedBuildTargetId::Binary(text(alloc, "n")?);
-    assert_id(&rt, &binary, BuildTargetId::Binary("n"));
-    let example = OwnedBuildTargetId::Example(text(alloc, "n")?);
-    assert_id(&rt, &example, BuildTargetId::Example("n"));
-    let test = OwnedBuildTargetId::Test(text(alloc, "n")?);
-    assert_id(&rt, &test, BuildTargetId::Test("n"));
-    let benchmark = OwnedBuildTargetId::Benchmark(text(alloc, "n")?);
-    assert_id(&rt, &benchmark, BuildTargetId::Benchmark("n"));
+        BuildTargetId::Binary("n"),
+        BuildTargetId::Example("n"),
+        BuildTargetId::Test("n"),
+        BuildTargetId::Benchmark("n"),
+    ] {
+        let record = recorded(rt.alloc(), id)?;
+        assert!(rt; BuildTargetId::new(&record) == id, "{id:?}");
+    }
     Ok(())
 }
 
@@ -85,7 +89,7 @@ fn target(alloc: Global, id: OwnedBuildTargetId) -> Result<BuildTargetRecord, Al
         id,
         kind: BuildTargetKindRecord::ProcMacro,
         lib_name: Some(text(alloc, "l")?),
-        required_features: Vec::new(alloc),
+        required_features: texts(alloc, &["f"])?,
         path: path(alloc, "src/lib.rs")?,
         edition: text(alloc, "2021")?,
         doc_by_default: true,
@@ -96,24 +100,19 @@ fn target(alloc: Global, id: OwnedBuildTargetId) -> Result<BuildTargetRecord, Al
 
 #[test]
 fn target_names(rt: HostRuntime) -> Result<(), Fail> {
-    let alloc = rt.alloc();
-    let library = target(alloc, OwnedBuildTargetId::Library)?;
-    assert_eq!(rt; BuildTarget::new(&library).name(), "l");
-    assert_eq!(rt; BuildTargetId::Library.name(), None);
-    let script = target(alloc, OwnedBuildTargetId::BuildScript)?;
-    assert_eq!(rt; BuildTarget::new(&script).name(), "l");
-    let example = target(alloc, OwnedBuildTargetId::Example(text(alloc, "e")?))?;
-    assert_eq!(rt; BuildTarget::new(&example).name(), "e");
-    assert_eq!(rt; BuildTargetId::Example("e").name(), Some("e"));
+    for (id, id_name, name) in [
+        (BuildTargetId::Library, None, "l"),
+        (BuildTargetId::BuildScript, None, "l"),
+        (BuildTargetId::Example("e"), Some("e"), "e"),
+    ] {
+        assert_eq!(rt; id.name(), id_name);
+        let record = target(rt.alloc(), recorded(rt.alloc(), id)?)?;
+        assert_eq!(rt; BuildTarget::new(&record).name(), name);
+    }
     Ok(())
 }
 
-#[test]
-fn target_fields(rt: HostRuntime) -> Result<(), Fail> {
-    let alloc = rt.alloc();
-    let mut record = target(alloc, OwnedBuildTargetId::Library)?;
-    record.required_features.push(text(alloc, "f")?)?;
-    let target = BuildTarget::new(&record);
+fn target_fields_hold(rt: &impl Abort, target: BuildTarget<'_>) {
     assert!(rt; target.id() == BuildTargetId::Library);
     assert!(rt; target.kind() == BuildTargetKind::ProcMacro);
     let [feature] = target.required_features() else {
@@ -125,26 +124,32 @@ fn target_fields(rt: HostRuntime) -> Result<(), Fail> {
     assert!(rt; target.doc_by_default());
     assert!(rt; !target.doctest_by_default());
     assert!(rt; target.test_by_default());
+}
+
+#[test]
+fn target_fields(rt: HostRuntime) -> Result<(), Fail> {
+    let record = target(rt.alloc(), OwnedBuildTargetId::Library)?;
+    target_fields_hold(&rt, BuildTarget::new(&record));
     Ok(())
+}
+
+fn library_kind_holds(rt: &impl Abort, library: &BuildTargetKindRecord) {
+    let BuildTargetKind::LibraryOrExample([first, second]) = BuildTargetKind::new(library) else {
+        panic!(rt; "two crate types");
+    };
+    assert!(rt; first.as_str() == "cdylib");
+    assert!(rt; second.as_str() == "rlib");
+    assert!(rt; BuildTargetKind::new(library) == BuildTargetKind::new(library));
 }
 
 #[test]
 fn target_kinds(rt: HostRuntime) -> Result<(), Fail> {
-    let alloc = rt.alloc();
-    let mut types = Vec::new(alloc);
-    for crate_type in ["rlib", "cdylib", "rlib"] {
-        types.push(text(alloc, crate_type)?)?;
-    }
+    let types = texts(rt.alloc(), &["rlib", "cdylib", "rlib"])?;
     let library = BuildTargetKindRecord::LibraryOrExample(SortedSet::new(types));
-    let BuildTargetKind::LibraryOrExample([first, second]) = BuildTargetKind::new(&library) else {
-        panic!(rt; "two crate types");
-    };
-    assert_eq!(rt; first.as_str(), "cdylib");
-    assert_eq!(rt; second.as_str(), "rlib");
-    assert!(rt; BuildTargetKind::new(&library) == BuildTargetKind::new(&library));
-    assert!(rt;
-        BuildTargetKind::new(&BuildTargetKindRecord::ProcMacro) == BuildTargetKind::ProcMacro
-    );
-    assert!(rt; BuildTargetKind::new(&BuildTargetKindRecord::Binary) == BuildTargetKind::Binary);
+    library_kind_holds(&rt, &library);
+    let kind = BuildTargetKind::new(&BuildTargetKindRecord::ProcMacro);
+    assert!(rt; kind == BuildTargetKind::ProcMacro);
+    let kind = BuildTargetKind::new(&BuildTargetKindRecord::Binary);
+    assert!(rt; kind == BuildTargetKind::Binary);
     Ok(())
 }

@@ -1,0 +1,350 @@
+//! Runs of the program on answers and faults known from outside, and on devices that fail.
+ghost use Rattle.std.specs.Prelude.{◌≡◌, false};
+
+use crate::devices::{Feed, Paper};
+use guppy_input::device::{Sink, Source};
+use guppy_program::run::run;
+use std::alloc::{AllocError, Global};
+use std::process::Abort;
+use std::test::Fail;
+
+fn words_of(alloc: Global, line: &str) -> Result<Vec<String>, AllocError> {
+    let mut words = Vec::new(alloc);
+    for word in line.split(' ') {
+        words.push(String::from_str(alloc, word)?)?;
+    }
+    Ok(words)
+}
+
+// The text of the program's fault, if it has one, and its status.
+fn fault_of(
+    alloc: Global,
+    args: &[String],
+    reader: &mut Feed<'_>,
+    writer: &mut Paper,
+) -> Result<(String, u8), AllocError>
+    requires input_works { reader.old.failed ≡ false }
+    requires output_works { writer.old.failed ≡ false }
+{
+    match run(alloc, args, reader, writer) {
+        Ok(()) => Ok((String::new(alloc), 0)),
+        Err(fault) => {
+            let status = fault.status();
+            Ok((fault.to_string(alloc)?, status))
+        }
+    }
+}
+
+// What is written, the fault's text and the status are these, and a device has failed exactly where the
+// fault blames it.
+fn assert_run(
+    rt: &impl Abort,
+    alloc: Global,
+    case: &str,
+    line: &str,
+    mut reader: Feed<'_>,
+    mut writer: Paper,
+    output: &[u8],
+    fault: &str,
+    status: u8,
+) -> Result<(), AllocError>
+    requires input_works { reader.failed ≡ false }
+    requires output_works { writer.failed ≡ false }
+{
+    let args = words_of(alloc, line)?;
+    let (told, ended) = fault_of(alloc, &args, &mut reader, &mut writer)?;
+    assert_eq!(rt; told.as_str(), fault, "{case}: {line}");
+    assert_eq!(rt; ended, status, "{case}: {line}");
+    assert_eq!(rt; writer.bytes(), output, "{case}: {line}");
+    assert_eq!(rt; reader.failed(), fault == "input failed", "{case}: {line}");
+    assert_eq!(rt; writer.failed(), fault == "output failed", "{case}: {line}");
+    Ok(())
+}
+
+// More reads and writes than any run here takes, and a piece that holds each input.
+const MANY: usize = 9999;
+
+const FIRST: &[u8] = b"package a\npackage b\npackage c\nlink a b normal\n";
+
+const NO_LAST_NEWLINE: &[u8] = b"package a\n\npackage b\nlink a b dev";
+
+const BACKS: &[u8] = b"package D\npackage C\npackage B\npackage A\n\
+    link A B normal\nlink B A dev\nlink B C normal\nlink C D normal\nlink D C dev\n";
+
+const CYCLIC_ROOTS: &[u8] = b"package a\npackage b\npackage c\n\
+    link a b normal\nlink b a dev\nlink a a dev\nlink a c build\n";
+
+const CHAIN: &[u8] = b"package a\npackage b\npackage c\nlink a b normal\nlink b c normal\n";
+
+const LOOP: &[u8] = b"package r\npackage a\npackage b\npackage c\n\
+    link r a normal\nlink a c normal\nlink c b normal\nlink b a normal\n";
+
+const TWO_SPACES: &[u8] = b"package a\npackage  b\n";
+
+// Case, command line, input, and what is printed.
+const ANSWERS: [(&str, &str, &[u8], &str); 30] = [
+    ("first_run", "reach forward a", FIRST, "a\nb\n"),
+    (
+        "no_last_newline",
+        "reach forward a",
+        NO_LAST_NEWLINE,
+        "a\nb\n",
+    ),
+    ("first_depends", "depends a c", FIRST, "false\n"),
+    ("first_depends", "depends a b", FIRST, "true\n"),
+    (
+        "link_before_packages",
+        "depends a b",
+        b"link a b dev\npackage a\npackage b\n",
+        "true\n",
+    ),
+    ("repeated_arguments", "reach forward b a a", FIRST, "a\nb\n"),
+    ("command_to_come", "reach reverse b", FIRST, "a\nb\n"),
+    ("four_with_dev_backs", "order", BACKS, "A\nB\nC\nD\n"),
+    ("four_with_dev_backs", "cycles", BACKS, "A B\nC D\n"),
+    (
+        "dev_link_orders",
+        "order",
+        b"package Y\npackage X\nlink X Y dev\n",
+        "X\nY\n",
+    ),
+    ("no_cycle", "cycles", FIRST, ""),
+    ("empty_graph", "order", b"", ""),
+    ("empty_graph", "roots forward", b"", ""),
+    ("empty_graph", "roots reverse", b"", ""),
+    ("empty_graph", "links forward", b"", ""),
+    ("empty_graph", "links reverse", b"", ""),
+    ("empty_graph", "cycles", b"", ""),
+    (
+        "self_links",
+        "cycles",
+        b"package a\npackage b\nlink a a dev\nlink a b normal\nlink b b build\n",
+        "a\nb\n",
+    ),
+    ("cyclic_roots", "roots forward", CYCLIC_ROOTS, "a\nb\n"),
+    ("cyclic_roots", "roots reverse", CYCLIC_ROOTS, "c\n"),
+    ("links_of_a_chain", "links forward", CHAIN, "a b\nb c\n"),
+    ("links_of_a_chain", "links reverse", CHAIN, "b c\na b\n"),
+    (
+        "links_of_a_loop",
+        "links forward",
+        LOOP,
+        "r a\na c\nc b\nb a\n",
+    ),
+    ("verify", "verify", FIRST, "ok\n"),
+    ("verify", "verify", BACKS, "ok\n"),
+    ("verify", "verify", b"", "ok\n"),
+    (
+        "wrong_bytes",
+        "reach forward a\r",
+        b"package a\r\r\n",
+        "a\r\n",
+    ),
+    (
+        "wrong_bytes",
+        "depends a\r a\r",
+        b"package a\r\r\n",
+        "true\n",
+    ),
+    ("wrong_bytes", "reach forward a\r", b"package a\r", "a\r\n"),
+    ("wrong_bytes", "depends a\r a\r", b"package a\r", "true\n"),
+];
+
+// Runs each case on devices that work. Its text is what is printed where the status is 0, else the fault's.
+fn assert_all(
+    rt: &impl Abort,
+    alloc: Global,
+    cases: &[(&str, &str, &[u8], &str)],
+    status: u8,
+) -> Result<(), AllocError> {
+    for &(case, line, input, text) in cases {
+        let (output, fault) = if status == 0 { (text, "") } else { ("", text) };
+        let reader = Feed::new(input, MANY, MANY);
+        let writer = Paper::new(alloc, MANY, MANY);
+        assert_run(
+            rt,
+            alloc,
+            case,
+            line,
+            reader,
+            writer,
+            output.as_bytes(),
+            fault,
+            status,
+        )?;
+    }
+    Ok(())
+}
+
+#[test]
+fn answers(rt: HostRuntime) -> Result<(), Fail> {
+    assert_all(&rt, rt.alloc(), &ANSWERS, 0)?;
+    Ok(())
+}
+
+// Case, command line, input, and the text of the library's fault.
+const REFUSED: [(&str, &str, &[u8], &str); 5] = [
+    (
+        "no_last_newline",
+        "reach forward a z",
+        NO_LAST_NEWLINE,
+        "unknown package ID: z",
+    ),
+    (
+        "program_faults",
+        "depends a a",
+        b"package a\npackage a\n",
+        "failed to construct package graph: repeated package ID at package 1",
+    ),
+    ("no_input", "depends a b", b"", "unknown package ID: a"),
+    (
+        "first_fault_first",
+        "depends a a",
+        b"package a\npackage a\nlink a z normal\n",
+        "failed to construct package graph: repeated package ID at package 1",
+    ),
+    (
+        "program_repeated_path",
+        "depends a a",
+        b"package a\npackage a/\n",
+        "failed to construct package graph: repeated workspace path at package 1",
+    ),
+];
+
+// Case, command line, input, and the text of the fault of the arguments or a line.
+const MISREAD: [(&str, &str, &[u8], &str); 30] = [
+    ("program_faults", "depends a b", TWO_SPACES, "bad line 2"),
+    ("program_faults", "depends a", TWO_SPACES, "bad arguments"),
+    (
+        "command_to_come",
+        "reach backward b",
+        FIRST,
+        "bad arguments",
+    ),
+    ("command_to_come", "reach reverse", FIRST, "bad arguments"),
+    ("command_to_come", "reach forward", FIRST, "bad arguments"),
+    ("command_to_come", "depends a b c", FIRST, "bad arguments"),
+    ("command_to_come", "order a", FIRST, "bad arguments"),
+    ("command_to_come", "roots", FIRST, "bad arguments"),
+    ("command_to_come", "roots backward", FIRST, "bad arguments"),
+    ("command_to_come", "roots forward a", FIRST, "bad arguments"),
+    ("command_to_come", "links", FIRST, "bad arguments"),
+    ("command_to_come", "links backward", FIRST, "bad arguments"),
+    ("command_to_come", "links reverse a", FIRST, "bad arguments"),
+    ("command_to_come", "cycles a", FIRST, "bad arguments"),
+    ("command_to_come", "verify a", FIRST, "bad arguments"),
+    ("command_to_come", "", FIRST, "bad arguments"),
+    (
+        "wrong_bytes",
+        "reach forward a",
+        b"\n\r\nlink a\n",
+        "bad line 3",
+    ),
+    (
+        "wrong_bytes",
+        "depends a a",
+        b"\n\r\nlink a\n",
+        "bad line 3",
+    ),
+    (
+        "wrong_bytes",
+        "reach forward a",
+        b" package a\n",
+        "bad line 1",
+    ),
+    ("wrong_bytes", "depends a a", b" package a\n", "bad line 1"),
+    ("wrong_bytes", "reach forward a", b"package\n", "bad line 1"),
+    ("wrong_bytes", "depends a a", b"package\n", "bad line 1"),
+    (
+        "wrong_bytes",
+        "reach forward a",
+        b"package a b\n",
+        "bad line 1",
+    ),
+    ("wrong_bytes", "depends a a", b"package a b\n", "bad line 1"),
+    ("wrong_bytes", "reach forward a", b"pack", "bad line 1"),
+    ("wrong_bytes", "depends a a", b"pack", "bad line 1"),
+    (
+        "wrong_bytes",
+        "reach forward a",
+        b"package \xff\n",
+        "bad line 1",
+    ),
+    (
+        "wrong_bytes",
+        "depends a a",
+        b"package \xff\n",
+        "bad line 1",
+    ),
+    (
+        "wrong_bytes",
+        "reach forward a",
+        b"package a\npackage b\nlink a b Normal\n",
+        "bad line 3",
+    ),
+    (
+        "wrong_bytes",
+        "depends a a",
+        b"package a\npackage b\nlink a b Normal\n",
+        "bad line 3",
+    ),
+];
+
+#[test]
+fn faults(rt: HostRuntime) -> Result<(), Fail> {
+    assert_all(&rt, rt.alloc(), &REFUSED, 1)?;
+    assert_all(&rt, rt.alloc(), &MISREAD, 2)?;
+    Ok(())
+}
+
+// Runs `reach forward a` on devices that move pieces of so many bytes, and fail after so many reads or
+// writes.
+fn assert_fails(
+    rt: &impl Abort,
+    alloc: Global,
+    input: &[u8],
+    moves: [usize; 3],
+    output: &[u8],
+    fault: &str,
+    status: u8,
+) -> Result<(), AllocError> {
+    let [piece, reads, writes] = moves;
+    let reader = Feed::new(input, piece, reads);
+    let writer = Paper::new(alloc, piece, writes);
+    assert_run(
+        rt,
+        alloc,
+        "failing_devices",
+        "reach forward a",
+        reader,
+        writer,
+        output,
+        fault,
+        status,
+    )
+}
+
+#[test]
+fn failing_devices(rt: HostRuntime) -> Result<(), Fail> {
+    let alloc = rt.alloc();
+    let printed = b"a\nb\n".as_slice();
+    assert_fails(&rt, alloc, FIRST, [1, MANY, MANY], printed, "", 0)?;
+    // 10 pieces of 5 bytes, and the end.
+    for reads in 0..11 {
+        assert_fails(&rt, alloc, FIRST, [5, reads, MANY], b"", "input failed", 2)?;
+    }
+    // After a bad line.
+    assert_fails(&rt, alloc, b"pack\n", [5, 1, MANY], b"", "input failed", 2)?;
+    for writes in 0..4 {
+        assert_fails(
+            &rt,
+            alloc,
+            FIRST,
+            [1, MANY, writes],
+            &printed[..writes],
+            "output failed",
+            2,
+        )?;
+    }
+    Ok(())
+}
