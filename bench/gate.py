@@ -1,0 +1,106 @@
+#!/usr/bin/env python3
+"""Measures what the parts of the merge gate cost: for each crate its proof, the proof of its tests, and each of
+its must-fail edits, in processor seconds at one job.
+
+    bench/gate.py               every crate, lowest first
+    bench/gate.py guppy_core    these crates alone, with the proofs of those below them
+    bench/gate.py --edits guppy_core    the edits alone, over what `rt check` kept in out/
+
+It calls the functions of `rt` (which has to be on the path) that the gate calls, one after the other, so the
+sum is the gate's, but for the runs of the program and the tests. Without --edits it proves everything from nothing,
+and works on a copy of the repository.
+"""
+import importlib.machinery
+import importlib.util
+import os
+import resource
+import shutil
+import sys
+import tempfile
+
+sys.dont_write_bytecode = True
+TOP = os.path.dirname(os.path.dirname(os.path.realpath(__file__)))
+ONE_JOB = ["--jobs", "1"]
+
+
+def load_rt():
+    path = shutil.which("rt")
+    if not path:
+        sys.exit("gate.py: rt is not on the path")
+    loader = importlib.machinery.SourceFileLoader("rt", os.path.realpath(path))
+    module = importlib.util.module_from_spec(importlib.util.spec_from_loader("rt", loader))
+    loader.exec_module(module)
+    return module
+
+
+def seconds_of(call, *given):
+    """Returns what the call answers, and the processor seconds of the commands that it ran."""
+    def spent():
+        used = resource.getrusage(resource.RUSAGE_CHILDREN)
+        return used.ru_utime + used.ru_stime
+
+    before = spent()
+    answer = call(*given)
+    return answer, spent() - before
+
+
+def tell(part, name, seconds, well, more=""):
+    print(f"{seconds:8.1f}  {part:6} {name}{'' if well else '  FAILED'}{more}", flush=True)
+
+
+def measure_edits(rt, crate, kept):
+    edits = rt.edits_of(crate)[0]
+    kept = kept if len(edits) > 1 else None
+    whole = 0.0
+    for edit in edits:
+        (refused, text), seconds = seconds_of(rt.must_fail, crate, edit, ONE_JOB, kept)
+        whole += seconds
+        name = f"{crate.name}/{os.path.basename(edit)}"
+        tell("edit", name, seconds, refused, "" if refused else f": {text}")
+    return whole
+
+
+def measure(rt, crate, edits_alone):
+    if edits_alone:
+        kept = f"{crate.folder}/out/incremental"
+        with tempfile.TemporaryDirectory() as room:
+            copy = f"{room}/kept"
+            shutil.copytree(kept, copy)
+            return measure_edits(rt, crate, copy)
+    status, whole = seconds_of(crate.ci, ONE_JOB, False)
+    tell("proof", crate.name, whole, not status)
+    if crate.has_tests():
+        status, seconds = seconds_of(crate.ci, ONE_JOB, True)
+        tell("tests", crate.name, seconds, not status)
+        whole += seconds
+    with tempfile.TemporaryDirectory() as kept:
+        return whole + measure_edits(rt, crate, kept)
+
+
+def main(words):
+    edits_alone = "--edits" in words
+    names = [word for word in words if word != "--edits"]
+    rt = load_rt()
+    with tempfile.TemporaryDirectory() as room:
+        top = TOP
+        if not edits_alone:
+            top = f"{room}/copy"
+            shutil.copytree(TOP, top, ignore=shutil.ignore_patterns("out", ".git"))
+        os.chdir(top)
+        rt.rtlib.guarded()
+        rt.Crate.cuts_libraries = not edits_alone
+        rt.rtlib.Crate = rt.Crate
+        crates = sorted(rt.rtlib.crates_below(top), key=lambda crate: len(crate.below()))
+        wanted = [crate for crate in crates if not names or crate.name in names]
+        whole = 0.0
+        for crate in crates:
+            os.makedirs(f"{crate.folder}/out", exist_ok=True)
+            crate.out = open(f"{crate.folder}/out/gate.log", "w")
+            if crate in wanted:
+                whole += measure(rt, crate, edits_alone)
+            elif not edits_alone and any(crate in above.below() for above in wanted):
+                crate.ci(ONE_JOB, False)
+    print(f"{whole:8.1f}  processor seconds in all")
+
+
+main(sys.argv[1:])
