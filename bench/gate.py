@@ -4,6 +4,7 @@ its must-fail edits, in processor seconds at one job.
 
     bench/gate.py               every crate, lowest first
     bench/gate.py guppy_core    these crates alone, with the proofs of those below them
+    bench/gate.py --proofs guppy_core   the same without the edits
     bench/gate.py --edits guppy_core    the edits alone, over what `rt check` kept in out/
 
 It calls the functions of `rt` (which has to be on the path) that the gate calls, one after the other, so the
@@ -60,8 +61,8 @@ def measure_edits(rt, crate, kept):
     return whole
 
 
-def measure(rt, crate, edits_alone):
-    if edits_alone:
+def measure(rt, crate, parts):
+    if parts == "--edits":
         kept = f"{crate.folder}/out/incremental"
         with tempfile.TemporaryDirectory() as room:
             copy = f"{room}/kept"
@@ -73,13 +74,15 @@ def measure(rt, crate, edits_alone):
         status, seconds = seconds_of(crate.ci, ONE_JOB, True)
         tell("tests", crate.name, seconds, not status)
         whole += seconds
+    if parts == "--proofs":
+        return whole
     with tempfile.TemporaryDirectory() as kept:
         return whole + measure_edits(rt, crate, kept)
 
 
 def main(words):
-    edits_alone = "--edits" in words
-    names = [word for word in words if word != "--edits"]
+    parts = words.pop(0) if words and words[0] in ("--proofs", "--edits") else ""
+    names, edits_alone = words, parts == "--edits"
     rt = load_rt()
     with tempfile.TemporaryDirectory() as room:
         top = TOP
@@ -97,7 +100,7 @@ def main(words):
             os.makedirs(f"{crate.folder}/out", exist_ok=True)
             crate.out = open(f"{crate.folder}/out/gate.log", "w")
             if crate in wanted:
-                whole += measure(rt, crate, edits_alone)
+                whole += measure(rt, crate, parts)
             elif not edits_alone and any(crate in above.below() for above in wanted):
                 crate.ci(ONE_JOB, False)
     print(f"{whole:8.1f}  processor seconds in all")
