@@ -6,10 +6,14 @@ its must-fail edits, in processor seconds at one job.
     bench/gate.py guppy_core    these crates alone, with the proofs of those below them
     bench/gate.py --proofs guppy_core   the same without the edits
     bench/gate.py --edits guppy_core    the edits alone, over what `rt check` kept in out/
+    bench/gate.py --bugs guppy_core     the same, with each bug of a shared edit by itself
 
 It calls the functions of `rt` (which has to be on the path) that the gate calls, one after the other, so the
-sum is the gate's, but for the runs of the program and the tests. Without --edits it proves everything from nothing,
-and works on a copy of the repository.
+sum is the gate's, but for the runs of the program and the tests. Without --edits and --bugs it proves everything
+from nothing, and works on a copy of the repository.
+
+Of an edit that is shared, the gate asks that the whole is refused; --bugs asks it of each bug. A line `bug: NAME` begins
+a bug that takes all pairs up to the next blank line; any other pair is a bug alone.
 """
 import importlib.machinery
 import importlib.util
@@ -22,6 +26,8 @@ import tempfile
 sys.dont_write_bytecode = True
 TOP = os.path.dirname(os.path.dirname(os.path.realpath(__file__)))
 ONE_JOB = ["--jobs", "1"]
+EDITS_ALONE = ("--edits", "--bugs")
+SHARED = "a_bug_in_each_call.edit"
 
 
 def load_rt():
@@ -49,11 +55,80 @@ def tell(part, name, seconds, well, more=""):
     print(f"{seconds:8.1f}  {part:6} {name}{'' if well else '  FAILED'}{more}", flush=True)
 
 
-def measure_edits(rt, crate, kept):
+class Bug:
+    """A bug of a shared edit: its name, and its pairs as (path, old, new)."""
+
+    def __init__(self, name):
+        self.name, self.pairs = name, []
+
+    def changes_nothing(self):
+        """Holds of a pair that only moves spaces, so that a later pair's text is found once."""
+        return all(old.split() == new.split() or "".join(old.split()) == "".join(new.split()) for _, old, new in self.pairs)
+
+
+def bugs_of(text):
+    """Cuts a shared edit into its bugs."""
+    bugs, named, path, old = [], None, "", ""
+    for line in text.split("\n"):
+        word, _, rest = line.partition(" ")
+        if not line:
+            named = None
+        elif word == "bug:":
+            named = Bug(rest)
+            bugs.append(named)
+        elif word == "file:":
+            path = rest.strip()
+        elif word == "old:":
+            old = rest
+        elif word == "new:":
+            bug = named
+            if not bug:
+                bug = Bug(f"{path}: {old.strip()}")
+                bugs.append(bug)
+            bug.pairs.append((path, old, rest))
+    return bugs
+
+
+def lines_with(folder, bugs, wanted):
+    """Returns the files' texts with one bug alone. A pair is found in what those before it made of the text, and its line changed."""
+    found, texts = {}, {}
+    for bug in bugs:
+        for path, old, new in bug.pairs:
+            if path not in found:
+                with open(f"{folder}/{path}", encoding="utf-8") as it:
+                    found[path] = it.read()
+                texts[path] = found[path].split("\n")
+            at = found[path][: found[path].index(old)].count("\n")
+            found[path] = found[path].replace(old, new)
+            if bug is wanted:
+                texts[path][at] = texts[path][at].replace(old, new, 1)
+    return {path: "\n".join(texts[path]) for path, _, _ in wanted.pairs}
+
+
+def measure_bugs(rt, crate, edit, kept):
+    """Tries each bug of an edit by itself, as the gate tries an edit."""
+    with open(edit, encoding="utf-8") as it:
+        bugs = bugs_of(it.read())
+    read_edit, whole = rt.read_edit, 0.0
+    for bug in bugs:
+        if bug.changes_nothing():
+            continue
+        rt.read_edit = lambda _edit, folder: (lines_with(folder, bugs, bug), None)
+        (refused, text), seconds = seconds_of(rt.must_fail, crate, bug.name, ONE_JOB, kept)
+        whole += seconds
+        tell("bug", f"{crate.name}: {bug.name}", seconds, refused, "" if refused else f": {text}")
+    rt.read_edit = read_edit
+    return whole
+
+
+def measure_edits(rt, crate, kept, each_bug=False):
     edits = rt.edits_of(crate)[0]
     kept = kept if len(edits) > 1 else None
     whole = 0.0
     for edit in edits:
+        if each_bug and os.path.basename(edit) == SHARED:
+            whole += measure_bugs(rt, crate, edit, kept)
+            continue
         (refused, text), seconds = seconds_of(rt.must_fail, crate, edit, ONE_JOB, kept)
         whole += seconds
         name = f"{crate.name}/{os.path.basename(edit)}"
@@ -62,12 +137,12 @@ def measure_edits(rt, crate, kept):
 
 
 def measure(rt, crate, parts):
-    if parts == "--edits":
+    if parts in EDITS_ALONE:
         kept = f"{crate.folder}/out/incremental"
         with tempfile.TemporaryDirectory() as room:
             copy = f"{room}/kept"
             shutil.copytree(kept, copy)
-            return measure_edits(rt, crate, copy)
+            return measure_edits(rt, crate, copy, parts == "--bugs")
     status, whole = seconds_of(crate.ci, ONE_JOB, False)
     tell("proof", crate.name, whole, not status)
     if crate.has_tests():
@@ -81,8 +156,8 @@ def measure(rt, crate, parts):
 
 
 def main(words):
-    parts = words.pop(0) if words and words[0] in ("--proofs", "--edits") else ""
-    names, edits_alone = words, parts == "--edits"
+    parts = words.pop(0) if words and words[0] in ("--proofs", *EDITS_ALONE) else ""
+    names, edits_alone = words, parts in EDITS_ALONE
     rt = load_rt()
     with tempfile.TemporaryDirectory() as room:
         top = TOP
