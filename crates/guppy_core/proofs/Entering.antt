@@ -22,6 +22,14 @@ pub record EnteringFrom {E : Type 0} (keep : E → Bool) (links : List (Link E))
   pub complete : (k y : ℕ) → k < i → LinkTo Forward keep links x k y → (x ≡ y → ⊥) → IsIn s' y
 
 module _ {E : Type 0} (keep : E → Bool) (links : List (Link E)) (n x : ℕ) (s : List Bool) where
+  pub from_none : length s ≡ n → EnteringFrom keep links n x s 0 s
+  from_none is = record {
+    limit_is = is;
+    grows = λ p i. i;
+    sound = λ p i. inl i;
+    complete = λ k y below l apart. absurd (omega arith);
+  }
+
   module _ (i : ℕ) (s' : List Bool) (m : EnteringFrom keep links n x s i s') where
     -- the next link is not kept, or leads back to x
     pub from_skipped : ((y : ℕ) → LinkTo Forward keep links x i y → (x ≡ y → ⊥) → ⊥) → EnteringFrom keep links n x s (i + 1) s'

@@ -1,12 +1,14 @@
 -- A list cut into parts.
-use Rattle.std.proofs.Common.{◌≡◌, ℕ, suc, ◌+◌, ◌-◌, ◌<◌, ◌≤◌, List, [], ◌∷◌, ◌++◌, length, get_or, take, drop, refl, sym, ap, ◌∙◌, subst, length-append, arith, ⊎_elim}
-use Rattle.std.specs.Prelude.{slice_index, map}
+use Rattle.std.proofs.Common.{◌≡◌, ℕ, suc, ◌+◌, ◌-◌, ◌<◌, ◌≤◌, List, [], ◌∷◌, ◌++◌, length, get_or, take, drop, refl, sym, ap, ◌∙◌, subst, length-append, arith, ⊎_elim, None}
+use Rattle.std.specs.Prelude.{slice_index, slice_get, map}
 use Rattle.std.specs.List.{slice_range, concat}
 use Rattle.std.proofs.lemmas.Bool.{cases_lt}
-use Rattle.std.proofs.lemmas.List.{take_more, map_push, take-map, drop-map, append-nil, take-append-le, drop-append-le, length-drop, get_or_append_left, get_or_default}
+use Rattle.std.proofs.lemmas.List.{take_more, map_push, take-map, drop-map, append-nil, take-append-le, drop-append-le, length-drop, get_or_append_left, get_or_default, get_or_push, length_push}
+use Rattle.std.proofs.lemmas.Option.{slice_get-get_or}
 use Rattle.std.specs.declared.vec.Vec.{Vec}
 use Rattle.std.specs.declared.alloc.Global.{Global}
 use Rattle.std.proofs.lemmas.List.Folds.{concat-append}
+use Rattle.guppy_search.proofs.Lists.{no_items}
 use Rattle.guppy_core.specs.Held.{items_of}
 use Rattle.guppy_core.specs.Sccs.{parts, parts_from, AreBounds, IsCut}
 
@@ -122,3 +124,40 @@ module _ (xs : List ℕ) where
 
 pub bounds_tail : (a : ℕ) (bounds rest : List ℕ) (n : ℕ) → bounds ≡ a ∷ rest → AreBounds bounds n → AreBounds rest n
 bounds_tail a bounds rest n e up = bounds_rest a rest n (subst (λ b. AreBounds b n) e up)
+
+pub no_parts : (xs bounds : List ℕ) → length bounds ≤ 1 → parts bounds xs ≡ []
+no_parts xs bounds few = no_items (parts bounds xs) (let e = length-parts xs bounds in omega arith)
+
+none_at : (xs : List ℕ) (i : ℕ) → None ≡ slice_get xs i → length xs ≤ i
+none_at xs i e = ⊎_elim (λ less. absurd (let some = slice_get-get_or xs i 0 less in cc)) (λ ge. ge) (cases_lt i (length xs))
+
+-- where one bound alone is left, at the front or at the end, there is no part
+pub no_parts-front : (xs : List ℕ) (a : ℕ) (bounds rest : List ℕ) → bounds ≡ a ∷ rest → None ≡ slice_get rest 0 → parts bounds xs ≡ []
+no_parts-front xs a bounds rest e none = rw e (no_parts xs (a ∷ rest) (let few = none_at rest 0 none in omega arith))
+
+pub no_parts-end : (xs : List ℕ) (b : ℕ) (bounds rest : List ℕ) → bounds ≡ rest ++ b ∷ [] → None ≡ slice_get rest (length rest - 1) → parts bounds xs ≡ []
+no_parts-end xs b bounds rest e none = rw e (no_parts xs (rest ++ b ∷ []) (let few = none_at rest (length rest - 1) none in let l = length_push rest b in omega arith))
+
+-- the first part is within the list
+pub bounds_first : (a b : ℕ) (bounds rest : List ℕ) (n : ℕ) → bounds ≡ a ∷ rest → 0 < length rest → b ≡ get_or rest 0 b → AreBounds bounds n → (a ≤ b) × (b ≤ n)
+bounds_first a b bounds [] n e some b_is up = absurd (omega arith)
+bounds_first a b bounds (c ∷ rest) n e some b_is up =
+    let first = subst (λ l. AreBounds l n) e up 0 (omega arith) in
+    rw b_is first
+
+-- and the last
+pub bounds_last : (a b : ℕ) (bounds rest : List ℕ) (n : ℕ) → bounds ≡ rest ++ b ∷ [] → 0 < length rest → a ≡ get_or rest (length rest - 1) a → AreBounds bounds n → (a ≤ b) × (b ≤ n)
+bounds_last a b bounds rest n e some a_is up =
+    let k = length rest - 1 in
+    let k_is : k + 1 ≡ length rest = omega arith in
+    let last = subst (λ l. AreBounds l n) e up k (let l = length_push rest b in omega arith) in
+    let a_at : a ≡ get_or (rest ++ b ∷ []) k 0 = a_is ∙ (get_or_default rest k a 0 (omega arith) ∙ sym (get_or_append_left rest (b ∷ []) 0 k (omega arith))) in
+    let b_at : get_or (rest ++ b ∷ []) (k + 1) 0 ≡ b = get_or_push rest b 0 (k + 1) (sym k_is) in
+    (omega arith, omega arith)
+
+pub bounds_front : (b : ℕ) (bounds rest : List ℕ) (n : ℕ) → bounds ≡ rest ++ b ∷ [] → AreBounds bounds n → AreBounds rest n
+bounds_front b bounds rest n e up c h =
+    let next = subst (λ l. AreBounds l n) e up c (let l = length_push rest b in omega arith) in
+    let low = get_or_append_left rest (b ∷ []) 0 c (omega arith) in
+    let high = get_or_append_left rest (b ∷ []) 0 (c + 1) h in
+    (omega arith, omega arith)

@@ -58,3 +58,41 @@ pub returns-clause-marked : goal.returns-clause-marked
 returns-clause-marked g c =
     let all : degree {E = g.row.G-Edge.Denot} c.args.direction c.args.graph.now.links c.args.position ≤ c.loop-number.number-index = rw (← c.links_at-number-items.ensures.links) c.loop-number-test.false in
     from_all c.args.direction c.args.graph.now.links c.args.numbers.now c.args.set.now c.args.position c.args.entered.now.items c.loop-number.number-index c.loop-number.entered.items c.loop-number.invariant all
+
+pub bounds-numbers-position : goal.bounds-numbers-position
+bounds-numbers-position g c = rw c.requires.numbers c.requires.position
+
+pub links_at-number-items-requires : goal.links_at-number-items-requires
+links_at-number-items-requires g c = c.requires.position
+
+pub bounds-number-items-number-index : goal.bounds-number-items-number-index
+bounds-number-items-number-index g c = c.loop-number-test.true
+
+pub bounds-numbers-far : goal.bounds-numbers-far
+bounds-numbers-far g c =
+    let links = c.args.graph.now.links in
+    let below = far_end_below c.args.direction links (length c.args.graph.now.nodes) (get_or c.links_at-number-items.result.now c.loop-number.number-index 0) c.link.result.now c.link.ensures.link c.link.ensures.graph.ends in
+    let count = c.requires.numbers in
+    let far = c.far_end-far.ensures in
+    omega arith
+
+pub bounds-numbers-far-then-numbers-far : goal.bounds-numbers-far-then-numbers-far
+bounds-numbers-far-then-numbers-far g c =
+    let links = c.args.graph.now.links in
+    let below = far_end_below c.args.direction links (length c.args.graph.now.nodes) (get_or c.links_at-number-items.result.now c.loop-number.number-index 0) c.link.result.now c.link.ensures.link c.link.ensures.graph.ends in
+    let count = c.requires.numbers in
+    let far = c.far_end-far.ensures in
+    omega arith
+
+pub index_mut-requires : goal.index_mut-requires
+index_mut-requires g c =
+    let links = c.args.graph.now.links in
+    let below = far_end_below c.args.direction links (length c.args.graph.now.nodes) (get_or c.links_at-number-items.result.now c.loop-number.number-index 0) c.link.result.now c.link.ensures.link c.link.ensures.graph.ends in
+    let count = c.requires.numbers in
+    let far = c.far_end-far.ensures in
+    let number = c.requires.below c.far_end-far.result 0 (omega arith) in
+    let size = c.loop-number.invariant.size in
+    omega arith
+
+pub returns-clause-count : goal.returns-clause-count
+returns-clause-count g c = c.loop-number.invariant.size

@@ -1,7 +1,7 @@
-use Rattle.std.proofs.Common.{◌∷◌, length, sym, ◌∙◌, ap}
+use Rattle.std.proofs.Common.{◌≡◌, ◌<◌, ◌-◌, [], ◌∷◌, length, sym, ◌∙◌, ap, arith}
 use Rattle.std.specs.Prelude.{map}
 use Rattle.guppy_core.specs.Sccs.{parts}
-use Rattle.guppy_core.proofs.Parts.{parts-first, range-map, bounds_tail}
+use Rattle.guppy_core.proofs.Parts.{parts-first, length-parts, no_parts, no_parts-front, range-map, bounds_first, bounds_tail}
 use Rattle.guppy_core.proofs.scc.iter.AllSccsIterator.next.Goals as goal
 
 pub invariant_of-self : goal.invariant_of-self
@@ -15,3 +15,33 @@ returns-clause-steps g c =
     let end = c.in_ok-end.field-0.now in
     let item = c.in_ok-end.ensures.item in
     sym c.self.view_is ∙ (parts-first (map f xs) c.self.inside.bounds.now start end c.in_ok-start.rest.now c.in_ok-start.ensures.cases.0 item.3.0 item.1 ∙ ap (λ z. z ∷ parts c.in_ok-start.rest.now (map f xs)) (range-map f xs start end))
+
+pub returns-in_err-start-clause-steps : goal.returns-in_err-start-clause-steps
+returns-in_err-start-clause-steps g c =
+    let none : c.args.self.now ≡ [] = sym c.self.view_is ∙ no_parts (map g.Ix.IndexType.index_of c.self.inside.positions.now) c.self.inside.bounds.now (let e = c.in_err-start.ensures.cases in omega arith) in
+    rw c.from_residual.ensures (none, none)
+
+pub returns-in_err-end-clause-steps : goal.returns-in_err-end-clause-steps
+returns-in_err-end-clause-steps g c =
+    let none : c.args.self.now ≡ [] = sym c.self.view_is ∙ no_parts-front (map g.Ix.IndexType.index_of c.self.inside.positions.now) _ _ _ c.in_ok-start.ensures.cases.0 c.in_err-end.ensures.value in
+    rw c.from_residual-in_err-end.ensures (none, none)
+
+pub slice_bounds-result-count : goal.slice_bounds-result-count
+slice_bounds-result-count g c =
+    let item = c.in_ok-end.ensures.item in
+    (bounds_first _ _ _ _ _ c.in_ok-start.ensures.cases.0 item.3.0 item.1 c.self.invariant).0
+
+pub slice_bounds-result-end : goal.slice_bounds-result-end
+slice_bounds-result-end g c =
+    let item = c.in_ok-end.ensures.item in
+    (bounds_first _ _ _ _ _ c.in_ok-start.ensures.cases.0 item.3.0 item.1 c.self.invariant).1
+
+pub returns-clause-goes : goal.returns-clause-goes
+returns-clause-goes g c =
+    let xs = map g.Ix.IndexType.index_of c.self.inside.positions.now in
+    let some = c.in_ok-end.ensures.item.3.0 in
+    let count = c.in_ok-start.ensures.cases.1 in
+    let old : length c.args.self.now ≡ length c.self.inside.bounds.now - 1 = ap length (sym c.self.view_is) ∙ length-parts xs c.self.inside.bounds.now in
+    let new = length-parts xs c.in_ok-start.rest.now in
+    let less : length (parts c.in_ok-start.rest.now xs) < length c.args.self.now = omega arith in
+    record { on = λ finite. (tt, tt, less); keeps = tt; rests = λ finite. tt }
