@@ -175,6 +175,9 @@ module _ {N E : Type 0} (d : DependencyDirection) (keep : E → Bool) (graph : G
           paid = let same = s.state.limit_is in let e = left_new 0 (degree d graph.links) seen (front ++ at_place f.position (f.next + 1) ∷ []) v new (omega arith) in let p = mid_paid in omega arith;
         }
 
+    pub looks_paid : (frames : List Frame) → Finishing d keep graph starts i bound looks seen frames order → looks ≤ bound
+    looks_paid frames s = let p = s.paid in omega arith
+
     pub finishing_positions : (frames : List Frame) → Finishing d keep graph starts i bound looks seen frames order → All (λ p. p < length graph.nodes) order
     finishing_positions frames s k e h =
         let t = s.state.heights.order_seen (get_or order k e) (k, slice_get-get_or order k e h) in

@@ -4,13 +4,16 @@ use Rattle.std.specs.Prelude.{slice_get, Contains, ◌==◌, All}
 use Rattle.std.specs.declared.vec.Vec.{Vec}
 use Rattle.std.specs.declared.alloc.Global.{Global}
 use Rattle.std.proofs.Math.ListN.{set, length-set}
-use Rattle.std.proofs.lemmas.List.{take_more, length-take-le, get_or-set_same, get_or_default, append-nil}
+use Rattle.std.proofs.lemmas.List.{take_more, length-take-le, get_or-set_same, get_or_default, get_or_append_left, get_or_push, length_push, append-nil}
 use Rattle.std.proofs.lemmas.Option.{slice_get_read, slice_get-get_or, slice_get_within}
-use Rattle.std.proofs.lemmas.Bool.{cases_Bool, eqb-true, eqb-false, eq-eqb}
+use Rattle.std.proofs.lemmas.Bool.{cases_Bool, cases_lt, eqb-true, eqb-false, eq-eqb}
 use Rattle.guppy_search.specs.declared.ix.direction.DependencyDirection.{DependencyDirection}
+use Rattle.guppy_search.specs.declared.ix.direction.DependencyDirection.TheVariants.{Forward, Reverse}
 use Rattle.guppy_search.specs.declared.graph_core.link.Link.{Link}
 use Rattle.guppy_search.specs.Stored.{RowsAre}
-use Rattle.guppy_search.specs.Links.{near_end, links_at}
+use Rattle.guppy_search.specs.Links.{near_end, links_at, EndsBelow}
+use Rattle.guppy_search.specs.Graph.{GraphValue, IsGraph}
+use Rattle.guppy_search.specs.Pairs.{SinglesBelow}
 use Rattle.guppy_search.proofs.Numbers.{number_passes, numbers_have, numbers_where-push}
 
 -- the number of a link with its near end at x
@@ -77,3 +80,37 @@ rows_push d count links i rows x at old new r within x_is at_is below old_is new
           r.row_is p row found' ∙ sym (longer p ∙ ap (λ b. links_at d (take i links) p ++ cond b (i ∷ []) []) fails ∙ append-nil _))
           (cases_Bool (at == p));
     }
+
+pub graph_of : {N E : Type 0} (nodes : List N) (links : List (Link E)) → length nodes ≤ 4294967295 → length links ≤ 4294967295 → All (EndsBelow (length nodes)) links → SinglesBelow links (length links) → IsGraph (let g : GraphValue N E = record { nodes = nodes; links = links } in g)
+graph_of nodes links few_nodes few_links ends singles = record {
+  few_nodes = omega arith;
+  few_links = omega arith;
+  ends = ends;
+  single = λ i j a b at at' same. singles i j a b (slice_get_within links i a at) (slice_get_within links j b at') at at' same;
+}
+
+-- no link, and a row with nothing at each position
+pub rows_none : {E : Type 0} (d : DependencyDirection) → (let none : List (Link E) = [] in RowsAre d 0 none [])
+rows_none d = record { count_is = refl; row_is = λ p row at. absurd (cc) }
+
+pub rows_none-push : {E : Type 0} (d : DependencyDirection) (count : ℕ) (rows : List (Vec ℕ Global)) (row : Vec ℕ Global) → (let none : List (Link E) = [] in RowsAre d count none rows) → row.items ≡ [] → (let none : List (Link E) = [] in RowsAre d (count + 1) none (rows ++ row ∷ []))
+rows_none-push d count rows row r empty = record {
+  count_is = let l = length_push rows row in let c = r.count_is in omega arith;
+  row_is = λ p v at. ⊎_elim
+      (λ less.
+      let old = slice_get-get_or rows p row less in
+      let now = slice_get-get_or (rows ++ row ∷ []) p row (slice_get_within (rows ++ row ∷ []) p v at) in
+      let same = get_or_append_left rows (row ∷ []) row p less in
+      let here : slice_get rows p ≡ Some v = cc in
+      r.row_is p v here)
+      (λ ge.
+      let within = slice_get_within (rows ++ row ∷ []) p v at in
+      let last : length rows ≡ p = let l = length_push rows row in omega arith in
+      let same : v ≡ row = let found = slice_get-get_or (rows ++ row ∷ []) p row within in let is = get_or_push rows row row p last in cc in
+      ap (λ (z : Vec ℕ Global). z.items) same ∙ empty)
+      (cases_lt p (length rows));
+}
+
+pub near_end_below : {E : Type 0} (d : DependencyDirection) (links : List (Link E)) (count i : ℕ) (x : Link E) → All (EndsBelow count) links → i < length links → x ≡ get_or links i x → near_end d x < count
+near_end_below {E} Forward links count i x ends within is = subst (λ (z : Link E). z.from < count) (sym is) (ends i x within).0
+near_end_below {E} Reverse links count i x ends within is = subst (λ (z : Link E). z.to < count) (sym is) (ends i x within).1

@@ -2,7 +2,7 @@ use Rattle.std.proofs.Common.{◌≡◌, ◌+◌, ◌<◌, [], length, refl, sym
 use Rattle.std.proofs.lemmas.Bool.{not-true, not-false}
 use Rattle.guppy_search.proofs.Exits.{if_ok}
 use Rattle.guppy_core.proofs.Costs.{degree, fits_below}
-use Rattle.guppy_core.proofs.Finishing.{looked_from, looked_below, finishing_first, start_old, start_new, finishing_below, look_paid, finishing_done, link_skipped, link_old, link_new, finishing_all, finishing_positions, inserted_old, smaller_done, smaller_step, smaller_new}
+use Rattle.guppy_core.proofs.Finishing.{looked_from, looked_below, looks_paid, finishing_first, start_old, start_new, finishing_below, look_paid, finishing_done, link_skipped, link_old, link_new, finishing_all, finishing_positions, inserted_old, smaller_done, smaller_step, smaller_new}
 use Rattle.guppy_search.specs.declared.ix.direction.DependencyDirection.TheVariants.{Forward}
 use Rattle.guppy_search.proofs.Lists.{no_items}
 use Rattle.guppy_core.proofs.topo.finish.finish_order.Goals.{then-insert_position+in_ok-push, else-insert_position, else-keep-via-then-keep+else-insert_position-2, else-keep-via-else-keep}
@@ -202,3 +202,51 @@ returns-in_err-push-4-clause-order g c = if_ok _ _ c.from_residual-in_err-push-4
 
 pub returns-in_err-push-4-clause-positions : goal.returns-in_err-push-4-clause-positions
 returns-in_err-push-4-clause-positions g c = if_ok _ _ c.from_residual-in_err-push-4.ensures.0
+
+pub returns-in_err-push-clause-looks : goal.returns-in_err-push-clause-looks
+returns-in_err-push-clause-looks g c = looks_paid Forward g.kept c.args.graph.now.graph c.args.starts.now _ _ _ _ _ _ c.loop-start.invariant.search
+
+pub returns-in_err-push-clause-graph : goal.returns-in_err-push-clause-graph
+returns-in_err-push-clause-graph g c = c.loop-start.invariant.graph
+
+pub returns-in_err-push-2-clause-looks : goal.returns-in_err-push-2-clause-looks
+returns-in_err-push-2-clause-looks g c =
+    let K = g.kept in
+    let graph = c.args.graph.now.graph in
+    let s = rw c.in-Some.ensures.items at c.loop-frame.invariant.search in
+    let len : c.leaving_at.result ≡ degree {E = g.row.G-Edge.Denot} Forward graph.links c.in-Some.frame.position = rw (← c.loop-frame.invariant.graph) c.leaving_at.ensures.count in
+    let more : c.in-Some.frame.next < degree {E = g.row.G-Edge.Denot} Forward graph.links c.in-Some.frame.position = rw (← len) c.if-frame-leaving_at.true in
+    rw c.look_at-number.ensures.counted (look_paid Forward K graph c.args.starts.now (c.loop-start.start-index + 1) (c.args.graph.now.looks + length graph.links) _ _ _ _ _ s more)
+
+pub returns-in_err-push-2-clause-graph : goal.returns-in_err-push-2-clause-graph
+returns-in_err-push-2-clause-graph g c = c.loop-frame.invariant.graph
+
+pub returns-in_err-push-3-clause-graph : goal.returns-in_err-push-3-clause-graph
+returns-in_err-push-3-clause-graph g c = c.loop-frame.invariant.graph
+
+pub returns-in_err-push-4-clause-looks : goal.returns-in_err-push-4-clause-looks
+returns-in_err-push-4-clause-looks g c = looks_paid Forward g.kept c.args.graph.now.graph c.args.starts.now _ _ _ _ _ _ c.loop-frame.invariant.search
+
+pub returns-in_err-push-4-clause-graph : goal.returns-in_err-push-4-clause-graph
+returns-in_err-push-4-clause-graph g c = c.loop-frame.invariant.graph
+
+pub insert_position-requires-clause-in_range : goal.insert_position-requires-clause-in_range
+insert_position-requires-clause-in_range g c = rw c.loop-start.invariant.search.state.limit_is (c.requires.1.1.1.1.1.0 c.loop-start.start-index 0 c.loop-start-test.true)
+
+pub insert_position-requires-clause-small : goal.insert_position-requires-clause-small
+insert_position-requires-clause-small g c =
+    let below = c.requires.1.1.1.1.1.0 c.loop-start.start-index 0 c.loop-start-test.true in
+    let few = c.node_count.ensures.graph.few_nodes in
+    omega arith
+
+pub look_at-number-requires-clause-place : goal.look_at-number-requires-clause-place
+look_at-number-requires-clause-place g c = rw (← c.leaving_at.ensures.count) c.if-frame-leaving_at.true
+
+pub loop-start-preserved : goal.loop-start-preserved
+loop-start-preserved g c = ?
+
+pub returns-clause-looks : goal.returns-clause-looks
+returns-clause-looks g c = looks_paid Forward g.kept c.args.graph.now.graph c.args.starts.now _ _ _ _ _ _ c.loop-start.invariant.search
+
+pub returns-clause-graph : goal.returns-clause-graph
+returns-clause-graph g c = c.loop-start.invariant.graph

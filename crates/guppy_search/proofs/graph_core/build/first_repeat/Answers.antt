@@ -1,10 +1,12 @@
-use Rattle.std.proofs.Common.{◌≡◌, ◌∙◌, length, refl, arith}
+use Rattle.std.proofs.Common.{◌≡◌, ◌∙◌, length, replicate, refl, ap, arith, rules}
+use Rattle.std.proofs.Math.ListN.{length-replicate}
 use Rattle.std.proofs.lemmas.List.{with_items_is}
 use Rattle.std.proofs.lemmas.Option.{slice_get_read}
 use Rattle.guppy_search.specs.declared.ix.direction.DependencyDirection.TheVariants.{Forward}
 use Rattle.guppy_search.specs.Links.{links_at}
+use Rattle.guppy_search.proofs.Exits.{if_ok}
 use Rattle.guppy_search.proofs.Rows.{row_within}
-use Rattle.guppy_search.proofs.Repeats.{scanned_apart, scanned_again, scanned_all}
+use Rattle.guppy_search.proofs.Repeats.{scanned_none, scanned_apart, scanned_again, scanned_all}
 use Rattle.guppy_search.proofs.graph_core.build.first_repeat.Goals.{in-Some, in_default}
 use Rattle.guppy_search.proofs.graph_core.build.first_repeat.Goals as goal
 
@@ -37,3 +39,19 @@ loop-position-preserved g c =
 
 pub returns : goal.returns
 returns g c = scanned_all c.args.links.now (length c.args.forward.now) c.loop-position.position c.loop-position.lowest c.loop-position.marks.items c.requires.ends c.loop-position.invariant.scanned c.loop-position-test.false c.then_some.result c.then_some.ensures
+
+pub returns-in_err-marks : goal.returns-in_err-marks
+returns-in_err-marks g c = if_ok _ _ c.from_residual.ensures.0
+
+pub loop-position-init : goal.loop-position-init
+loop-position-init g c =
+    let items : c.in_ok-marks.marks.items ≡ replicate (length c.args.forward.now) 0 = search rules in
+    rw items (record { len = length-replicate _ 0; scanned = scanned_none c.args.links.now (length c.args.forward.now) })
+
+pub first_again-requires-clause-ends : goal.first_again-requires-clause-ends
+first_again-requires-clause-ends g c =
+    let count : length c.as_mut_slice.result.now ≡ length c.args.forward.now = ap length c.as_mut_slice.ensures.value ∙ c.loop-position.invariant.len in
+    rw count c.requires.ends
+
+pub first_again-requires-clause-unused : goal.first_again-requires-clause-unused
+first_again-requires-clause-unused g c = rw c.as_mut_slice.ensures.value c.loop-position.invariant.scanned.used
