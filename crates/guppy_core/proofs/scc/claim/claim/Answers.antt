@@ -146,3 +146,48 @@ returns-in_err-claim_one-2-clause-numbers g c = on_ok _ _ c.from_residual-in_err
 
 pub returns-in_err-claim_one-2-clause-paid : goal.returns-in_err-claim_one-2-clause-paid
 returns-in_err-claim_one-2-clause-paid g c = on_ok _ _ c.from_residual-in_err-claim_one-2.ensures.0
+
+pub claim_one-requires-clause-seen : goal.claim_one-requires-clause-seen
+claim_one-requires-clause-seen g c = rw c.requires.limit c.requires.start
+
+pub claim_one-requires-clause-numbers : goal.claim_one-requires-clause-numbers
+claim_one-requires-clause-numbers g c = rw c.requires.count c.requires.start
+
+pub claim_one-requires-clause-small : goal.claim_one-requires-clause-small
+claim_one-requires-clause-small g c =
+    let below = c.requires.start in
+    let few = c.requires.small in
+    omega arith
+
+pub look_at-number-requires-clause-position : goal.look_at-number-requires-clause-position
+look_at-number-requires-clause-position g c = rw c.loop-k.invariant.graph (popped_below _ _ _ _ _ _ _ c.loop-position.invariant.between c.in-Some.ensures.items)
+
+pub look_at-number-requires-clause-place : goal.look_at-number-requires-clause-place
+look_at-number-requires-clause-place g c =
+    let len : c.leaving_at-k-end.result ≡ degree {E = g.row.G-Edge.Denot} Reverse c.args.graph.now.graph.links c.in-Some.position = rw (← c.loop-position.invariant.graph) c.leaving_at-k-end.ensures.count in
+    rw (c.loop-k.invariant.graph, ← len) c.loop-k-test.true
+
+pub returns-in_err-claim_one-2-clause-graph : goal.returns-in_err-claim_one-2-clause-graph
+returns-in_err-claim_one-2-clause-graph g c = rw c.look_at-number.ensures.counted c.loop-k.invariant.graph
+
+pub returns-clause-limit : goal.returns-clause-limit
+returns-clause-limit g c = c.loop-position.invariant.numbering.limit
+
+pub returns-clause-count : goal.returns-clause-count
+returns-clause-count g c = c.loop-position.invariant.numbering.count
+
+pub returns-clause-numbers : goal.returns-clause-numbers
+returns-clause-numbers g c = c.loop-position.invariant.numbering.claims
+
+pub returns-clause-paid : goal.returns-clause-paid
+returns-clause-paid g c =
+    let paid = c.loop-position.invariant.paid in
+    omega arith
+
+pub returns-clause-looks : goal.returns-clause-looks
+returns-clause-looks g c =
+    let paid = c.loop-position.invariant.paid in
+    omega arith
+
+pub returns-clause-graph : goal.returns-clause-graph
+returns-clause-graph g c = c.loop-position.invariant.graph

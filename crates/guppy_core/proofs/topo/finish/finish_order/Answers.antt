@@ -1,5 +1,6 @@
 use Rattle.std.proofs.Common.{◌≡◌, ◌+◌, ◌<◌, [], length, refl, sym, ◌∙◌, arith}
 use Rattle.std.proofs.lemmas.Bool.{not-true, not-false}
+use Rattle.std.proofs.lemmas.List.{append-nil}
 use Rattle.guppy_search.proofs.Exits.{if_ok}
 use Rattle.guppy_core.proofs.Costs.{degree, fits_below}
 use Rattle.guppy_core.proofs.Finishing.{looked_from, looked_below, looks_paid, finishing_first, start_old, start_new, finishing_below, look_paid, finishing_done, link_skipped, link_old, link_new, finishing_all, finishing_positions, inserted_old, smaller_done, smaller_step, smaller_new}
@@ -219,10 +220,10 @@ returns-in_err-push-2-clause-looks g c =
     rw c.look_at-number.ensures.counted (look_paid Forward K graph c.args.starts.now (c.loop-start.start-index + 1) (c.args.graph.now.looks + length graph.links) _ _ _ _ _ s more)
 
 pub returns-in_err-push-2-clause-graph : goal.returns-in_err-push-2-clause-graph
-returns-in_err-push-2-clause-graph g c = c.loop-frame.invariant.graph
+returns-in_err-push-2-clause-graph g c = rw c.look_at-number.ensures.counted c.loop-frame.invariant.graph
 
 pub returns-in_err-push-3-clause-graph : goal.returns-in_err-push-3-clause-graph
-returns-in_err-push-3-clause-graph g c = c.loop-frame.invariant.graph
+returns-in_err-push-3-clause-graph g c = rw c.look_at-number.ensures.counted c.loop-frame.invariant.graph
 
 pub returns-in_err-push-4-clause-looks : goal.returns-in_err-push-4-clause-looks
 returns-in_err-push-4-clause-looks g c = looks_paid Forward g.kept c.args.graph.now.graph c.args.starts.now _ _ _ _ _ _ c.loop-frame.invariant.search
@@ -243,7 +244,10 @@ pub look_at-number-requires-clause-place : goal.look_at-number-requires-clause-p
 look_at-number-requires-clause-place g c = rw (← c.leaving_at.ensures.count) c.if-frame-leaving_at.true
 
 pub loop-start-preserved : goal.loop-start-preserved
-loop-start-preserved g c = ?
+loop-start-preserved g c =
+    let same : c.pop.new.self.items ≡ c.loop-frame.frames.items = sym (c.in_default.ensures.items ∙ append-nil _) in
+    let none : length c.pop.new.self.items ≡ 0 = let empty = c.in_default.ensures.cases.1 in let ok = c.pop.new.self.ok in omega arith in
+    record { search = rw same c.loop-frame.invariant.search; empty = none; graph = c.loop-frame.invariant.graph }
 
 pub returns-clause-looks : goal.returns-clause-looks
 returns-clause-looks g c = looks_paid Forward g.kept c.args.graph.now.graph c.args.starts.now _ _ _ _ _ _ c.loop-start.invariant.search
