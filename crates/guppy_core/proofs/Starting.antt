@@ -1,5 +1,5 @@
 -- Links that are walked from the set of the roots are walked from the roots.
-use Rattle.std.proofs.Common.{◌≡◌, ◌↔◌, ℕ, Bool, inl, inr, List}
+use Rattle.std.proofs.Common.{◌↔◌, ℕ, Bool, inl, inr, List}
 use Rattle.std.specs.Prelude.{Contains}
 use Rattle.guppy_search.specs.declared.ix.direction.DependencyDirection.{DependencyDirection}
 use Rattle.guppy_search.specs.declared.graph_core.link.Link.{Link}

@@ -1,5 +1,5 @@
 -- Each step of a search.
-use Rattle.std.proofs.Common.{◌≡◌, ◌⊎◌, ◌↔◌, ℕ, suc, ◌+◌, ◌<◌, ◌≤◌, Bool, true, false, inl, inr, List, [], ◌∷◌, ◌++◌, length, get_or, set, refl, sym, ap, subst, ◌∙◌, length-append, append_assoc, arith, Some}
+use Rattle.std.proofs.Common.{◌≡◌, ◌⊎◌, ℕ, suc, ◌+◌, ◌<◌, Bool, true, false, inl, inr, List, [], ◌∷◌, ◌++◌, length, get_or, set, refl, sym, ap, subst, ◌∙◌, length-append, append_assoc, arith, Some}
 use Rattle.std.specs.Prelude.{slice_get, Contains, All, ◌==◌}
 use Rattle.std.proofs.lemmas.Bool.{false_from_ne_true}
 use Rattle.std.proofs.lemmas.List.{append-nil, get_or_default, get_or-set_same}
@@ -10,7 +10,7 @@ use Rattle.guppy_search.specs.declared.ix.direction.DependencyDirection.TheVaria
 use Rattle.guppy_search.specs.declared.graph_core.link.Link.{Link}
 use Rattle.guppy_search.specs.Links.{near_end, far_end, links_at, EndsBelow}
 use Rattle.guppy_search.specs.IxSet.{has, IsIn, member_count, positions_in}
-use Rattle.guppy_search.specs.Resolve.{EachAfter, IsShown, LeavesOne, IsIncluded, JudgesResolve}
+use Rattle.guppy_search.specs.Resolve.{IsShown, LeavesOne, IsIncluded, JudgesResolve}
 use Rattle.guppy_search.specs.Searching.{IsAscending, Waits, Seeded, Searching, Shows}
 use Rattle.guppy_search.proofs.Lists.{nothing_in, Contains-first, Contains-later, Contains-cons_cases, EachAfter-nil, EachAfter-push, EachAfter-pop}
 use Rattle.guppy_search.proofs.Members.{IsIn-below, member-set_cases, member-set_keeps, member_count-set, member_count-lt-length}

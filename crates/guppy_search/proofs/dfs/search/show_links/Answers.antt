@@ -1,10 +1,10 @@
-use Rattle.std.proofs.Common.{◌≡◌, ℕ, ◌+◌, ◌<◌, true, false, inl, inr, [], ◌∷◌, ◌++◌, length, refl, sym, ap, ◌∙◌, get_or, arith}
+use Rattle.std.proofs.Common.{ℕ, ◌<◌, true, false, inl, inr, [], ◌∷◌, ◌++◌, length, refl, ◌∙◌, get_or, arith}
 use Rattle.std.proofs.Math.ListN.{length-set}
 use Rattle.std.proofs.lemmas.Bool.{false_from_ne_true}
 use Rattle.std.proofs.lemmas.Fn.{FoldsTo-push}
 use Rattle.std.proofs.lemmas.List.{drop_all}
 use Rattle.guppy_search.specs.Links.{far_end}
-use Rattle.guppy_search.specs.IxSet.{has, member_count}
+use Rattle.guppy_search.specs.IxSet.{has}
 use Rattle.guppy_search.proofs.Lists.{drop_next}
 use Rattle.guppy_search.proofs.Members.{member_count-lt-length}
 use Rattle.guppy_search.proofs.Rows.{row_within}
