@@ -4,6 +4,8 @@
 //! Examples of one kind are the cases of a table, each with its name, what is given, and what holds of it.
 #![tactic(auto)]
 
+#[cfg(test)]
+mod cases;
 pub mod evaluators;
 #[cfg(test)]
 mod owned;

@@ -1,24 +1,25 @@
-//! Owned texts, IDs and paths.
+//! Owned texts, IDs and paths. Where memory is refused, the test fails at once.
 
 use guppy_data::{PackageId, Utf8PathBuf};
-use std::alloc::{AllocError, Global};
+use std::alloc::Global;
+use std::process::Abort;
 
-pub(crate) fn text(alloc: Global, text: &str) -> Result<String, AllocError> {
-    String::from_str(alloc, text)
+pub(crate) fn text(rt: &impl Abort, alloc: Global, text: &str) -> String {
+    String::from_str(alloc, text).expect(rt, text)
 }
 
-pub(crate) fn texts(alloc: Global, texts: &[&str]) -> Result<Vec<String>, AllocError> {
+pub(crate) fn texts(rt: &impl Abort, alloc: Global, texts: &[&str]) -> Vec<String> {
     let mut owned = Vec::new(alloc);
     for item in texts {
-        owned.push(text(alloc, item)?)?;
+        owned.push(text(rt, alloc, item)).expect(rt, item);
     }
-    Ok(owned)
+    owned
 }
 
-pub(crate) fn id(alloc: Global, id: &str) -> Result<PackageId, AllocError> {
-    Ok(PackageId::new(text(alloc, id)?))
+pub(crate) fn id(rt: &impl Abort, alloc: Global, id: &str) -> PackageId {
+    PackageId::new(text(rt, alloc, id))
 }
 
-pub(crate) fn path(alloc: Global, path: &str) -> Result<Utf8PathBuf, AllocError> {
-    Ok(Utf8PathBuf::new(text(alloc, path)?))
+pub(crate) fn path(rt: &impl Abort, alloc: Global, path: &str) -> Utf8PathBuf {
+    Utf8PathBuf::new(text(rt, alloc, path))
 }

@@ -1,15 +1,16 @@
 //! Platform statuses and what they enable.
 
+use crate::cases::{hold, texts_are};
 use crate::evaluators::{ByTable, KnowsNothing, Machine};
+use crate::owned::text;
 use guppy_data::{
     EnabledTernary, PlatformSpec, PlatformStatus, PlatformStatusImpl, TargetSpec,
     and_is_the_minimum, extended_is_either, or_is_the_maximum, platforms_together_are_either,
     questions_ascend, ternaries_ascend,
 };
-use std::alloc::{AllocError, Global};
+use std::alloc::Global;
 use std::cmp::Ordering;
 use std::process::Abort;
-use std::test::Fail;
 
 const DISABLED: EnabledTernary = EnabledTernary::Disabled;
 
@@ -32,25 +33,21 @@ const WINDOWS_SSE: Machine = Machine {
     other: Some(true),
 };
 
-fn target_spec(alloc: Global, text: &str) -> Result<TargetSpec, AllocError> {
-    Ok(TargetSpec::new(String::from_str(alloc, text)?))
-}
-
-fn specs(alloc: Global, text: &str) -> Result<PlatformStatusImpl, AllocError> {
+pub(crate) fn specs(rt: &impl Abort, alloc: Global, name: &str) -> PlatformStatusImpl {
     let mut status = PlatformStatusImpl::never(alloc);
-    status.add_spec(Some(&target_spec(alloc, text)?))?;
-    Ok(status)
+    let spec = TargetSpec::new(text(rt, alloc, name));
+    status.add_spec(Some(&spec)).expect(rt, name);
+    status
 }
 
-fn assert_texts(rt: &impl Abort, status: &PlatformStatusImpl, texts: &[&str]) {
+fn assert_x_and_y(rt: &impl Abort, name: &str, status: &PlatformStatusImpl) {
     let PlatformStatus::PlatformDependent { eval } = PlatformStatus::new(status) else {
-        panic!(rt; "not dependent");
+        panic!(rt; "{name}: not dependent");
     };
-    let specs = eval.target_specs();
-    assert_eq!(rt; specs.len(), texts.len());
-    for (spec, text) in specs.iter().zip(texts) {
-        assert_eq!(rt; spec.as_str(), *text);
-    }
+    let [first, second] = eval.target_specs() else {
+        panic!(rt; "{name}: not two texts");
+    };
+    texts_are(rt, name, &[(first.as_str(), "x"), (second.as_str(), "y")]);
 }
 
 fn assert_always(rt: &impl Abort, status: &PlatformStatusImpl) {
@@ -59,34 +56,26 @@ fn assert_always(rt: &impl Abort, status: &PlatformStatusImpl) {
     assert!(rt; status.is_present());
 }
 
-fn status_grows(
-    rt: &impl Abort,
-    alloc: Global,
-    status: &mut PlatformStatusImpl,
-) -> Result<(), AllocError> {
-    let x = target_spec(alloc, "x")?;
-    status.extend(&specs(alloc, "y")?)?;
-    assert_texts(rt, status, &["x", "y"]);
-    assert!(rt; !status.is_never());
-    status.add_spec(None)?;
-    assert_always(rt, status);
-    status.add_spec(Some(&x))?;
-    assert_always(rt, status);
-    Ok(())
-}
-
 #[test]
-fn statuses_grow(rt: HostRuntime) -> Result<(), Fail> {
-    let mut status = specs(rt.alloc(), "x")?;
-    status_grows(&rt, rt.alloc(), &mut status)?;
-    let mut never = PlatformStatusImpl::never(rt.alloc());
+fn statuses_grow(rt: HostRuntime) {
+    let alloc = rt.alloc();
+    let name = "statuses_grow";
+    let mut status = specs(&rt, alloc, "x");
+    status.extend(&specs(&rt, alloc, "y")).expect(&rt, name);
+    assert_x_and_y(&rt, name, &status);
+    assert!(rt; !status.is_never());
+    status.add_spec(None).expect(&rt, name);
+    assert_always(&rt, &status);
+    let spec = TargetSpec::new(text(&rt, alloc, "x"));
+    status.add_spec(Some(&spec)).expect(&rt, name);
+    assert_always(&rt, &status);
+    let mut never = PlatformStatusImpl::never(alloc);
     assert!(rt; never.is_never());
     let seen = PlatformStatus::new(&never);
     assert!(rt; seen.is_never());
     assert!(rt; !seen.is_present());
-    never.extend(&status)?;
+    never.extend(&status).expect(&rt, name);
     assert_always(&rt, &never);
-    Ok(())
 }
 
 // A status of one text, or that is always enabled, on some machines.
@@ -130,25 +119,25 @@ const TARGET_TABLE: &[OnMachines] = &[
 ];
 
 // One machine is made a list by a call of its own.
-fn platforms_of(alloc: Global, machines: &[Machine]) -> Result<PlatformSpec<Machine>, AllocError> {
-    match machines {
+fn platforms_of(rt: &impl Abort, alloc: Global, machines: &[Machine]) -> PlatformSpec<Machine> {
+    let platforms = match machines {
         [machine] => PlatformSpec::one(alloc, *machine),
         _ => PlatformSpec::platforms(alloc, machines.iter().copied()),
-    }
+    };
+    platforms.expect(rt, "platforms")
 }
 
 #[test]
-fn target_table(rt: HostRuntime) -> Result<(), Fail> {
+fn target_table(rt: HostRuntime) {
     for case in TARGET_TABLE {
-        let platforms = platforms_of(rt.alloc(), case.machines)?;
+        let platforms = platforms_of(&rt, rt.alloc(), case.machines);
         let status = match case.status {
-            Some(text) => specs(rt.alloc(), text)?,
+            Some(text) => specs(&rt, rt.alloc(), text),
             None => PlatformStatusImpl::Always,
         };
         let enabled = PlatformStatus::new(&status).enabled_on(&platforms, &ByTable);
         assert_eq!(rt; enabled, case.enabled, "{:?}", case.status);
     }
-    Ok(())
 }
 
 fn knows_nothing_holds(
@@ -158,54 +147,57 @@ fn knows_nothing_holds(
     none: &PlatformSpec<()>,
 ) {
     let seen = PlatformStatus::new(status);
-    for (platforms, enabled) in [
-        (one, UNKNOWN),
-        (none, DISABLED),
-        (&PlatformSpec::Always, DISABLED),
-        (&PlatformSpec::Any, ENABLED),
-    ] {
-        assert_eq!(rt;
-            seen.enabled_on(platforms, &KnowsNothing),
-            enabled,
-            "{platforms:?}"
-        );
-    }
+    let always = seen.enabled_on(&PlatformSpec::Always, &KnowsNothing);
+    let any = seen.enabled_on(&PlatformSpec::Any, &KnowsNothing);
+    let cases = [
+        ("one", seen.enabled_on(one, &KnowsNothing) == UNKNOWN),
+        ("none", seen.enabled_on(none, &KnowsNothing) == DISABLED),
+        ("always", always == DISABLED),
+        ("any", any == ENABLED),
+    ];
+    hold(rt, &cases);
     if let PlatformStatus::PlatformDependent { eval } = seen {
-        assert_eq!(rt; eval.eval(&(), &KnowsNothing), UNKNOWN);
+        assert!(rt; eval.eval(&(), &KnowsNothing) == UNKNOWN);
     }
 }
 
 #[test]
-fn knows_nothing(rt: HostRuntime) -> Result<(), Fail> {
-    let status = specs(rt.alloc(), "s")?;
-    let one = PlatformSpec::one(rt.alloc(), ())?;
-    let none = PlatformSpec::platforms(rt.alloc(), [].iter().copied())?;
+fn knows_nothing(rt: HostRuntime) {
+    let name = "knows_nothing";
+    let status = specs(&rt, rt.alloc(), "s");
+    let one = PlatformSpec::one(rt.alloc(), ()).expect(&rt, name);
+    let none = PlatformSpec::platforms(rt.alloc(), [].iter().copied()).expect(&rt, name);
     knows_nothing_holds(&rt, &status, &one, &none);
-    Ok(())
 }
 
 #[test]
 fn ternaries(rt: HostRuntime) {
-    for (low, high) in [(DISABLED, UNKNOWN), (UNKNOWN, ENABLED)] {
-        assert!(rt; low < high);
-        assert!(rt; low & high == low);
-        assert!(rt; low | high == high);
-        assert!(rt; ternaries_ascend(low, high) == Ordering::Less);
-        assert!(rt; and_is_the_minimum(high, low) == low);
-        assert!(rt; or_is_the_maximum(high, low) == high);
+    for (low, high) in &[(DISABLED, UNKNOWN), (UNKNOWN, ENABLED)] {
+        let (low, high) = (*low, *high);
+        let cases = [
+            ("less", low < high),
+            ("and", low & high == low),
+            ("or", low | high == high),
+            ("ascend", ternaries_ascend(low, high) == Ordering::Less),
+            ("minimum", and_is_the_minimum(high, low) == low),
+            ("maximum", or_is_the_maximum(high, low) == high),
+        ];
+        hold(&rt, &cases);
     }
-    assert!(rt; DISABLED.is_known());
-    assert!(rt; !UNKNOWN.is_known());
-    assert!(rt; ENABLED.is_known());
+    let known = [
+        ("disabled", DISABLED.is_known()),
+        ("unknown", !UNKNOWN.is_known()),
+        ("enabled", ENABLED.is_known()),
+    ];
+    hold(&rt, &known);
 }
 
 #[test]
-fn laws_hold(rt: HostRuntime) -> Result<(), Fail> {
+fn laws_hold(rt: HostRuntime) {
     questions_ascend::<ByTable>();
     platforms_together_are_either::<ByTable>();
-    let other = specs(rt.alloc(), "y")?;
-    let mut status = specs(rt.alloc(), "x")?;
-    extended_is_either::<ByTable>(&mut status, &other)?;
-    assert_texts(&rt, &status, &["x", "y"]);
-    Ok(())
+    let other = specs(&rt, rt.alloc(), "y");
+    let mut status = specs(&rt, rt.alloc(), "x");
+    extended_is_either::<ByTable>(&mut status, &other).expect(&rt, "laws_hold");
+    assert_x_and_y(&rt, "laws_hold", &status);
 }

@@ -1,5 +1,6 @@
 //! Each printed text.
 
+use crate::cases::texts_are;
 use crate::owned::{id, path, text, texts};
 use guppy_data::{
     ConstructFault, Error, FeatureBuildStage, FeatureGraphWarning, NamedFeatureDep, SortedSet,
@@ -8,134 +9,90 @@ use guppy_data::{
 use std::alloc::{AllocError, Global};
 use std::fmt;
 use std::process::Abort;
-use std::test::Fail;
 
-fn prints<T: fmt::Display>(
+pub(crate) fn prints<T: fmt::Display + Drop>(
     rt: &impl Abort,
     alloc: Global,
     name: &str,
-    value: &T,
+    value: T,
     wanted: &str,
-) -> Result<(), AllocError> {
-    let printed = value.to_string(alloc)?;
-    assert_eq!(rt; printed.as_str(), wanted, "{name}");
-    Ok(())
-}
-
-#[test]
-fn plain_texts(rt: HostRuntime) -> Result<(), Fail> {
-    let alloc = rt.alloc();
-    prints(&rt, alloc, "plain_texts", &id(alloc, "p 1.0.0")?, "p 1.0.0")?;
-    prints(
-        &rt,
-        alloc,
-        "plain_texts",
-        &path(alloc, "//a/./b/")?,
-        "//a/./b/",
-    )?;
-    prints(&rt, alloc, "plain_texts", &Utf8Path::new("./a/"), "./a/")?;
-    Ok(())
+) {
+    let printed = value.to_string(alloc).expect(rt, name);
+    texts_are(rt, name, &[(printed.as_str(), wanted)]);
 }
 
 const SETS: &[(&[&str], &str)] = &[(&["b", "a", "b"], "{a, b}"), (&["a"], "{a}"), (&[], "{}")];
 
 #[test]
-fn sets_print(rt: HostRuntime) -> Result<(), Fail> {
+fn plain_texts(rt: HostRuntime) {
+    let alloc = rt.alloc();
+    let name = "plain_texts";
+    prints(&rt, alloc, name, id(&rt, alloc, "p 1.0.0"), "p 1.0.0");
+    prints(&rt, alloc, name, path(&rt, alloc, "//a/./b/"), "//a/./b/");
+    prints(&rt, alloc, name, Utf8Path::new("./a/"), "./a/");
     for (items, wanted) in SETS {
-        let set = SortedSet::new(texts(rt.alloc(), items)?);
-        prints(&rt, rt.alloc(), "sets_print", &set, wanted)?;
+        let set = SortedSet::new(texts(&rt, alloc, items));
+        prints(&rt, alloc, "sets_print", set, wanted);
     }
-    Ok(())
-}
-
-// The feature f of the dependency d.
-fn feature_of_dependency(alloc: Global, weak: bool) -> Result<NamedFeatureDep, AllocError> {
-    Ok(NamedFeatureDep::DependencyNamedFeature {
-        dep_name: text(alloc, "d")?,
-        feature: text(alloc, "f")?,
-        weak,
-    })
 }
 
 #[test]
-fn named_features(rt: HostRuntime) -> Result<(), Fail> {
+fn named_features(rt: HostRuntime) {
     let alloc = rt.alloc();
+    let name = "named_features";
     for (weak, wanted) in [(false, "d/f"), (true, "d?/f")] {
-        prints(
-            &rt,
-            alloc,
-            "named_features",
-            &feature_of_dependency(alloc, weak)?,
-            wanted,
-        )?;
+        let feature = NamedFeatureDep::DependencyNamedFeature {
+            dep_name: text(&rt, alloc, "d"),
+            feature: text(&rt, alloc, "f"),
+            weak,
+        };
+        prints(&rt, alloc, name, feature, wanted);
     }
-    let feature = NamedFeatureDep::NamedFeature(text(alloc, "f")?);
-    let dependency = NamedFeatureDep::OptionalDependency(text(alloc, "f")?);
+    let feature = NamedFeatureDep::NamedFeature(text(&rt, alloc, "f"));
+    let dependency = NamedFeatureDep::OptionalDependency(text(&rt, alloc, "f"));
     assert!(rt; feature != dependency);
-    prints(&rt, alloc, "named_features", &dependency, "dep:f")?;
-    prints(&rt, alloc, "named_features", &feature, "f")?;
-    assert!(rt; feature == NamedFeatureDep::NamedFeature(text(alloc, "f")?));
-    Ok(())
+    assert!(rt; feature == NamedFeatureDep::NamedFeature(text(&rt, alloc, "f")));
+    prints(&rt, alloc, name, dependency, "dep:f");
+    prints(&rt, alloc, name, feature, "f");
 }
 
 // The feature g of q is missing where the named features of p get their edges.
-fn missing_feature(alloc: Global) -> Result<FeatureGraphWarning, AllocError> {
-    let stage = FeatureBuildStage::AddNamedFeatureEdges {
-        package_id: id(alloc, "p")?,
-        from_feature: text(alloc, "f")?,
-    };
-    Ok(FeatureGraphWarning::MissingFeature {
-        stage,
-        package_id: id(alloc, "q")?,
-        feature_name: text(alloc, "g")?,
-    })
-}
-
-fn self_loop(alloc: Global) -> Result<FeatureGraphWarning, AllocError> {
-    Ok(FeatureGraphWarning::SelfLoop {
-        package_id: id(alloc, "p")?,
-        feature_name: text(alloc, "f")?,
-    })
-}
-
-fn dependency_stage(alloc: Global) -> Result<FeatureBuildStage, AllocError> {
-    Ok(FeatureBuildStage::AddDependencyEdges {
-        package_id: id(alloc, "p")?,
-        dep_name: text(alloc, "d")?,
-    })
+fn missing_feature(rt: &impl Abort, alloc: Global) -> FeatureGraphWarning {
+    FeatureGraphWarning::MissingFeature {
+        stage: FeatureBuildStage::AddNamedFeatureEdges {
+            package_id: id(rt, alloc, "p"),
+            from_feature: text(rt, alloc, "f"),
+        },
+        package_id: id(rt, alloc, "q"),
+        feature_name: text(rt, alloc, "g"),
+    }
 }
 
 #[test]
-fn warnings(rt: HostRuntime) -> Result<(), Fail> {
-    let wanted =
-        "for package 'p', while adding named feature edges from 'f': for package 'q', missing feature 'g'";
+fn warnings(rt: HostRuntime) {
+    let alloc = rt.alloc();
     prints(
         &rt,
-        rt.alloc(),
+        alloc,
         "warning_text",
-        &missing_feature(rt.alloc())?,
-        wanted,
-    )?;
+        missing_feature(&rt, alloc),
+        "for package 'p', while adding named feature edges from 'f': for package 'q', missing feature 'g'",
+    );
+    let self_loop = FeatureGraphWarning::SelfLoop {
+        package_id: id(&rt, alloc, "p"),
+        feature_name: text(&rt, alloc, "f"),
+    };
     let wanted = "for package 'p', self-loop detected for named feature 'f'";
-    prints(
-        &rt,
-        rt.alloc(),
-        "self_loop_text",
-        &self_loop(rt.alloc())?,
-        wanted,
-    )?;
+    prints(&rt, alloc, "self_loop_text", self_loop, wanted);
+    let stage = FeatureBuildStage::AddDependencyEdges {
+        package_id: id(&rt, alloc, "p"),
+        dep_name: text(&rt, alloc, "d"),
+    };
     let wanted = "for package 'p', while adding edges for dependency 'd'";
-    prints(
-        &rt,
-        rt.alloc(),
-        "dependency_stage_text",
-        &dependency_stage(rt.alloc())?,
-        wanted,
-    )?;
-    Ok(())
+    prints(&rt, alloc, "dependency_stage_text", stage, wanted);
 }
 
-const CONSTRUCT_FAULTS: [(ConstructFault, &str); 10] = [
+const CONSTRUCT_FAULTS: &[(ConstructFault, &str)] = &[
     (ConstructFault::TooManyPackages, "too many packages"),
     (
         ConstructFault::RepeatedPackageId { package: 12 },
@@ -194,99 +151,38 @@ const VERIFY_FAULTS: &[(VerifyFault, &str)] = &[
 ];
 
 #[test]
-fn faults(rt: HostRuntime) -> Result<(), Fail> {
+fn faults(rt: HostRuntime) {
     for (fault, wanted) in CONSTRUCT_FAULTS {
-        prints(&rt, rt.alloc(), "construct_faults", &fault, wanted)?;
+        prints(&rt, rt.alloc(), "construct_faults", fault, wanted);
     }
     for (fault, wanted) in VERIFY_FAULTS {
-        prints(&rt, rt.alloc(), "verify_faults", fault, wanted)?;
+        prints(&rt, rt.alloc(), "verify_faults", fault, wanted);
     }
     assert!(rt; ConstructFault::TooManyLinks != ConstructFault::TooManyPackages);
-    Ok(())
-}
-
-// How an error comes about.
-#[derive(Clone, Copy)]
-enum Cause {
-    Construct(ConstructFault),
-    NoSection(usize),
-    Memory,
-    PackageId(&'static str),
-    WorkspacePath(&'static str),
-    WorkspaceName(&'static str),
-    FeatureId(&'static str, &'static str),
-    FeatureGraph(&'static str),
-}
-
-struct ErrorText {
-    name: &'static str,
-    cause: Cause,
-    text: &'static str,
-}
-
-const ERRORS: &[ErrorText] = &[
-    ErrorText {
-        name: "errors_of_faults",
-        cause: Cause::Construct(ConstructFault::UnknownLinkEnd { link: 2 }),
-        text: "failed to construct package graph: unknown package at link 2",
-    },
-    ErrorText {
-        name: "errors_of_faults",
-        cause: Cause::NoSection(0),
-        text: "internal error in package graph: no section at link 0",
-    },
-    ErrorText {
-        name: "errors_of_faults",
-        cause: Cause::Memory,
-        text: "out of memory",
-    },
-    ErrorText {
-        name: "errors_of_packages",
-        cause: Cause::PackageId("z"),
-        text: "unknown package ID: z",
-    },
-    ErrorText {
-        name: "errors_of_packages",
-        cause: Cause::WorkspacePath("q"),
-        text: "unknown workspace path: q",
-    },
-    ErrorText {
-        name: "errors_of_packages",
-        cause: Cause::WorkspaceName("x"),
-        text: "unknown workspace package name: x",
-    },
-    ErrorText {
-        name: "errors_of_features",
-        cause: Cause::FeatureId("p", "f"),
-        text: "unknown feature ID: 'p/f'",
-    },
-    ErrorText {
-        name: "errors_of_features",
-        cause: Cause::FeatureGraph("no node"),
-        text: "internal error in feature graph: no node",
-    },
-];
-
-fn error_of(alloc: Global, cause: Cause) -> Result<Error, AllocError> {
-    Ok(match cause {
-        Cause::Construct(fault) => Error::from(fault),
-        Cause::NoSection(link) => Error::from(VerifyFault::NoSection { link }),
-        Cause::Memory => Error::from(AllocError),
-        Cause::PackageId(package) => Error::UnknownPackageId(id(alloc, package)?),
-        Cause::WorkspacePath(member) => Error::UnknownWorkspacePath(path(alloc, member)?),
-        Cause::WorkspaceName(name) => Error::UnknownWorkspaceName(text(alloc, name)?),
-        Cause::FeatureId(package, feature) => {
-            Error::UnknownFeatureId(id(alloc, package)?, text(alloc, feature)?)
-        }
-        Cause::FeatureGraph(fault) => Error::FeatureGraphInternalError(text(alloc, fault)?),
-    })
 }
 
 #[test]
-fn errors(rt: HostRuntime) -> Result<(), Fail> {
-    for error in ERRORS {
-        let printed = error_of(rt.alloc(), error.cause)?.to_string(rt.alloc())?;
-        assert_eq!(rt; printed.as_str(), error.text, "{}", error.name);
-    }
-    Ok(())
+fn errors(rt: HostRuntime) {
+    let alloc = rt.alloc();
+    let name = "errors_of_faults";
+    let error = Error::from(ConstructFault::UnknownLinkEnd { link: 2 });
+    let wanted = "failed to construct package graph: unknown package at link 2";
+    prints(&rt, alloc, name, error, wanted);
+    let error = Error::from(VerifyFault::NoSection { link: 0 });
+    let wanted = "internal error in package graph: no section at link 0";
+    prints(&rt, alloc, name, error, wanted);
+    prints(&rt, alloc, name, Error::from(AllocError), "out of memory");
+    let name = "errors_of_packages";
+    let error = Error::UnknownPackageId(id(&rt, alloc, "z"));
+    prints(&rt, alloc, name, error, "unknown package ID: z");
+    let error = Error::UnknownWorkspacePath(path(&rt, alloc, "q"));
+    prints(&rt, alloc, name, error, "unknown workspace path: q");
+    let error = Error::UnknownWorkspaceName(text(&rt, alloc, "x"));
+    prints(&rt, alloc, name, error, "unknown workspace package name: x");
+    let name = "errors_of_features";
+    let error = Error::UnknownFeatureId(id(&rt, alloc, "p"), text(&rt, alloc, "f"));
+    prints(&rt, alloc, name, error, "unknown feature ID: 'p/f'");
+    let error = Error::FeatureGraphInternalError(text(&rt, alloc, "no node"));
+    let wanted = "internal error in feature graph: no node";
+    prints(&rt, alloc, name, error, wanted);
 }

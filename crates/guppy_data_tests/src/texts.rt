@@ -1,35 +1,37 @@
 //! Worked examples of IDs, paths, kinds and sorted sets, with ample memory.
 
+use crate::cases::hold;
 use crate::owned::{id, path};
-use guppy_data::{Component, DependencyKind, PackageId, SortedSet, Utf8Path, Utf8PathBuf};
-use std::alloc::{AllocError, Global};
+use crate::printed::prints;
+use guppy_data::{Component, DependencyKind, SortedSet, Utf8Path};
 use std::cmp::Ordering;
 use std::collections::HashSet;
-use std::process::Abort;
-use std::test::Fail;
 
 #[test]
-fn package_ids(rt: HostRuntime) -> Result<(), Fail> {
-    let first = id(rt.alloc(), "path+file:///a#0.1.0")?;
-    let second = id(rt.alloc(), "path+file:///b#0.1.0")?;
-    assert_eq!(rt; first.repr(), "path+file:///a#0.1.0");
-    assert!(rt; first != second);
-    assert_eq!(rt; first.cmp(&second), Ordering::Less);
-    assert_eq!(rt; second.partial_cmp(&first), Some(Ordering::Greater));
-    Ok(())
+fn package_ids(rt: HostRuntime) {
+    let first = id(&rt, rt.alloc(), "path+file:///a#0.1.0");
+    let second = id(&rt, rt.alloc(), "path+file:///b#0.1.0");
+    let name = "package_ids";
+    let cases = [
+        (name, first.repr() == "path+file:///a#0.1.0"),
+        (name, first != second),
+        (name, first.cmp(&second) == Ordering::Less),
+        (name, second.partial_cmp(&first) == Some(Ordering::Greater)),
+    ];
+    hold(&rt, &cases);
 }
 
 #[test]
-fn copied_ids(rt: HostRuntime) -> Result<(), Fail> {
-    let other = id(rt.alloc(), "ab")?;
-    let short = id(rt.alloc(), "a")?;
-    let copy = short.clone()?;
+fn copied_ids(rt: HostRuntime) {
+    let other = id(&rt, rt.alloc(), "ab");
+    let short = id(&rt, rt.alloc(), "a");
+    let copy = short.clone().expect(&rt, "copied_ids");
     assert!(rt; copy == short);
     let mut ids = HashSet::new(rt.alloc());
-    ids.insert(short)?;
-    assert!(rt; ids.contains(&copy));
-    assert!(rt; !ids.contains(&other));
-    Ok(())
+    ids.insert(short).expect(&rt, "copied_ids");
+    let name = "copied_ids";
+    let cases = [(name, ids.contains(&copy)), (name, !ids.contains(&other))];
+    hold(&rt, &cases);
 }
 
 const A: Component<'static> = Component::Normal("a");
@@ -46,138 +48,120 @@ fn path_components(rt: HostRuntime) {
     for (text, wanted) in COMPONENTS {
         let mut components = Utf8Path::new(text).components();
         for component in *wanted {
-            assert_eq!(rt; components.next(), Some(*component), "{text}");
+            assert!(rt; components.next() == Some(*component), "{text}");
         }
-        assert_eq!(rt; components.next(), None, "{text}");
+        assert!(rt; components.next().is_none(), "{text}");
     }
 }
 
-const ASCENDING: [&str; 10] = ["", "/", "/a", ".", "./c", "..", "a", "a/b", "a-b", "b"];
-
-fn paths_of(alloc: Global, texts: &[&str]) -> Result<Vec<Utf8PathBuf>, AllocError> {
-    let mut paths = Vec::new(alloc);
-    for text in texts {
-        paths.push(path(alloc, text)?)?;
-    }
-    Ok(paths)
-}
-
-fn order_holds(rt: &impl Abort, lower: &Utf8PathBuf, upper: &Utf8PathBuf, order: Ordering) {
-    assert!(rt; lower.cmp(upper) == order, "{lower} and {upper}");
-    let as_paths = lower.as_path().cmp(&upper.as_path());
-    assert!(rt; as_paths == order, "{lower} and {upper}");
-}
+const ASCENDING: &[&str] = &["", "/", "/a", ".", "./c", "..", "a", "a/b", "a-b", "b"];
 
 #[test]
-fn path_order(rt: HostRuntime) -> Result<(), Fail> {
-    let paths = paths_of(rt.alloc(), ASCENDING.as_slice())?;
-    for (i, lower) in paths.iter().enumerate() {
-        for (j, upper) in paths.iter().enumerate() {
-            order_holds(&rt, lower, upper, i.cmp(&j));
+fn path_order(rt: HostRuntime) {
+    for (i, lower) in ASCENDING.iter().enumerate() {
+        let lower = path(&rt, rt.alloc(), lower);
+        for (j, upper) in ASCENDING.iter().enumerate() {
+            let upper = path(&rt, rt.alloc(), upper);
+            let order = i.cmp(&j);
+            assert!(rt; lower.cmp(&upper) == order, "{lower} and {upper}");
+            let as_paths = lower.as_path().cmp(&upper.as_path());
+            assert!(rt; as_paths == order, "{lower} and {upper}");
         }
     }
-    Ok(())
 }
 
-const EQUAL_TO_A_B: [(&str, bool); 4] = [
+const EQUAL_TO_A_B: &[(&str, bool)] = &[
     ("a/./b/", true),
     ("a//b", true),
     ("./a/b", false),
     ("a/b/..", false),
 ];
 
-// Whether a path equals a/b, which is all that the set has.
-fn equal_path_holds(
-    rt: &impl Abort,
-    paths: &HashSet<Utf8PathBuf>,
-    first: &Utf8PathBuf,
-    asked: &Utf8PathBuf,
-    is_equal: bool,
-) {
-    assert!(rt; (asked == first) == is_equal, "{asked}");
-    assert!(rt;
-        (asked.as_path() == Utf8Path::new("a/b")) == is_equal,
-        "{asked}"
-    );
-    assert!(rt; paths.contains(asked) == is_equal, "{asked}");
-}
-
 #[test]
-fn equal_paths(rt: HostRuntime) -> Result<(), Fail> {
-    let first = path(rt.alloc(), "a/b")?;
+fn equal_paths(rt: HostRuntime) {
+    let first = path(&rt, rt.alloc(), "a/b");
     let mut paths = HashSet::new(rt.alloc());
-    paths.insert(path(rt.alloc(), "a/b")?)?;
+    let inserted = path(&rt, rt.alloc(), "a/b");
+    paths.insert(inserted).expect(&rt, "equal_paths");
     for (text, is_equal) in EQUAL_TO_A_B {
-        let asked = path(rt.alloc(), text)?;
-        assert!(rt; asked.as_path().as_str() == text);
-        equal_path_holds(&rt, &paths, &first, &asked, is_equal);
+        let asked = path(&rt, rt.alloc(), text);
+        let cases = [
+            (*text, asked.as_path().as_str() == *text),
+            (*text, (asked == first) == *is_equal),
+            (
+                *text,
+                (asked.as_path() == Utf8Path::new("a/b")) == *is_equal,
+            ),
+            (*text, paths.contains(&asked) == *is_equal),
+        ];
+        hold(&rt, &cases);
     }
-    Ok(())
 }
 
-const KINDS: [(DependencyKind, &str); 3] = [
+const KINDS: &[(DependencyKind, &str)] = &[
     (DependencyKind::Normal, "normal"),
     (DependencyKind::Development, "dev"),
     (DependencyKind::Build, "build"),
 ];
 
 #[test]
-fn dependency_kinds(rt: HostRuntime) -> Result<(), Fail> {
-    for (value, (kind, text)) in DependencyKind::VALUES.iter().zip(KINDS) {
-        assert!(rt; *value == kind, "{text}");
-        assert!(rt; kind.to_str() == text);
-        let printed = kind.to_string(rt.alloc())?;
-        assert!(rt; printed.as_str() == text);
+fn dependency_kinds(rt: HostRuntime) {
+    let values = [
+        DependencyKind::Normal,
+        DependencyKind::Development,
+        DependencyKind::Build,
+    ];
+    assert!(rt; *DependencyKind::VALUES == values, "dependency_kinds");
+    for (kind, text) in KINDS {
+        assert!(rt; kind.to_str() == *text, "{text}");
+        prints(&rt, rt.alloc(), "dependency_kinds", *kind, text);
     }
-    Ok(())
-}
-
-#[test]
-fn set_of_a_kind(rt: HostRuntime) -> Result<(), Fail> {
     let mut seen = HashSet::new(rt.alloc());
-    seen.insert(DependencyKind::Build)?;
-    assert!(rt; seen.contains(&DependencyKind::Build), "dependency_kinds");
-    assert!(rt; !seen.contains(&DependencyKind::Normal), "dependency_kinds");
-    Ok(())
+    seen.insert(DependencyKind::Build)
+        .expect(&rt, "set_of_a_kind");
+    let held = [
+        ("set_of_a_kind", seen.contains(&DependencyKind::Build)),
+        ("set_of_a_kind", !seen.contains(&DependencyKind::Normal)),
+    ];
+    hold(&rt, &held);
 }
 
 #[test]
-fn sorted_sets(rt: HostRuntime) -> Result<(), Fail> {
-    let set = SortedSet::new(vec![in rt.alloc(); 5, 1, 3, 1, 5]?);
-    assert_eq!(rt; set.as_slice(), [1, 3, 5].as_slice());
-    for (item, is_held) in [
-        (0, false),
-        (1, true),
-        (2, false),
-        (3, true),
-        (5, true),
-        (6, false),
-    ] {
-        assert_eq!(rt; set.contains(&item), is_held, "{item}");
-    }
-    Ok(())
+fn sorted_sets(rt: HostRuntime) {
+    let items = vec![in rt.alloc(); 5, 1, 3, 1, 5].expect(&rt, "sorted_sets");
+    let set = SortedSet::new(items);
+    let holds = [
+        ("sorted_sets", set.as_slice() == [1, 3, 5].as_slice()),
+        ("0", !set.contains(&0)),
+        ("1", set.contains(&1)),
+        ("2", !set.contains(&2)),
+        ("3", set.contains(&3)),
+        ("5", set.contains(&5)),
+        ("6", !set.contains(&6)),
+    ];
+    hold(&rt, &holds);
+    let name = "sets_of_items";
+    let items = [3, 5, 3, 1].iter().copied();
+    let same = SortedSet::from_items(rt.alloc(), items).expect(&rt, name);
+    let other = SortedSet::new(vec![in rt.alloc(); 1, 3].expect(&rt, name));
+    hold(&rt, &[(name, set == same), (name, set != other)]);
+    let items = same.into_inner();
+    assert!(rt; items.as_slice() == [1, 3, 5].as_slice(), "{name}");
 }
 
 #[test]
-fn sets_of_items(rt: HostRuntime) -> Result<(), Fail> {
-    let set = SortedSet::from_items(rt.alloc(), [3, 5, 3, 1].iter().copied())?;
-    let other = SortedSet::new(vec![in rt.alloc(); 1, 3]?);
-    assert!(rt; set != other);
-    let same = SortedSet::new(vec![in rt.alloc(); 1, 3, 5]?);
-    assert!(rt; set == same);
-    let items = set.into_inner();
-    assert_eq!(rt; items.as_slice(), [1, 3, 5].as_slice());
-    Ok(())
-}
-
-#[test]
-fn sets_of_ids(rt: HostRuntime) -> Result<(), Fail> {
+fn sets_of_ids(rt: HostRuntime) {
     let mut ids = Vec::new(rt.alloc());
     for text in ["b", "a", "b"] {
-        ids.push(id(rt.alloc(), text)?)?;
+        ids.push(id(&rt, rt.alloc(), text))
+            .expect(&rt, "sets_of_ids");
     }
     let ids = SortedSet::new(ids);
-    assert_eq!(rt; ids.as_slice().len(), 2);
-    assert!(rt; ids.contains(&id(rt.alloc(), "a")?));
-    Ok(())
+    let asked = id(&rt, rt.alloc(), "a");
+    let name = "sets_of_ids";
+    let cases = [
+        (name, ids.as_slice().len() == 2),
+        (name, ids.contains(&asked)),
+    ];
+    hold(&rt, &cases);
 }

@@ -1,15 +1,16 @@
 //! Dependencies by platform and feature.
 
+use crate::cases::hold;
 use crate::evaluators::KnowsNothing;
 use crate::owned::text;
+use crate::platform::specs;
 use guppy_data::{
     DepRequiredOrOptional, DependencyReq, DependencyReqImpl, EnabledStatus, EnabledTernary,
-    PlatformSpec, PlatformStatus, PlatformStatusImpl, TargetSpec,
+    PlatformSpec, PlatformStatus, PlatformStatusImpl,
 };
-use std::alloc::{AllocError, Global};
+use std::alloc::Global;
 use std::collections::BTreeMap;
 use std::process::Abort;
-use std::test::Fail;
 
 fn never(alloc: Global) -> DepRequiredOrOptional {
     DepRequiredOrOptional {
@@ -28,76 +29,78 @@ fn never_built(alloc: Global) -> DependencyReqImpl {
 }
 
 fn add_features(
+    rt: &impl Abort,
     alloc: Global,
     features: &mut BTreeMap<String, PlatformStatusImpl>,
     names: &[&str],
-) -> Result<(), AllocError> {
+) {
     for name in names {
-        features.insert(text(alloc, name)?, PlatformStatusImpl::Always)?;
+        let feature = text(rt, alloc, name);
+        let inserted: Result<_, _> = features.insert(feature, PlatformStatusImpl::Always);
+        inserted.expect(rt, name);
     }
-    Ok(())
 }
 
 // A status that is always required or never, and always optional or never.
-fn status_holds(rt: &impl Abort, status: EnabledStatus<'_>, is_required: bool, is_optional: bool) {
+fn status_holds(
+    rt: &impl Abort,
+    name: &str,
+    status: EnabledStatus<'_>,
+    is_required: bool,
+    is_optional: bool,
+) {
     let required = status.required_status();
-    assert!(rt; required.is_always() == is_required);
-    assert!(rt; required.is_never() == !is_required);
     let optional = status.optional_status();
-    assert!(rt; optional.is_always() == is_optional);
-    assert!(rt; optional.is_never() == !is_optional);
-    assert!(rt; status.is_never() == !(is_required || is_optional));
+    let is_never = !(is_required || is_optional);
+    let cases = [
+        (name, required.is_always() == is_required),
+        (name, required.is_never() == !is_required),
+        (name, optional.is_always() == is_optional),
+        (name, optional.is_never() == !is_optional),
+        (name, status.is_never() == is_never),
+    ];
+    hold(rt, &cases);
 }
 
 fn feature_table_holds(rt: &impl Abort, req: DependencyReq<'_>) {
     let mut names = req.features();
-    for wanted in ["a", "b", "a", "c"] {
-        assert_eq!(rt; names.next(), Some(wanted));
+    for wanted in &["a", "b", "a", "c"] {
+        assert!(rt; names.next() == Some(*wanted), "{wanted}");
     }
     assert!(rt; names.next().is_none());
-    for (feature, is_required, is_optional) in [
-        ("a", true, true),
-        ("b", true, false),
-        ("c", false, true),
-        ("z", false, false),
-    ] {
-        status_holds(rt, req.feature_status(feature), is_required, is_optional);
-    }
+    status_holds(rt, "a", req.feature_status("a"), true, true);
+    status_holds(rt, "b", req.feature_status("b"), true, false);
+    status_holds(rt, "c", req.feature_status("c"), false, true);
+    status_holds(rt, "z", req.feature_status("z"), false, false);
 }
 
 #[test]
-fn feature_table(rt: HostRuntime) -> Result<(), Fail> {
+fn feature_table(rt: HostRuntime) {
     let mut record = never_built(rt.alloc());
-    add_features(
-        rt.alloc(),
-        &mut record.required.feature_targets,
-        &["b", "a"],
-    )?;
-    add_features(
-        rt.alloc(),
-        &mut record.optional.feature_targets,
-        &["c", "a"],
-    )?;
+    let required = &mut record.required.feature_targets;
+    add_features(&rt, rt.alloc(), required, &["b", "a"]);
+    let optional = &mut record.optional.feature_targets;
+    add_features(&rt, rt.alloc(), optional, &["c", "a"]);
     feature_table_holds(&rt, DependencyReq::new(&record));
-    Ok(())
 }
 
 fn knows_nothing_holds(rt: &impl Abort, required: &PlatformStatusImpl, one: &PlatformSpec<()>) {
     let status = EnabledStatus::new(PlatformStatus::new(required), PlatformStatus::Always);
     let required = status.required_on(one, &KnowsNothing);
-    assert!(rt; required == EnabledTernary::Unknown);
     let enabled = status.enabled_on(one, &KnowsNothing);
-    assert!(rt; enabled == EnabledTernary::Enabled);
-    assert!(rt; !status.is_never());
+    let cases = [
+        ("required", required == EnabledTernary::Unknown),
+        ("enabled", enabled == EnabledTernary::Enabled),
+        ("never", !status.is_never()),
+    ];
+    hold(rt, &cases);
 }
 
 #[test]
-fn knows_nothing(rt: HostRuntime) -> Result<(), Fail> {
-    let mut required = PlatformStatusImpl::never(rt.alloc());
-    required.add_spec(Some(&TargetSpec::new(text(rt.alloc(), "s")?)))?;
-    let one = PlatformSpec::one(rt.alloc(), ())?;
+fn knows_nothing(rt: HostRuntime) {
+    let required = specs(&rt, rt.alloc(), "s");
+    let one = PlatformSpec::one(rt.alloc(), ()).expect(&rt, "knows_nothing");
     knows_nothing_holds(&rt, &required, &one);
-    Ok(())
 }
 
 #[test]
@@ -109,7 +112,7 @@ fn dependency_sections(rt: HostRuntime) {
     record.optional.no_default_features_if = PlatformStatusImpl::Always;
     let req = DependencyReq::new(&record);
     assert!(rt; req.is_present());
-    status_holds(&rt, req.status(), false, true);
-    status_holds(&rt, req.default_features(), true, false);
-    status_holds(&rt, req.no_default_features(), false, true);
+    status_holds(&rt, "status", req.status(), false, true);
+    status_holds(&rt, "default", req.default_features(), true, false);
+    status_holds(&rt, "no default", req.no_default_features(), false, true);
 }

@@ -1,13 +1,14 @@
 //! Where a package may be published, and where it comes from.
 
+use crate::cases::hold;
 use crate::owned::{path, text, texts};
+use crate::printed::prints;
 use guppy_data::{
     ExternalSource, PackagePublish, PackagePublishRecord, PackageSource, PackageSourceRecord,
     Utf8Path,
 };
-use std::alloc::{AllocError, Global};
+use std::alloc::Global;
 use std::process::Abort;
-use std::test::Fail;
 
 // The registries that a package may be published to, where it isn't unrestricted.
 struct Publish {
@@ -38,54 +39,60 @@ const PUBLISH_RULES: &[Publish] = &[
     },
 ];
 
-fn publish_record(
-    alloc: Global,
-    registries: Option<&[&str]>,
-) -> Result<PackagePublishRecord, AllocError> {
-    match registries {
-        Some(registries) => Ok(PackagePublishRecord::Registries(texts(alloc, registries)?)),
-        None => Ok(PackagePublishRecord::Unrestricted),
-    }
-}
-
-fn publish_holds(rt: &impl Abort, record: &PackagePublishRecord, rule: &Publish) {
-    let publish = PackagePublish::new(record);
-    assert_eq!(rt; publish.is_unrestricted(), rule.registries.is_none());
-    assert_eq!(rt; publish.is_never(), rule.is_never);
-    assert_eq!(rt; publish.can_publish_to_crates_io(), rule.to_crates_io);
-    for (registry, can_publish) in [
-        ("crates-io", rule.to_crates_io),
-        (PackagePublish::CRATES_IO, rule.to_crates_io),
-        ("my-registry", rule.to_another),
-    ] {
-        assert_eq!(rt; publish.can_publish_to(registry), can_publish, "{registry}");
-    }
+fn publish_holds(rt: &impl Abort, publish: PackagePublish<'_>, rule: &Publish) {
+    let is_empty = publish == PackagePublish::Registries(&[]);
+    let rules = [
+        (
+            "unrestricted",
+            publish.is_unrestricted() == rule.registries.is_none(),
+        ),
+        ("never", publish.is_never() == rule.is_never),
+        ("empty", is_empty == rule.is_never),
+        (
+            "to crates.io",
+            publish.can_publish_to_crates_io() == rule.to_crates_io,
+        ),
+        (
+            "crates-io",
+            publish.can_publish_to("crates-io") == rule.to_crates_io,
+        ),
+        (
+            "CRATES_IO",
+            publish.can_publish_to(PackagePublish::CRATES_IO) == rule.to_crates_io,
+        ),
+        (
+            "my-registry",
+            publish.can_publish_to("my-registry") == rule.to_another,
+        ),
+    ];
+    hold(rt, &rules);
 }
 
 #[test]
-fn publish_rules(rt: HostRuntime) -> Result<(), Fail> {
-    let never = publish_record(rt.alloc(), Some(&[]))?;
+fn publish_rules(rt: HostRuntime) {
     for rule in PUBLISH_RULES {
-        let record = publish_record(rt.alloc(), rule.registries)?;
-        publish_holds(&rt, &record, rule);
-        let is_same = PackagePublish::new(&never) == PackagePublish::new(&record);
-        assert_eq!(rt; is_same, rule.is_never);
+        let record = match rule.registries {
+            Some(registries) => {
+                PackagePublishRecord::Registries(texts(&rt, rt.alloc(), registries))
+            }
+            None => PackagePublishRecord::Unrestricted,
+        };
+        publish_holds(&rt, PackagePublish::new(&record), rule);
     }
-    Ok(())
 }
 
-#[derive(Clone, Copy, PartialEq, Eq)]
 enum From {
     Workspace,
     Path,
     External,
 }
 
-// A source, which prints as its text.
+// A source, which prints as its text, and the path of a member that it equals where it is one.
 struct Source {
     name: &'static str,
     from: From,
     text: &'static str,
+    member: &'static str,
     workspace_path: Option<&'static str>,
     local_path: Option<&'static str>,
     external: Option<&'static str>,
@@ -98,6 +105,7 @@ const SOURCES: &[Source] = &[
         name: "member_source",
         from: From::Workspace,
         text: "a/b",
+        member: "a/./b",
         workspace_path: Some("a/b"),
         local_path: Some("a/b"),
         external: None,
@@ -108,6 +116,7 @@ const SOURCES: &[Source] = &[
         name: "path_source",
         from: From::Path,
         text: "../c",
+        member: "../c",
         workspace_path: None,
         local_path: Some("../c"),
         external: None,
@@ -118,6 +127,7 @@ const SOURCES: &[Source] = &[
         name: "external_source",
         from: From::External,
         text: "registry+https://github.com/rust-lang/crates.io-index",
+        member: "registry+https://github.com/rust-lang/crates.io-index",
         workspace_path: None,
         local_path: None,
         external: Some(PackageSource::CRATES_IO_REGISTRY),
@@ -128,6 +138,7 @@ const SOURCES: &[Source] = &[
         name: "external_source",
         from: From::External,
         text: "registry+https://github.com/rust-lang/crates.io-index2",
+        member: "registry+https://github.com/rust-lang/crates.io-index2",
         workspace_path: None,
         local_path: None,
         external: Some("registry+https://github.com/rust-lang/crates.io-index2"),
@@ -136,54 +147,48 @@ const SOURCES: &[Source] = &[
     },
 ];
 
-fn source_record(alloc: Global, source: &Source) -> Result<PackageSourceRecord, AllocError> {
+fn source_record(rt: &impl Abort, alloc: Global, source: &Source) -> PackageSourceRecord {
     match source.from {
-        From::Workspace => Ok(PackageSourceRecord::Workspace(path(alloc, source.text)?)),
-        From::Path => Ok(PackageSourceRecord::Path(path(alloc, source.text)?)),
-        From::External => Ok(PackageSourceRecord::External(text(alloc, source.text)?)),
+        From::Workspace => PackageSourceRecord::Workspace(path(rt, alloc, source.text)),
+        From::Path => PackageSourceRecord::Path(path(rt, alloc, source.text)),
+        From::External => PackageSourceRecord::External(text(rt, alloc, source.text)),
+    }
+}
+
+fn is_at(path: Option<Utf8Path<'_>>, wanted: Option<&str>) -> bool {
+    match path {
+        Some(path) => wanted == Some(path.as_str()),
+        None => wanted.is_none(),
     }
 }
 
 fn source_holds(rt: &impl Abort, source: PackageSource<'_>, wanted: &Source) {
     let name = wanted.name;
-    assert!(rt;
-        source.is_workspace() == (wanted.from == From::Workspace),
-        "{name}"
-    );
-    assert!(rt; source.is_path() == (wanted.from == From::Path), "{name}");
-    assert!(rt;
-        source.is_external() == (wanted.from == From::External),
-        "{name}"
-    );
-    assert!(rt; source.is_local() == wanted.local_path.is_some(), "{name}");
-    assert!(rt; source.is_crates_io() == wanted.is_crates_io, "{name}");
-    let path = source.workspace_path().map(|path| path.as_str());
-    assert!(rt; path == wanted.workspace_path, "{name}");
-    let path = source.local_path().map(|path| path.as_str());
-    assert!(rt; path == wanted.local_path, "{name}");
-    assert!(rt; source.external_source() == wanted.external, "{name}");
-    assert!(rt; source.parse_external() == wanted.parsed, "{name}");
+    let is_member = matches!(wanted.from, From::Workspace);
+    let is_path = matches!(wanted.from, From::Path);
+    let is_external = matches!(wanted.from, From::External);
+    let member = PackageSource::Workspace(Utf8Path::new(wanted.member));
+    let cases = [
+        (name, source.is_workspace() == is_member),
+        (name, source.is_path() == is_path),
+        (name, source.is_external() == is_external),
+        (name, source.is_local() == wanted.local_path.is_some()),
+        (name, source.is_crates_io() == wanted.is_crates_io),
+        (name, is_at(source.workspace_path(), wanted.workspace_path)),
+        (name, is_at(source.local_path(), wanted.local_path)),
+        (name, source.external_source() == wanted.external),
+        (name, source.parse_external() == wanted.parsed),
+    ];
+    hold(rt, &cases);
+    assert!(rt; (source == member) == is_member, "equal_sources: {name}");
 }
 
 #[test]
-fn sources(rt: HostRuntime) -> Result<(), Fail> {
+fn sources(rt: HostRuntime) {
     for wanted in SOURCES {
-        let record = source_record(rt.alloc(), wanted)?;
+        let record = source_record(&rt, rt.alloc(), wanted);
         let source = PackageSource::new(&record);
         source_holds(&rt, source, wanted);
-        let printed = source.to_string(rt.alloc())?;
-        assert!(rt; printed.as_str() == wanted.text, "{}", wanted.name);
+        prints(&rt, rt.alloc(), wanted.name, source, wanted.text);
     }
-    Ok(())
-}
-
-#[test]
-fn equal_sources(rt: HostRuntime) -> Result<(), Fail> {
-    let record = PackageSourceRecord::Workspace(path(rt.alloc(), "a/b")?);
-    let member = PackageSource::Workspace(Utf8Path::new("a/./b"));
-    assert!(rt; PackageSource::new(&record) == member, "member_source");
-    let record = PackageSourceRecord::Path(path(rt.alloc(), "../c")?);
-    let member = PackageSource::Workspace(Utf8Path::new("../c"));
-    assert!(rt; PackageSource::new(&record) != member, "path_source");
-    Ok(())
 }

@@ -1,7 +1,8 @@
 //! Sources as texts, and what they say.
 
+use crate::cases::texts_are;
+use crate::printed::prints;
 use guppy_data::{ExternalSource, GitReq};
-use std::test::Fail;
 
 // A text, and the source that it is the text of.
 struct Cut {
@@ -115,21 +116,19 @@ const CUTS: &[Cut] = &[
 ];
 
 #[test]
-fn cuts(rt: HostRuntime) -> Result<(), Fail> {
+fn cuts(rt: HostRuntime) {
     for cut in CUTS {
         let source = ExternalSource::new(cut.text);
         assert!(rt; source == cut.source, "{} at {}", cut.name, cut.text);
         if let Some(source) = source {
-            let printed = source.to_string(rt.alloc())?;
-            assert_eq!(rt; printed.as_str(), cut.text, "{}", cut.name);
+            prints(&rt, rt.alloc(), cut.name, source, cut.text);
         }
     }
-    Ok(())
 }
 
 #[test]
 fn source_constants(rt: HostRuntime) {
-    for (constant, text) in [
+    let constants = [
         (ExternalSource::REGISTRY_PLUS, "registry+"),
         (ExternalSource::SPARSE_PLUS, "sparse+"),
         (ExternalSource::GIT_PLUS, "git+"),
@@ -140,7 +139,6 @@ fn source_constants(rt: HostRuntime) {
             ExternalSource::CRATES_IO_URL,
             "https://github.com/rust-lang/crates.io-index",
         ),
-    ] {
-        assert_eq!(rt; constant, text);
-    }
+    ];
+    texts_are(&rt, "source_constants", &constants);
 }

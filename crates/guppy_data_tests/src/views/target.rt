@@ -1,16 +1,16 @@
 //! Build targets: their IDs, kinds and fields.
-ghost use Rattle.std.specs.Prelude.{IsSome, IfOk};
+ghost use Rattle.std.specs.Prelude.{IsSome};
 ghost use Rattle.guppy_data.specs.TargetName.{target_name};
 
+use crate::cases::hold;
 use crate::owned::{path, text, texts};
 use guppy_data::{
     BuildTarget, BuildTargetId, BuildTargetKind, BuildTargetKindRecord, BuildTargetRecord,
     OwnedBuildTargetId, SortedSet, Utf8Path,
 };
-use std::alloc::{AllocError, Global};
+use std::alloc::Global;
 use std::collections::HashSet;
 use std::process::Abort;
-use std::test::Fail;
 
 const ASCENDING: [BuildTargetId<'static>; 7] = [
     BuildTargetId::Library,
@@ -41,115 +41,110 @@ fn target_order(rt: HostRuntime) {
 }
 
 #[test]
-fn target_ids(rt: HostRuntime) -> Result<(), Fail> {
+fn target_ids(rt: HostRuntime) {
     let mut seen = HashSet::new(rt.alloc());
     for (i, lower) in ASCENDING.iter().enumerate() {
         for (j, upper) in ASCENDING.iter().enumerate() {
-            assert_eq!(rt; lower.cmp(upper), i.cmp(&j));
-            assert_eq!(rt; lower == upper, i == j);
+            assert!(rt; lower.cmp(upper) == i.cmp(&j), "{lower:?} and {upper:?}");
+            assert!(rt; (lower == upper) == (i == j), "{lower:?} and {upper:?}");
         }
-        assert!(rt; seen.insert(*lower)?);
+        assert!(rt; seen.insert(*lower).expect(&rt, "target_ids"));
     }
     assert!(rt; seen.contains(&BuildTargetId::Example("b")));
     assert!(rt; !seen.contains(&BuildTargetId::Example("a")));
-    Ok(())
 }
 
-fn recorded(alloc: Global, id: BuildTargetId<'_>) -> Result<OwnedBuildTargetId, AllocError> {
+fn recorded(rt: &impl Abort, alloc: Global, id: BuildTargetId<'_>) -> OwnedBuildTargetId {
     match id {
-        BuildTargetId::Library => Ok(OwnedBuildTargetId::Library),
-        BuildTargetId::BuildScript => Ok(OwnedBuildTargetId::BuildScript),
-        BuildTargetId::Binary(name) => Ok(OwnedBuildTargetId::Binary(text(alloc, name)?)),
-        BuildTargetId::Example(name) => Ok(OwnedBuildTargetId::Example(text(alloc, name)?)),
-        BuildTargetId::Test(name) => Ok(OwnedBuildTargetId::Test(text(alloc, name)?)),
-        BuildTargetId::Benchmark(name) => Ok(OwnedBuildTargetId::Benchmark(text(alloc, name)?)),
+        BuildTargetId::Library => OwnedBuildTargetId::Library,
+        BuildTargetId::BuildScript => OwnedBuildTargetId::BuildScript,
+        BuildTargetId::Binary(name) => OwnedBuildTargetId::Binary(text(rt, alloc, name)),
+        BuildTargetId::Example(name) => OwnedBuildTargetId::Example(text(rt, alloc, name)),
+        BuildTargetId::Test(name) => OwnedBuildTargetId::Test(text(rt, alloc, name)),
+        BuildTargetId::Benchmark(name) => OwnedBuildTargetId::Benchmark(text(rt, alloc, name)),
     }
 }
 
-#[test]
-fn recorded_ids(rt: HostRuntime) -> Result<(), Fail> {
-    for id in [
-        BuildTargetId::Library,
-        BuildTargetId::BuildScript,
-        BuildTargetId::Binary("n"),
-        BuildTargetId::Example("n"),
-        BuildTargetId::Test("n"),
-        BuildTargetId::Benchmark("n"),
-    ] {
-        let record = recorded(rt.alloc(), id)?;
-        assert!(rt; BuildTargetId::new(&record) == id, "{id:?}");
-    }
-    Ok(())
-}
-
-fn target(alloc: Global, id: OwnedBuildTargetId) -> Result<BuildTargetRecord, AllocError>
-    ensures { IfOk result (λ target. IsSome (target_name target)) }
+fn target(rt: &impl Abort, alloc: Global, id: BuildTargetId<'_>) -> BuildTargetRecord
+    ensures { IsSome (target_name result) }
 {
-    Ok(BuildTargetRecord {
-        id,
+    BuildTargetRecord {
+        id: recorded(rt, alloc, id),
         kind: BuildTargetKindRecord::ProcMacro,
-        lib_name: Some(text(alloc, "l")?),
-        required_features: texts(alloc, &["f"])?,
-        path: path(alloc, "src/lib.rs")?,
-        edition: text(alloc, "2021")?,
+        lib_name: Some(text(rt, alloc, "l")),
+        required_features: texts(rt, alloc, &["f"]),
+        path: path(rt, alloc, "src/lib.rs"),
+        edition: text(rt, alloc, "2021"),
         doc_by_default: true,
         doctest_by_default: false,
         test_by_default: true,
-    })
-}
-
-#[test]
-fn target_names(rt: HostRuntime) -> Result<(), Fail> {
-    for (id, id_name, name) in [
-        (BuildTargetId::Library, None, "l"),
-        (BuildTargetId::BuildScript, None, "l"),
-        (BuildTargetId::Example("e"), Some("e"), "e"),
-    ] {
-        assert_eq!(rt; id.name(), id_name);
-        let record = target(rt.alloc(), recorded(rt.alloc(), id)?)?;
-        assert_eq!(rt; BuildTarget::new(&record).name(), name);
     }
-    Ok(())
 }
 
 fn target_fields_hold(rt: &impl Abort, target: BuildTarget<'_>) {
-    assert!(rt; target.id() == BuildTargetId::Library);
-    assert!(rt; target.kind() == BuildTargetKind::ProcMacro);
     let [feature] = target.required_features() else {
         panic!(rt; "one feature");
     };
-    assert_eq!(rt; feature.as_str(), "f");
-    assert!(rt; target.path() == Utf8Path::new("src/lib.rs"));
-    assert_eq!(rt; target.edition(), "2021");
-    assert!(rt; target.doc_by_default());
-    assert!(rt; !target.doctest_by_default());
-    assert!(rt; target.test_by_default());
+    let fields = [
+        ("kind", target.kind() == BuildTargetKind::ProcMacro),
+        ("required_features", feature.as_str() == "f"),
+        ("path", target.path() == Utf8Path::new("src/lib.rs")),
+        ("edition", target.edition() == "2021"),
+        ("doc_by_default", target.doc_by_default()),
+        ("doctest_by_default", !target.doctest_by_default()),
+        ("test_by_default", target.test_by_default()),
+    ];
+    hold(rt, &fields);
+}
+
+// Each ID, the name in it, and the name of a target that has it.
+const NAMED: &[(BuildTargetId<'static>, Option<&str>, &str)] = &[
+    (BuildTargetId::Library, None, "l"),
+    (BuildTargetId::BuildScript, None, "l"),
+    (BuildTargetId::Binary("n"), Some("n"), "n"),
+    (BuildTargetId::Example("e"), Some("e"), "e"),
+    (BuildTargetId::Example("n"), Some("n"), "n"),
+    (BuildTargetId::Test("n"), Some("n"), "n"),
+    (BuildTargetId::Benchmark("n"), Some("n"), "n"),
+];
+
+#[test]
+fn target_fields(rt: HostRuntime) {
+    for (id, id_name, name) in NAMED {
+        let record = target(&rt, rt.alloc(), *id);
+        let target = BuildTarget::new(&record);
+        assert!(rt;
+            BuildTargetId::new(&record.id) == *id,
+            "recorded_ids: {id:?}"
+        );
+        let ids = [
+            ("target_fields", target.id() == *id),
+            ("target_names", id.name() == *id_name),
+            ("target_names", target.name() == *name),
+        ];
+        hold(&rt, &ids);
+        target_fields_hold(&rt, target);
+    }
 }
 
 #[test]
-fn target_fields(rt: HostRuntime) -> Result<(), Fail> {
-    let record = target(rt.alloc(), OwnedBuildTargetId::Library)?;
-    target_fields_hold(&rt, BuildTarget::new(&record));
-    Ok(())
-}
-
-fn library_kind_holds(rt: &impl Abort, library: &BuildTargetKindRecord) {
-    let BuildTargetKind::LibraryOrExample([first, second]) = BuildTargetKind::new(library) else {
+fn target_kinds(rt: HostRuntime) {
+    let types = texts(&rt, rt.alloc(), &["rlib", "cdylib", "rlib"]);
+    let library = BuildTargetKindRecord::LibraryOrExample(SortedSet::new(types));
+    let BuildTargetKind::LibraryOrExample([first, second]) = BuildTargetKind::new(&library) else {
         panic!(rt; "two crate types");
     };
-    assert!(rt; first.as_str() == "cdylib");
-    assert!(rt; second.as_str() == "rlib");
-    assert!(rt; BuildTargetKind::new(library) == BuildTargetKind::new(library));
-}
-
-#[test]
-fn target_kinds(rt: HostRuntime) -> Result<(), Fail> {
-    let types = texts(rt.alloc(), &["rlib", "cdylib", "rlib"])?;
-    let library = BuildTargetKindRecord::LibraryOrExample(SortedSet::new(types));
-    library_kind_holds(&rt, &library);
-    let kind = BuildTargetKind::new(&BuildTargetKindRecord::ProcMacro);
-    assert!(rt; kind == BuildTargetKind::ProcMacro);
-    let kind = BuildTargetKind::new(&BuildTargetKindRecord::Binary);
-    assert!(rt; kind == BuildTargetKind::Binary);
-    Ok(())
+    let proc_macro = BuildTargetKind::new(&BuildTargetKindRecord::ProcMacro);
+    let binary = BuildTargetKind::new(&BuildTargetKindRecord::Binary);
+    let kinds = [
+        ("first type", first.as_str() == "cdylib"),
+        ("second type", second.as_str() == "rlib"),
+        (
+            "library",
+            BuildTargetKind::new(&library) == BuildTargetKind::new(&library),
+        ),
+        ("proc macro", proc_macro == BuildTargetKind::ProcMacro),
+        ("binary", binary == BuildTargetKind::Binary),
+    ];
+    hold(&rt, &kinds);
 }
