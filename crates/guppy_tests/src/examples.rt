@@ -9,19 +9,19 @@
 //! ```
 //!
 //! An answer is words and numbers, an error is its text, and no text is `nothing`. Where more than one
-//! answer is right, ` or ` stands between them.
-use crate::records::{Records, graph_of, records_of};
+//! answer is right, ` or ` stands between them. A question's first word tells the module that answers it:
+//! `package`, `workspace` and `resolve` do so, `graphs` has the others.
+use crate::graphs::{self, ask_graph};
+use crate::queries::{self, ask_query};
+use crate::records::{graph_of, ids};
+use crate::views::{self, ask_package, ask_workspace};
+use crate::{lists, sets};
 use guppy::PackageGraph;
-use guppy_data::Error;
+use guppy::set::laws::resolved_sets_are_whole;
+use guppy_data::{Error, PackageId};
 use std::alloc::{AllocError, Global};
 use std::process::Abort;
 use std::test::Fail;
-
-/// Answers the questions of a kind.
-pub(super) trait Questions {
-    /// Adds the answer to a question of these words.
-    fn answer(&self, graph: &PackageGraph, words: &[&str], out: &mut String) -> Result<(), Error>;
-}
 
 /// Adds a word, behind a space where it isn't the first.
 pub(super) fn put(out: &mut String, word: &str) -> Result<(), AllocError> {
@@ -40,27 +40,43 @@ pub(super) fn put_truth(out: &mut String, truth: bool) -> Result<(), AllocError>
     put(out, if truth { "yes" } else { "no" })
 }
 
-// The answer of the graph of these records.
-fn tell<Q: Questions>(
-    questions: &Q,
-    records: Records,
+// Adds the answer to a question of these words. The IDs are those of the words, place by place.
+fn answer(
+    graph: &PackageGraph,
     words: &[&str],
+    ids: &[PackageId],
     out: &mut String,
 ) -> Result<(), Error> {
-    let graph = graph_of(records)?;
-    questions.answer(&graph, words, out)
+    match (words, ids) {
+        (["package", _, words @ ..], [_, name, ids @ ..]) => {
+            ask_package(graph.metadata(name)?, words, ids, out)
+        }
+        (["workspace", words @ ..], _) => ask_workspace(graph, words, out),
+        (["resolve", words @ ..], [_, ids @ ..]) => ask_query(graph, words, ids, out),
+        _ => ask_graph(graph, words, ids, out),
+    }
 }
 
-fn tell_all<Q: Questions>(
+fn tell(
     alloc: Global,
-    questions: &Q,
+    graph: &str,
+    words: &[&str],
+    ids: &[PackageId],
+    out: &mut String,
+) -> Result<(), Error> {
+    let graph = graph_of(alloc, graph)?;
+    answer(&graph, words, ids, out)
+}
+
+fn tell_all(
+    alloc: Global,
     graph: &str,
     question: &str,
     out: &mut String,
-) -> Result<(), Fail> {
+) -> Result<(), AllocError> {
     let words: Vec<&str> = question.split_whitespace().collect(alloc)?;
-    let records = records_of(alloc, graph)?;
-    if let Err(error) = tell(questions, records, &words, out) {
+    let ids = ids(alloc, &words)?;
+    if let Err(error) = tell(alloc, graph, &words, &ids, out) {
         write!(out, "{error}")?;
     }
     if out.is_empty() {
@@ -69,40 +85,73 @@ fn tell_all<Q: Questions>(
     Ok(())
 }
 
-fn assert_answer<Q: Questions>(
+fn is_wanted(answer: &str, wanted: &str) -> bool {
+    for text in wanted.split(" or ") {
+        if text == answer {
+            return true;
+        }
+    }
+    false
+}
+
+fn assert_answer(
     rt: &impl Abort,
     alloc: Global,
-    questions: &Q,
     example: (&str, &str),
-    question: &str,
-    wanted: &str,
-) -> Result<(), Fail> {
+    asked: (&str, &str),
+    answer: &mut String,
+) -> Result<(), AllocError> {
     let (name, graph) = example;
-    let mut answer = String::new(alloc);
-    tell_all(alloc, questions, graph, question, &mut answer)?;
+    let (question, wanted) = asked;
+    answer.clear();
+    tell_all(alloc, graph, question, answer)?;
     let answer = answer.as_str();
-    let is_wanted = wanted.split(" or ").any(|text| text == answer);
-    assert!(rt; is_wanted, "{name}: {question} = {answer}");
+    assert!(rt; is_wanted(answer, wanted), "{name}: {question} = {answer}");
     Ok(())
 }
 
-/// Asks each question of the examples, and compares the answers.
-pub(super) fn assert_examples<Q: Questions>(
+// Asks each question of the tables, and compares the answers.
+fn assert_examples(
     rt: &impl Abort,
     alloc: Global,
-    questions: &Q,
-    examples: &str,
-) -> Result<(), Fail> {
-    let mut example = ("", "");
-    for line in examples.lines() {
-        let line = line.trim();
-        if let Some((question, wanted)) = line.split_once(" = ") {
-            assert_answer(rt, alloc, questions, example, question, wanted)?;
-        } else if let Some(next) = line.split_once(" | ") {
-            example = next;
-        } else {
-            assert_eq!(rt; line, "");
+    tables: &[&str],
+    answer: &mut String,
+) -> Result<(), AllocError> {
+    for table in tables {
+        let mut example = ("", "");
+        for line in table.lines() {
+            let line = line.trim();
+            if let Some((question, wanted)) = line.split_once(" = ") {
+                assert_answer(rt, alloc, example, (question, wanted), answer)?;
+            } else if let Some(next) = line.split_once(" | ") {
+                example = next;
+            } else {
+                assert!(rt; line.is_empty(), "{line}");
+            }
         }
     }
+    Ok(())
+}
+
+const TABLES: [&str; 12] = [
+    graphs::GRAPHS,
+    graphs::BROKEN_RULES,
+    graphs::VERIFIED,
+    lists::LISTS,
+    lists::LARGE,
+    queries::QUERIES,
+    sets::SETS,
+    sets::PARTS,
+    sets::TWO_GRAPHS,
+    views::FIELDS,
+    views::PACKAGES,
+    views::WORKSPACES,
+];
+
+#[test]
+fn examples(rt: HostRuntime) -> Result<(), Fail> {
+    resolved_sets_are_whole();
+    let mut answer = String::new(rt.alloc());
+    assert_examples(&rt, rt.alloc(), &TABLES, &mut answer)?;
     Ok(())
 }

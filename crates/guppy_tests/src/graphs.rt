@@ -1,130 +1,112 @@
 //! Graphs: what they hold, which records make none, what depends on what, and whether they are verified.
-use crate::examples::{Questions, assert_examples, put, put_number, put_truth};
-use crate::records::id;
-use crate::sets::ask_set;
+use crate::examples::{put, put_number, put_truth};
+use crate::lists::{ask_looks, put_cycles, put_in_turn};
+use crate::sets::{ask_set, beside};
 use guppy::{DependsCache, PackageGraph};
-use guppy_data::Error;
-use std::alloc::AllocError;
-use std::test::Fail;
+use guppy_data::{Error, PackageId};
 
+// How many packages and links there are, and how many the walks over IDs, packages and members have.
 fn put_counts(graph: &PackageGraph, out: &mut String) -> Result<(), Error> {
     put_number(out, graph.package_count())?;
     put_number(out, graph.link_count())?;
-    Ok(())
-}
-
-// How many packages the walks over IDs, packages and members have.
-fn put_lengths(graph: &PackageGraph, out: &mut String) -> Result<(), Error> {
     put_number(out, graph.package_ids().len())?;
     put_number(out, graph.packages().len())?;
     put_number(out, graph.workspace().member_count())?;
     Ok(())
 }
 
-fn put_sorted(texts: &mut Vec<&str>, out: &mut String) -> Result<(), AllocError> {
+// All IDs and names in the order of texts, and how many are left of each after one was taken.
+fn put_each(graph: &PackageGraph, out: &mut String) -> Result<(), Error> {
+    let mut texts = Vec::new(graph.alloc());
+    for id in graph.package_ids() {
+        texts.push(id.repr())?;
+    }
+    for package in graph.packages() {
+        texts.push(package.name())?;
+    }
     texts.sort_unstable();
-    for text in texts.iter() {
+    for text in &texts {
         put(out, text)?;
     }
+    put_rest(graph, out)
+}
+
+fn put_rest(graph: &PackageGraph, out: &mut String) -> Result<(), Error> {
+    let mut ids = graph.package_ids();
+    put_truth(out, ids.next().is_some())?;
+    put_number(out, ids.len())?;
+    let mut packages = graph.packages();
+    put_truth(out, packages.next().is_some())?;
+    put_number(out, packages.len())?;
     Ok(())
 }
 
-// All IDs in the order of texts, and how many are left after one was taken.
-fn put_ids(graph: &PackageGraph, out: &mut String) -> Result<(), Error> {
-    let mut ids: Vec<&str> = graph
-        .package_ids()
-        .map(|id| id.repr())
-        .collect(graph.alloc())?;
-    put_sorted(&mut ids, out)?;
-    let mut rest = graph.package_ids();
-    put_truth(out, rest.next().is_some())?;
-    put_number(out, rest.len())?;
-    Ok(())
-}
-
-// The same of the packages and their names.
-fn put_names(graph: &PackageGraph, out: &mut String) -> Result<(), Error> {
-    let mut names: Vec<&str> = graph
-        .packages()
-        .map(|package| package.name())
-        .collect(graph.alloc())?;
-    put_sorted(&mut names, out)?;
-    let mut rest = graph.packages();
-    put_truth(out, rest.next().is_some())?;
-    put_number(out, rest.len())?;
-    Ok(())
-}
-
-fn put_depends(graph: &PackageGraph, from: &str, to: &str, out: &mut String) -> Result<(), Error> {
-    let from = id(graph.alloc(), from)?;
-    let to = id(graph.alloc(), to)?;
-    put_truth(out, graph.depends_on(&from, &to)?)?;
-    Ok(())
-}
-
-fn put_direct(graph: &PackageGraph, from: &str, to: &str, out: &mut String) -> Result<(), Error> {
-    let from = id(graph.alloc(), from)?;
-    let to = id(graph.alloc(), to)?;
-    put_truth(out, graph.directly_depends_on(&from, &to)?)?;
+fn put_relation(
+    graph: &PackageGraph,
+    relation: &str,
+    from: &PackageId,
+    to: &PackageId,
+    out: &mut String,
+) -> Result<(), Error> {
+    let holds = match relation {
+        "direct" => graph.directly_depends_on(from, to)?,
+        "cyclic" => graph.cycles().is_cyclic(from, to)?,
+        _ => graph.depends_on(from, to)?,
+    };
+    put_truth(out, holds)?;
     Ok(())
 }
 
 fn put_cached(
     cache: &mut DependsCache<'_>,
-    graph: &PackageGraph,
-    ends: &str,
+    asked: &[PackageId],
     out: &mut String,
 ) -> Result<(), Error> {
-    let (from, to) = ends.split_once('>').unwrap_or((ends, ends));
-    let from = id(graph.alloc(), from)?;
-    let to = id(graph.alloc(), to)?;
-    put_truth(out, cache.depends_on(&from, &to)?)?;
-    Ok(())
-}
-
-fn put_all_cached(
-    cache: &mut DependsCache<'_>,
-    graph: &PackageGraph,
-    asked: &[&str],
-    out: &mut String,
-) -> Result<(), Error> {
-    for ends in asked {
-        put_cached(cache, graph, ends, out)?;
-    }
-    Ok(())
-}
-
-// What one cache answers to each in turn.
-fn ask_cache(graph: &PackageGraph, asked: &[&str], out: &mut String) -> Result<(), Error> {
-    let mut cache = graph.new_depends_cache()?;
-    put_all_cached(&mut cache, graph, asked, out)
-}
-
-fn put_verified(graph: &PackageGraph, out: &mut String) -> Result<(), Error> {
-    graph.verify()?;
-    put(out, "ok")?;
-    Ok(())
-}
-
-struct OfGraphs;
-
-impl Questions for OfGraphs {
-    fn answer(&self, graph: &PackageGraph, words: &[&str], out: &mut String) -> Result<(), Error> {
-        match words {
-            ["counts"] => put_counts(graph, out),
-            ["lengths"] => put_lengths(graph, out),
-            ["ids"] => put_ids(graph, out),
-            ["names"] => put_names(graph, out),
-            ["depends", from, to] => put_depends(graph, from, to, out),
-            ["direct", from, to] => put_direct(graph, from, to, out),
-            ["cache", asked @ ..] => ask_cache(graph, asked, out),
-            ["verify"] => put_verified(graph, out),
-            _ => ask_set(graph, words, out),
+    for pair in asked.chunks_exact(2) {
+        if let [from, to] = pair {
+            put_truth(out, cache.depends_on(from, to)?)?;
         }
     }
+    Ok(())
 }
 
-const GRAPHS: &str = "
+// What one cache answers to each two in turn.
+fn ask_cache(graph: &PackageGraph, asked: &[PackageId], out: &mut String) -> Result<(), Error> {
+    let mut cache = graph.new_depends_cache()?;
+    put_cached(&mut cache, asked, out)
+}
+
+/// Answers a question about the graph, or else about a set.
+pub(super) fn ask_graph(
+    graph: &PackageGraph,
+    words: &[&str],
+    ids: &[PackageId],
+    out: &mut String,
+) -> Result<(), Error> {
+    match (words, ids) {
+        (["counts"], _) => put_counts(graph, out),
+        (["each"], _) => put_each(graph, out),
+        ([relation @ ("depends" | "direct" | "cyclic"), ..], [_, from, to]) => {
+            put_relation(graph, relation, from, to, out)
+        }
+        (["cache", ..], [_, asked @ ..]) => ask_cache(graph, asked, out),
+        (["verify"], _) => {
+            graph.verify()?;
+            Ok(put(out, "ok")?)
+        }
+        (["cycles"], _) => put_cycles(graph, false, out),
+        (["cycles", "from-back"], _) => put_cycles(graph, true, out),
+        (["looks", words @ ..], _) => ask_looks(graph, words, out),
+        (["in-turn", looks @ ..], _) => {
+            put_in_turn(graph, out)?;
+            ask_looks(graph, looks, out)
+        }
+        (["beside", other, ..], [_, _, a, b]) => beside(graph, other, a, b, out),
+        _ => ask_set(graph, words, ids, out),
+    }
+}
+
+pub(super) const GRAPHS: &str = "
 repeated_link | a b c d: a>b a>b
     counts = failed to construct package graph: repeated link 1
 repeated_link | a b c d: a>b a>b a>z
@@ -140,13 +122,13 @@ first_faults | a: a>a a>a
     counts = failed to construct package graph: repeated link 1
 
 counts | a b c d: a>a a>c
-    counts = 4 2
+    counts = 4 2 4 4 0
 
 ids_once | b d a c
-    ids = a b c d yes 3
+    each = a a b b c c d d yes 3 yes 3
 
-each_package | b d a c
-    names = a b c d yes 3
+each_package | b=x d=w a=z c=y
+    each = a b c d w x y z yes 3 yes 3
 
 depends_by_links | a b c d: c>b b>a d>d
     depends c a = yes
@@ -168,7 +150,7 @@ direct_dependence | a b c d: a>b b>c d>d
     direct z y = unknown package ID: z
 
 cache_forgets | a b c d: a>b b>c
-    cache a>c c>a a>a = yes no yes
+    cache a c c a a a = yes no yes
 
 resolves_forward | a b c d: c>b b>a a>c d>a
     forward c c = abc 3
@@ -185,12 +167,7 @@ package_name | n k m=n
     len of name m = 0 0
 ";
 
-#[test]
-fn graphs(rt: HostRuntime) -> Result<(), Fail> {
-    assert_examples(&rt, rt.alloc(), &OfGraphs, GRAPHS)
-}
-
-const BROKEN_RULES: &str = "
+pub(super) const BROKEN_RULES: &str = "
 target_faults | p +lib +bin=x +bin=x
     counts = failed to construct package graph: repeated build target 2 in package 0
 target_faults | p +lib +bin=x
@@ -202,22 +179,17 @@ equal_paths | p=p@a q=q@./a r=r@a/.
 equal_names | p=n@p q=n@q
     counts = failed to construct package graph: repeated workspace name at package 1
 equal_names | n p=n@p
-    counts = 2 0
+    counts = 2 0 2 2 1
 
 unknown_default_member | a !a !z !a
     counts = failed to construct package graph: unknown default member 1
 unknown_default_member | a !a !a
-    counts = 1 0
+    counts = 1 0 1 1 0
 ";
 
-#[test]
-fn broken_rules(rt: HostRuntime) -> Result<(), Fail> {
-    assert_examples(&rt, rt.alloc(), &OfGraphs, BROKEN_RULES)
-}
-
-const VERIFIED: &str = "
+pub(super) const VERIFIED: &str = "
 empty_graph | :
-    counts = 0 0
+    counts = 0 0 0 0 0
     verify = ok
 
 prerelease_requirement | a b#1.0.0-alpha: a>b#*
@@ -235,8 +207,3 @@ verify_by_position | a b#1.0.0-alpha: b-a a>b#^1
 verify_by_position | a b#1.0.0: b-a a>b#^1
     verify = internal error in package graph: no section at link 0
 ";
-
-#[test]
-fn verified(rt: HostRuntime) -> Result<(), Fail> {
-    assert_examples(&rt, rt.alloc(), &OfGraphs, VERIFIED)
-}

@@ -1,7 +1,7 @@
 //! Tests of package graphs through the public calls of `guppy` alone.
 //!
 //! They stand beside the library and not in it: a crate with tests is proved twice, with them and without.
-//! Most are examples, written as texts: `records` says how a graph is written, and `examples` how a
+//! All are examples, written as texts: `records` says how a graph is written, and `examples` how a
 //! question and its answer are. `visitors` has a visitor with a stated meaning.
 #![tactic(auto)]
 

@@ -13,9 +13,14 @@
 //! | `+macro=m` | a library of the kind of a procedural macro |
 //! | `+misfit=t` | a test target of a library's kind |
 //! | `!a` | a default member |
+//! | `chain*9` | p0 to p8, with a link from each to the next |
+//! | `ring*9` | the same, and a link from the last to the first |
+//! | `complete*9` | p0 to p8, with a link from each to each |
 //!
 //! A link `a>b` has a normal section, `a~b` one for development, `a+b` those for building and
 //! development, and `a-b` none. It takes any version, and `a>b#^1` those that meet the requirement.
+//! `filled` fills each field of the first package, the first link and the workspace.
+use crate::filled::fill;
 use guppy::PackageGraph;
 use guppy_data::{
     BuildTargetKindRecord, BuildTargetRecord, DepRequiredOrOptional, DependencyReqImpl, Error,
@@ -45,8 +50,13 @@ pub(super) fn id(alloc: Global, id: &str) -> Result<PackageId, AllocError> {
     Ok(PackageId::new(text(alloc, id)?))
 }
 
+/// The package IDs of these texts.
 pub(super) fn ids(alloc: Global, texts: &[&str]) -> Result<Vec<PackageId>, AllocError> {
-    texts.iter().map(|text| id(alloc, text)).try_collect(alloc)
+    let mut ids = Vec::new(alloc);
+    for text in texts {
+        ids.push(id(alloc, text)?)?;
+    }
+    Ok(ids)
 }
 
 pub(super) fn path(alloc: Global, path: &str) -> Result<Utf8PathBuf, AllocError> {
@@ -57,8 +67,36 @@ fn no_path(alloc: Global) -> Utf8PathBuf {
     Utf8PathBuf::new(String::new(alloc))
 }
 
-fn bare_package(alloc: Global, id: PackageId, name: String) -> PackageRecord {
-    PackageRecord {
+// Asked for everywhere, or nowhere.
+fn asked_for(alloc: Global, is_asked_for: bool) -> DepRequiredOrOptional {
+    DepRequiredOrOptional {
+        build_if: if is_asked_for {
+            PlatformStatusImpl::Always
+        } else {
+            PlatformStatusImpl::never(alloc)
+        },
+        default_features_if: PlatformStatusImpl::never(alloc),
+        no_default_features_if: PlatformStatusImpl::never(alloc),
+        feature_targets: BTreeMap::new(alloc),
+    }
+}
+
+fn section(alloc: Global, is_present: bool) -> DependencyReqImpl {
+    DependencyReqImpl {
+        required: asked_for(alloc, is_present),
+        optional: asked_for(alloc, false),
+    }
+}
+
+fn add_package(
+    packages: &mut Vec<PackageRecord>,
+    alloc: Global,
+    id_text: &str,
+    name: &str,
+) -> Result<(), AllocError> {
+    let id = id(alloc, id_text)?;
+    let name = text(alloc, name)?;
+    packages.push(PackageRecord {
         id,
         name,
         version: Version::new(1, 2, 3),
@@ -83,115 +121,7 @@ fn bare_package(alloc: Global, id: PackageId, name: String) -> PackageRecord {
         named_features: IndexMap::new(alloc),
         optional_deps: IndexSet::new(alloc),
         build_targets: Vec::new(alloc),
-    }
-}
-
-// Asked for everywhere, or nowhere.
-fn asked_for(alloc: Global, is_asked_for: bool) -> DepRequiredOrOptional {
-    DepRequiredOrOptional {
-        build_if: if is_asked_for {
-            PlatformStatusImpl::Always
-        } else {
-            PlatformStatusImpl::never(alloc)
-        },
-        default_features_if: PlatformStatusImpl::never(alloc),
-        no_default_features_if: PlatformStatusImpl::never(alloc),
-        feature_targets: BTreeMap::new(alloc),
-    }
-}
-
-fn section(alloc: Global, is_present: bool) -> DependencyReqImpl {
-    DependencyReqImpl {
-        required: asked_for(alloc, is_present),
-        optional: asked_for(alloc, false),
-    }
-}
-
-/// Which sections a link has.
-#[derive(Clone, Copy)]
-pub(super) struct Sections {
-    normal: bool,
-    build: bool,
-    dev: bool,
-}
-
-impl Sections {
-    pub(super) const NORMAL: Sections = Sections {
-        normal: true,
-        build: false,
-        dev: false,
-    };
-
-    pub(super) const DEV: Sections = Sections {
-        normal: false,
-        build: false,
-        dev: true,
-    };
-
-    const BUILD_AND_DEV: Sections = Sections {
-        normal: false,
-        build: true,
-        dev: true,
-    };
-
-    const NONE: Sections = Sections {
-        normal: false,
-        build: false,
-        dev: false,
-    };
-}
-
-fn bare_link(alloc: Global, from: PackageId, to: PackageId, sections: Sections) -> LinkRecord {
-    LinkRecord {
-        from,
-        to,
-        dep_name: String::new(alloc),
-        resolved_name: String::new(alloc),
-        version_req: VersionReq::star(alloc),
-        registry: None,
-        path: None,
-        normal: section(alloc, sections.normal),
-        build: section(alloc, sections.build),
-        dev: section(alloc, sections.dev),
-    }
-}
-
-fn target(alloc: Global, id: OwnedBuildTargetId, kind: BuildTargetKindRecord) -> BuildTargetRecord {
-    BuildTargetRecord {
-        id,
-        kind,
-        lib_name: None,
-        required_features: Vec::new(alloc),
-        path: no_path(alloc),
-        edition: String::new(alloc),
-        doc_by_default: false,
-        doctest_by_default: false,
-        test_by_default: false,
-    }
-}
-
-pub(super) fn add_package(
-    packages: &mut Vec<PackageRecord>,
-    alloc: Global,
-    id_text: &str,
-    name: &str,
-) -> Result<(), AllocError> {
-    let id = id(alloc, id_text)?;
-    let name = text(alloc, name)?;
-    packages.push(bare_package(alloc, id, name))?;
-    Ok(())
-}
-
-pub(super) fn add_link(
-    links: &mut Vec<LinkRecord>,
-    alloc: Global,
-    from: &str,
-    to: &str,
-    sections: Sections,
-) -> Result<(), AllocError> {
-    let from = id(alloc, from)?;
-    let to = id(alloc, to)?;
-    links.push(bare_link(alloc, from, to, sections))?;
+    })?;
     Ok(())
 }
 
@@ -209,29 +139,29 @@ fn add_member(
     Ok(())
 }
 
-fn add_named(
-    packages: &mut Vec<PackageRecord>,
-    alloc: Global,
-    id: &str,
-    name: &str,
-) -> Result<(), AllocError> {
-    match name.split_once('@') {
-        Some((name, place)) => add_member(packages, alloc, id, name, place),
-        None => add_package(packages, alloc, id, name),
+// An error that no graph gives, so that no example wants it.
+fn unread(alloc: Global, word: &str) -> Result<(), Error> {
+    Err(Error::FeatureGraphInternalError(text(alloc, word)?))
+}
+
+fn set_version(package: &mut PackageRecord, alloc: Global, version: &str) -> Result<(), Error> {
+    match Version::parse(alloc, version) {
+        Ok(version) => {
+            package.version = version;
+            Ok(())
+        }
+        Err(_) => unread(alloc, version),
     }
 }
 
-fn add_of_version(
-    packages: &mut Vec<PackageRecord>,
-    alloc: Global,
-    name: &str,
-    version: &str,
-) -> Result<(), Fail> {
-    add_package(packages, alloc, name, name)?;
-    if let Some(package) = packages.last_mut() {
-        package.version = Version::parse(alloc, version)?;
+fn set_requirement(link: &mut LinkRecord, alloc: Global, requirement: &str) -> Result<(), Error> {
+    match VersionReq::parse(alloc, requirement) {
+        Ok(requirement) => {
+            link.version_req = requirement;
+            Ok(())
+        }
+        Err(_) => unread(alloc, requirement),
     }
-    Ok(())
 }
 
 fn target_id(alloc: Global, kind: &str, name: &str) -> Result<OwnedBuildTargetId, AllocError> {
@@ -242,11 +172,21 @@ fn target_id(alloc: Global, kind: &str, name: &str) -> Result<OwnedBuildTargetId
     }
 }
 
-fn target_kind(alloc: Global, kind: &str) -> BuildTargetKindRecord {
-    match kind {
-        "macro" => BuildTargetKindRecord::ProcMacro,
-        "misfit" => BuildTargetKindRecord::LibraryOrExample(SortedSet::new(Vec::new(alloc))),
-        _ => BuildTargetKindRecord::Binary,
+fn target(alloc: Global, id: OwnedBuildTargetId, kind: &str) -> BuildTargetRecord {
+    BuildTargetRecord {
+        id,
+        kind: match kind {
+            "macro" => BuildTargetKindRecord::ProcMacro,
+            "misfit" => BuildTargetKindRecord::LibraryOrExample(SortedSet::new(Vec::new(alloc))),
+            _ => BuildTargetKindRecord::Binary,
+        },
+        lib_name: None,
+        required_features: Vec::new(alloc),
+        path: no_path(alloc),
+        edition: String::new(alloc),
+        doc_by_default: false,
+        doctest_by_default: false,
+        test_by_default: false,
     }
 }
 
@@ -257,146 +197,198 @@ fn add_target(
     name: &str,
 ) -> Result<(), AllocError> {
     let id = target_id(alloc, kind, name)?;
-    targets.push(target(alloc, id, target_kind(alloc, kind)))?;
-    Ok(())
-}
-
-fn name_library(
-    targets: &mut Vec<BuildTargetRecord>,
-    alloc: Global,
-    kind: &str,
-    name: &str,
-) -> Result<(), AllocError> {
-    if kind != "lib" && kind != "macro" {
-        return Ok(());
-    }
-    if let Some(library) = targets.last_mut() {
-        library.lib_name = Some(text(alloc, name)?);
-    }
-    Ok(())
-}
-
-fn add_target_word(
-    targets: &mut Vec<BuildTargetRecord>,
-    alloc: Global,
-    word: &str,
-) -> Result<(), AllocError> {
-    match word.split_once('=') {
-        Some((kind, name)) => {
-            add_target(targets, alloc, kind, name)?;
-            name_library(targets, alloc, kind, name)
+    targets.push(target(alloc, id, kind))?;
+    if let ("lib" | "macro", Some(library)) = (kind, targets.last_mut()) {
+        if !name.is_empty() {
+            library.lib_name = Some(text(alloc, name)?);
         }
-        None => add_target(targets, alloc, word, ""),
     }
+    Ok(())
 }
 
 fn add_package_word(
     packages: &mut Vec<PackageRecord>,
     alloc: Global,
     word: &str,
-) -> Result<(), Fail> {
+) -> Result<(), Error> {
     if let Some(target) = word.strip_prefix('+') {
+        let (kind, name) = target.split_once('=').unwrap_or((target, ""));
         if let Some(package) = packages.last_mut() {
-            add_target_word(&mut package.build_targets, alloc, target)?;
+            add_target(&mut package.build_targets, alloc, kind, name)?;
         }
     } else if let Some(place) = word.strip_prefix('@') {
         add_member(packages, alloc, place, place, place)?;
     } else if let Some((id, name)) = word.split_once('=') {
-        add_named(packages, alloc, id, name)?;
-    } else if let Some((name, version)) = word.split_once('#') {
-        add_of_version(packages, alloc, name, version)?;
+        match name.split_once('@') {
+            Some((name, place)) => add_member(packages, alloc, id, name, place)?,
+            None => add_package(packages, alloc, id, name)?,
+        }
     } else {
-        add_package(packages, alloc, word, word)?;
+        let (name, version) = word.split_once('#').unwrap_or((word, "1.2.3"));
+        add_package(packages, alloc, name, name)?;
+        if let Some(package) = packages.last_mut() {
+            set_version(package, alloc, version)?;
+        }
     }
     Ok(())
 }
 
-fn add_ends(links: &mut Vec<LinkRecord>, alloc: Global, ends: &str) -> Result<(), AllocError> {
+// The parts of a link without its requirement, and in which sections it is: normal, build, dev.
+fn ends_of(ends: &str) -> (&str, &str, [bool; 3]) {
     if let Some((from, to)) = ends.split_once('>') {
-        add_link(links, alloc, from, to, Sections::NORMAL)
+        (from, to, [true, false, false])
     } else if let Some((from, to)) = ends.split_once('~') {
-        add_link(links, alloc, from, to, Sections::DEV)
+        (from, to, [false, false, true])
     } else if let Some((from, to)) = ends.split_once('+') {
-        add_link(links, alloc, from, to, Sections::BUILD_AND_DEV)
-    } else if let Some((from, to)) = ends.split_once('-') {
-        add_link(links, alloc, from, to, Sections::NONE)
+        (from, to, [false, true, true])
     } else {
-        add_link(links, alloc, ends, "no other end", Sections::NONE)
+        let (from, to) = ends.split_once('-').unwrap_or((ends, "no other end"));
+        (from, to, [false, false, false])
     }
 }
 
-fn add_link_word(links: &mut Vec<LinkRecord>, alloc: Global, word: &str) -> Result<(), Fail> {
-    let Some((ends, requirement)) = word.split_once('#') else {
-        add_ends(links, alloc, word)?;
-        return Ok(());
-    };
-    add_ends(links, alloc, ends)?;
-    if let Some(link) = links.last_mut() {
-        link.version_req = VersionReq::parse(alloc, requirement)?;
-    }
-    Ok(())
-}
-
-fn add_default(
-    default_members: &mut Vec<PackageId>,
+fn add_link(
+    links: &mut Vec<LinkRecord>,
     alloc: Global,
-    word: &str,
+    from: &str,
+    to: &str,
+    sections: [bool; 3],
 ) -> Result<(), AllocError> {
-    default_members.push(id(alloc, word)?)?;
+    let from = id(alloc, from)?;
+    let to = id(alloc, to)?;
+    let [normal, build, dev] = sections;
+    links.push(LinkRecord {
+        from,
+        to,
+        dep_name: String::new(alloc),
+        resolved_name: String::new(alloc),
+        version_req: VersionReq::star(alloc),
+        registry: None,
+        path: None,
+        normal: section(alloc, normal),
+        build: section(alloc, build),
+        dev: section(alloc, dev),
+    })?;
     Ok(())
 }
 
-fn workspace(alloc: Global) -> WorkspaceRecord {
-    WorkspaceRecord {
-        root: no_path(alloc),
-        target_directory: no_path(alloc),
-        build_directory: None,
-        metadata_table: Value::Null,
-        default_members: Vec::new(alloc),
+fn add_link_word(links: &mut Vec<LinkRecord>, alloc: Global, word: &str) -> Result<(), Error> {
+    let (ends, requirement) = word.split_once('#').unwrap_or((word, "*"));
+    let (from, to, sections) = ends_of(ends);
+    add_link(links, alloc, from, to, sections)?;
+    if let Some(link) = links.last_mut() {
+        set_requirement(link, alloc, requirement)?;
     }
+    Ok(())
+}
+
+/// The links of this shape between so many positions: from, to, and whether it is dev-only.
+pub(super) fn shape_of(
+    alloc: Global,
+    shape: &str,
+    count: usize,
+) -> Result<Vec<(usize, usize, bool)>, AllocError> {
+    let mut ends = Vec::new(alloc);
+    if shape == "complete" {
+        for from in 0..count {
+            for to in 0..count {
+                ends.push((from, to, false))?;
+            }
+        }
+    } else {
+        for to in 1..count {
+            ends.push((to - 1, to, false))?;
+        }
+        if shape == "ring" {
+            ends.push((count.saturating_sub(1), 0, false))?;
+        }
+    }
+    Ok(ends)
+}
+
+pub(super) fn numbered_name(alloc: Global, position: usize) -> Result<String, AllocError> {
+    format!(in alloc; "p{position}")
+}
+
+fn add_numbered(
+    packages: &mut Vec<PackageRecord>,
+    alloc: Global,
+    position: usize,
+) -> Result<(), AllocError> {
+    let name = numbered_name(alloc, position)?;
+    add_package(packages, alloc, name.as_str(), name.as_str())
+}
+
+fn add_numbered_link(
+    links: &mut Vec<LinkRecord>,
+    alloc: Global,
+    ends: (usize, usize, bool),
+) -> Result<(), AllocError> {
+    let (from, to, is_dev_only) = ends;
+    let from = numbered_name(alloc, from)?;
+    let to = numbered_name(alloc, to)?;
+    let sections = [!is_dev_only, false, is_dev_only];
+    add_link(links, alloc, from.as_str(), to.as_str(), sections)
 }
 
 impl Records {
-    /// Those of a graph without packages.
-    pub(super) fn new(alloc: Global) -> Self {
-        Records {
-            packages: Vec::new(alloc),
-            links: Vec::new(alloc),
-            workspace: workspace(alloc),
+    fn add_shape(&mut self, alloc: Global, shape: &str, count: usize) -> Result<(), AllocError> {
+        for position in 0..count {
+            add_numbered(&mut self.packages, alloc, position)?;
         }
+        let shape = shape_of(alloc, shape, count)?;
+        for ends in &shape {
+            add_numbered_link(&mut self.links, alloc, *ends)?;
+        }
+        Ok(())
     }
 
-    fn add_packages(&mut self, alloc: Global, words: &str) -> Result<(), Fail> {
-        for word in words.split_whitespace() {
-            match word.strip_prefix('!') {
-                Some(id) => add_default(&mut self.workspace.default_members, alloc, id)?,
-                None => add_package_word(&mut self.packages, alloc, word)?,
+    fn add_word(&mut self, alloc: Global, word: &str) -> Result<(), Error> {
+        if let Some(member) = word.strip_prefix('!') {
+            self.workspace.default_members.push(id(alloc, member)?)?;
+        } else if let Some((shape, count)) = word.split_once('*') {
+            self.add_shape(alloc, shape, count.parse().unwrap_or(0))?;
+        } else {
+            add_package_word(&mut self.packages, alloc, word)?;
+        }
+        Ok(())
+    }
+
+    fn add(&mut self, alloc: Global, line: &str) -> Result<(), Error> {
+        let (packages, links) = line.split_once(':').unwrap_or((line, ""));
+        for word in packages.split_whitespace() {
+            self.add_word(alloc, word)?;
+        }
+        for word in links.split_whitespace() {
+            if word == "filled" {
+                fill(alloc, self)?;
+            } else {
+                add_link_word(&mut self.links, alloc, word)?;
             }
         }
         Ok(())
     }
-
-    fn add_links(&mut self, alloc: Global, words: &str) -> Result<(), Fail> {
-        for word in words.split_whitespace() {
-            add_link_word(&mut self.links, alloc, word)?;
-        }
-        Ok(())
-    }
-
-    fn add(&mut self, alloc: Global, line: &str) -> Result<(), Fail> {
-        let (packages, links) = line.split_once(':').unwrap_or((line, ""));
-        self.add_packages(alloc, packages)?;
-        self.add_links(alloc, links)
-    }
 }
 
-/// The records that the line says.
-pub(super) fn records_of(alloc: Global, line: &str) -> Result<Records, Fail> {
-    let mut records = Records::new(alloc);
+// The records that the line says.
+fn records_of(alloc: Global, line: &str) -> Result<Records, Error> {
+    let mut records = Records {
+        packages: Vec::new(alloc),
+        links: Vec::new(alloc),
+        workspace: WorkspaceRecord {
+            root: no_path(alloc),
+            target_directory: no_path(alloc),
+            build_directory: None,
+            metadata_table: Value::Null,
+            default_members: Vec::new(alloc),
+        },
+    };
     records.add(alloc, line)?;
     Ok(records)
 }
 
-pub(super) fn graph_of(records: Records) -> Result<PackageGraph, Error> {
+/// The graph that the line says.
+pub(super) fn graph_of(alloc: Global, line: &str) -> Result<PackageGraph, Error> {
+    let records = records_of(alloc, line)?;
     PackageGraph::from_records(records.packages, records.links, records.workspace)
 }

@@ -1,17 +1,136 @@
-//! What is read out of a graph: links, build targets, members and default members.
-use crate::examples::{Questions, assert_examples, put, put_number, put_truth};
-use crate::records::id;
-use crate::sets::{ask_set, direction_of};
+//! What is read out of a graph: fields, links, build targets, members and default members.
+use crate::examples::{put, put_number, put_truth};
+use crate::sets::direction_of;
 use guppy::{PackageGraph, PackageLink, PackageMetadata};
-use guppy_data::{BuildTargetId, Error, Utf8Path};
-use std::test::Fail;
+use guppy_data::{BuildTargetId, DependencyKind, Error, PackageId, Utf8Path};
+use semver::Version;
+use serde_json::Value;
 
-fn package_of<'g>(graph: &'g PackageGraph, name: &str) -> Result<PackageMetadata<'g>, Error> {
-    graph.metadata(&id(graph.alloc(), name)?)
+fn text_of<'g>(package: PackageMetadata<'g>, field: &str) -> Option<&'g str> {
+    match field {
+        "id" => Some(package.id().repr()),
+        "name" => Some(package.name()),
+        "edition" => Some(package.edition()),
+        "description" => package.description(),
+        "license" => package.license(),
+        "its-links" => package.links(),
+        "default-run" => package.default_run(),
+        "repository" => package.repository(),
+        "homepage" => package.homepage(),
+        "documentation" => package.documentation(),
+        "first-feature" => package.named_features().next(),
+        _ => None,
+    }
 }
 
-// The link's number, if there is one.
-fn put_number_of(link: Option<PackageLink<'_>>, out: &mut String) -> Result<(), Error> {
+fn path_of<'g>(package: PackageMetadata<'g>, field: &str) -> Option<Utf8Path<'g>> {
+    match field {
+        "source" => package.source().workspace_path(),
+        "license-file" => package.license_file(),
+        "readme" => package.readme(),
+        "manifest-path" => Some(package.manifest_path()),
+        _ => None,
+    }
+}
+
+fn put_list(package: PackageMetadata<'_>, field: &str, out: &mut String) -> Result<(), Error> {
+    let items = match field {
+        "authors" => package.authors(),
+        "categories" => package.categories(),
+        _ => package.keywords(),
+    };
+    for item in items {
+        put(out, item.as_str())?;
+    }
+    Ok(())
+}
+
+// Whether the package is so, or as `filled` says.
+fn holds(package: PackageMetadata<'_>, field: &str) -> Option<bool> {
+    let holds = match field {
+        "version" => *package.version() == Version::new(1, 2, 3),
+        "rust-version" => package.rust_version() == Some(&Version::new(1, 85, 0)),
+        "metadata-table" => *package.metadata_table() == Value::Bool(true),
+        "in-workspace" => package.in_workspace(),
+        "publish" => package.publish().can_publish_to("registry"),
+        "has-default-feature" => package.has_default_feature(),
+        "proc-macro" => package.is_proc_macro(),
+        "build-script" => package.has_build_script(),
+        "one-feature" => package.named_features_full().len() == 1,
+        "one-optional-dep" => package.optional_deps_full().len() == 1,
+        _ => return None,
+    };
+    Some(holds)
+}
+
+fn put_field(package: PackageMetadata<'_>, field: &str, out: &mut String) -> Result<(), Error> {
+    if let Some(text) = text_of(package, field) {
+        put(out, text)?;
+    } else if let Some(path) = path_of(package, field) {
+        put(out, path.as_str())?;
+    } else if let Some(truth) = holds(package, field) {
+        put_truth(out, truth)?;
+    } else {
+        put(out, "unknown question")?;
+    }
+    Ok(())
+}
+
+fn link_text_of<'g>(link: PackageLink<'g>, field: &str) -> Option<&'g str> {
+    match field {
+        "from" => Some(link.from().name()),
+        "to" => Some(link.to().name()),
+        "dep-name" => Some(link.dep_name()),
+        "resolved-name" => Some(link.resolved_name()),
+        "registry" => link.registry(),
+        _ => None,
+    }
+}
+
+fn link_holds(link: PackageLink<'_>, field: &str) -> Option<bool> {
+    let holds = match field {
+        "path" => link.path() == Some(Utf8Path::new("../b")),
+        "version-req" => link.version_req().matches(&Version::new(1, 2, 3)),
+        "normal" => link.normal().is_present(),
+        "build" => link.build().is_present(),
+        "dev" => link.dev().is_present(),
+        "normal-kind" => link.req_for_kind(DependencyKind::Normal).is_present(),
+        "dev-only" => link.dev_only(),
+        _ => return None,
+    };
+    Some(holds)
+}
+
+// This field of each of the package's links.
+fn put_link_field(
+    package: PackageMetadata<'_>,
+    field: &str,
+    out: &mut String,
+) -> Result<(), Error> {
+    for link in package.direct_links() {
+        if let Some(text) = link_text_of(link, field) {
+            put(out, text)?;
+        } else if let Some(truth) = link_holds(link, field) {
+            put_truth(out, truth)?;
+        } else {
+            put(out, "unknown question")?;
+        }
+    }
+    Ok(())
+}
+
+// The number of the link between the two, if there is one.
+fn put_between(
+    package: PackageMetadata<'_>,
+    other: &PackageId,
+    relation: &str,
+    out: &mut String,
+) -> Result<(), Error> {
+    let link = match relation {
+        "from" => package.link_from(other)?,
+        "to" => package.link_to(other)?,
+        _ => package.link_between(other, direction_of(relation))?,
+    };
     match link {
         Some(link) => put_number(out, link.link_ix())?,
         None => put(out, "none")?,
@@ -19,46 +138,14 @@ fn put_number_of(link: Option<PackageLink<'_>>, out: &mut String) -> Result<(), 
     Ok(())
 }
 
-fn put_between(
-    package: PackageMetadata<'_>,
-    graph: &PackageGraph,
-    other: &str,
-    relation: &str,
-    out: &mut String,
-) -> Result<(), Error> {
-    let other = id(graph.alloc(), other)?;
-    let link = match relation {
-        "from" => package.link_from(&other)?,
-        "to" => package.link_to(&other)?,
-        _ => package.link_between(&other, direction_of(relation))?,
-    };
-    put_number_of(link, out)
-}
-
-fn put_dev_only(
-    package: PackageMetadata<'_>,
-    graph: &PackageGraph,
-    to: &str,
-    out: &mut String,
-) -> Result<(), Error> {
-    let to = id(graph.alloc(), to)?;
-    if let Some(link) = package.link_to(&to)? {
-        put_truth(out, link.dev_only())?;
-    }
-    Ok(())
-}
-
-// The number and the other end of each link.
-fn put_direct_links(package: PackageMetadata<'_>, out: &mut String) -> Result<(), Error> {
+// The number and the other end of each link; and then, of those to the package, how many there are, the
+// other end of the first, and how many are left.
+fn put_links(package: PackageMetadata<'_>, out: &mut String) -> Result<(), Error> {
     for link in package.direct_links() {
         put_number(out, link.link_ix())?;
         put(out, link.to().name())?;
     }
-    Ok(())
-}
-
-// How many there are, the other end of the first, and how many are left then.
-fn put_reverse_links(package: PackageMetadata<'_>, out: &mut String) -> Result<(), Error> {
+    put(out, "and")?;
     let mut links = package.reverse_direct_links();
     put_number(out, links.len())?;
     if let Some(link) = links.next() {
@@ -68,21 +155,12 @@ fn put_reverse_links(package: PackageMetadata<'_>, out: &mut String) -> Result<(
     Ok(())
 }
 
-// The names of the build targets, and how many they are.
-fn put_targets(package: PackageMetadata<'_>, out: &mut String) -> Result<(), Error> {
+// The names of the build targets, how many they are, and whether there are a binary and a test of a name.
+fn put_targets(package: PackageMetadata<'_>, name: &str, out: &mut String) -> Result<(), Error> {
     for target in package.build_targets() {
         put(out, target.name())?;
     }
     put_number(out, package.build_targets().len())?;
-    Ok(())
-}
-
-// Whether there are a binary and a test of this name.
-fn put_targets_named(
-    package: PackageMetadata<'_>,
-    name: &str,
-    out: &mut String,
-) -> Result<(), Error> {
     let binary = package.build_target(&BuildTargetId::Binary(name));
     put_truth(out, binary.is_some())?;
     let test = package.build_target(&BuildTargetId::Test(name));
@@ -90,84 +168,106 @@ fn put_targets_named(
     Ok(())
 }
 
-// Whether the package is a procedural macro, and has a build script.
-fn put_kinds(package: PackageMetadata<'_>, out: &mut String) -> Result<(), Error> {
-    put_truth(out, package.is_proc_macro())?;
-    put_truth(out, package.has_build_script())?;
-    Ok(())
-}
-
-fn ask_package(
-    graph: &PackageGraph,
+/// Answers a question about the package.
+pub(super) fn ask_package(
     package: PackageMetadata<'_>,
     words: &[&str],
+    ids: &[PackageId],
     out: &mut String,
 ) -> Result<(), Error> {
-    match words {
-        ["link", relation, other] => put_between(package, graph, other, relation, out),
-        ["dev-only", to] => put_dev_only(package, graph, to, out),
-        ["links"] => put_direct_links(package, out),
-        ["reverse-links"] => put_reverse_links(package, out),
-        ["targets"] => put_targets(package, out),
-        ["targets", name] => put_targets_named(package, name, out),
-        ["kinds"] => put_kinds(package, out),
+    match (words, ids) {
+        (["link", relation, _], [_, _, other]) => put_between(package, other, relation, out),
+        (["of-links", field], _) => put_link_field(package, field, out),
+        (["list", field], _) => put_list(package, field, out),
+        (["links"], _) => put_links(package, out),
+        (["targets", name], _) => put_targets(package, name, out),
+        ([field], _) => put_field(package, field, out),
         _ => Ok(put(out, "unknown question")?),
     }
 }
 
-struct OfPackages;
-
-impl Questions for OfPackages {
-    fn answer(&self, graph: &PackageGraph, words: &[&str], out: &mut String) -> Result<(), Error> {
-        match words {
-            [name, words @ ..] => ask_package(graph, package_of(graph, name)?, words, out),
-            [] => ask_set(graph, words, out),
-        }
-    }
-}
-
-const PACKAGES: &str = "
-links_between | a b c d: a>b c>c
-    a link forward b = 0
-    a link reverse b = none
-    b link reverse a = 0
-    c link reverse c = 1
-
-link_from_another | a b c d: a>b
-    b link from a = 0
-    b link to a = none
-    b link to z = unknown package ID: z
-
-direct_links | a b c d: b>a b>b c>b
-    b links = 0 a 1 b
-    b reverse-links = 2 b 1
-
-dev_only_links | a b: a-b
-    a dev-only b = yes
-dev_only_links | a b: a~b
-    a dev-only b = yes
-dev_only_links | a b: a+b
-    a dev-only b = no
-
-target_order | p +test=t +lib=l +bin=b +bin=a
-    p targets = l a b t 4
-    p targets t = no yes
-    p kinds = no no
+// Each field of a package, a link and a workspace.
+pub(super) const FIELDS: &str = "
+every_field | a=n@p b: a>b filled
+    package a id = a
+    package a name = n
+    package a version = yes
+    package a in-workspace = yes
+    package a source = p
+    package a description = description
+    package a license = MIT
+    package a its-links = z
+    package a default-run = run
+    package a repository = repository
+    package a homepage = homepage
+    package a documentation = documentation
+    package a edition = 2024
+    package a license-file = LICENSE
+    package a readme = README.md
+    package a manifest-path = a/Cargo.toml
+    package a rust-version = yes
+    package a metadata-table = yes
+    package a list authors = author
+    package a list categories = category
+    package a list keywords = keyword
+    package a publish = yes
+    package a has-default-feature = yes
+    package a first-feature = default
+    package a one-feature = yes
+    package a one-optional-dep = yes
+    package a of-links from = n
+    package a of-links to = b
+    package a of-links dep-name = dep-name
+    package a of-links resolved-name = dep_name
+    package a of-links registry = registry
+    package a of-links path = yes
+    package a of-links version-req = yes
+    package a of-links normal = yes
+    package a of-links build = no
+    package a of-links dev = no
+    package a of-links normal-kind = yes
+    package a of-links dev-only = no
+    workspace root = /w
+    workspace target-directory = /w/target
+    workspace build-directory = /w/build
+    workspace metadata-table = yes
+    workspace members = 1 1 2
 ";
 
-#[test]
-fn packages(rt: HostRuntime) -> Result<(), Fail> {
-    assert_examples(&rt, rt.alloc(), &OfPackages, PACKAGES)
-}
+pub(super) const PACKAGES: &str = "
+links_between | a b c d: a>b c>c
+    package a link forward b = 0
+    package a link reverse b = none
+    package b link reverse a = 0
+    package c link reverse c = 1
 
-fn put_by_path(graph: &PackageGraph, out: &mut String) -> Result<(), Error> {
+link_from_another | a b c d: a>b
+    package b link from a = 0
+    package b link to a = none
+    package b link to z = unknown package ID: z
+
+direct_links | a b c d: b>a b>b c>b
+    package b links = 0 a 1 b and 2 b 1
+
+dev_only_links | a b: a-b
+    package a of-links dev-only = yes
+dev_only_links | a b: a~b
+    package a of-links dev-only = yes
+dev_only_links | a b: a+b
+    package a of-links dev-only = no
+
+target_order | p +test=t +lib=l +bin=b +bin=a
+    package p targets t = l a b t 4 no yes
+    package p proc-macro = no
+    package p build-script = no
+";
+
+// The members by path and by name.
+fn put_order(graph: &PackageGraph, out: &mut String) -> Result<(), Error> {
     for (path, _) in graph.workspace().iter_by_path() {
         put(out, path.as_str())?;
     }
-    Ok(())
-}
-
-fn put_by_name(graph: &PackageGraph, out: &mut String) -> Result<(), Error> {
+    put(out, "and")?;
     for (name, _) in graph.workspace().iter_by_name() {
         put(out, name)?;
     }
@@ -181,28 +281,20 @@ fn put_members(graph: &PackageGraph, out: &mut String) -> Result<(), Error> {
     Ok(())
 }
 
-fn put_has_path(graph: &PackageGraph, path: &str, out: &mut String) -> Result<(), Error> {
-    let has_path = graph.workspace().contains_path(Utf8Path::new(path));
-    put_truth(out, has_path)?;
-    Ok(())
-}
-
-// How many members the names name, and how many the set of them has.
-fn put_named(graph: &PackageGraph, names: [&str; 3], out: &mut String) -> Result<(), Error> {
-    let members = graph.workspace().members_by_names(names.into_iter())?;
-    put_number(out, members.len())?;
-    Ok(())
-}
-
-fn put_set_named(graph: &PackageGraph, names: [&str; 2], out: &mut String) -> Result<(), Error> {
-    let set = graph.resolve_workspace_names(names.into_iter())?;
-    put_number(out, set.len())?;
-    Ok(())
-}
-
-fn put_query_named(graph: &PackageGraph, names: [&str; 3], out: &mut String) -> Result<(), Error> {
-    let query = graph.query_workspace_names(names.into_iter())?;
-    put_number(out, query.resolve()?.len())?;
+// How many members the names name, or how many the set of them has.
+fn put_named(
+    graph: &PackageGraph,
+    question: &str,
+    names: [&str; 3],
+    out: &mut String,
+) -> Result<(), Error> {
+    let names = names.into_iter();
+    let count = match question {
+        "named" => graph.workspace().members_by_names(names)?.len(),
+        "set-named" => graph.resolve_workspace_names(names)?.len(),
+        _ => graph.query_workspace_names(names)?.resolve()?.len(),
+    };
+    put_number(out, count)?;
     Ok(())
 }
 
@@ -222,57 +314,76 @@ fn put_defaults(graph: &PackageGraph, out: &mut String) -> Result<(), Error> {
     Ok(())
 }
 
-struct OfWorkspaces;
+fn put_directory(graph: &PackageGraph, field: &str, out: &mut String) -> Result<(), Error> {
+    let directory = match field {
+        "root" => Some(graph.workspace().root()),
+        "target-directory" => Some(graph.workspace().target_directory()),
+        _ => graph.workspace().build_directory(),
+    };
+    if let Some(path) = directory {
+        put(out, path.as_str())?;
+    }
+    Ok(())
+}
 
-impl Questions for OfWorkspaces {
-    fn answer(&self, graph: &PackageGraph, words: &[&str], out: &mut String) -> Result<(), Error> {
-        match words {
-            ["by-path"] => put_by_path(graph, out),
-            ["by-name"] => put_by_name(graph, out),
-            ["members"] => put_members(graph, out),
-            ["has-path"] => put_has_path(graph, "", out),
-            ["has-path", path] => put_has_path(graph, path, out),
-            ["has-name", name] => Ok(put_truth(out, graph.workspace().contains_name(name))?),
-            ["named", a, b, c] => put_named(graph, [a, b, c], out),
-            ["set-named", a, b] => put_set_named(graph, [a, b], out),
-            ["query-named", a, b, c] => put_query_named(graph, [a, b, c], out),
-            ["at-paths", a, b] => put_at_paths(graph, [a, b], out),
-            ["defaults"] => put_defaults(graph, out),
-            _ => Ok(put(out, "unknown question")?),
-        }
+fn workspace_holds(graph: &PackageGraph, question: &str, argument: &str) -> bool {
+    let workspace = graph.workspace();
+    match question {
+        "has-path" => workspace.contains_path(Utf8Path::new(argument)),
+        "has-name" => workspace.contains_name(argument),
+        _ => *workspace.metadata_table() == Value::Bool(false),
     }
 }
 
-const WORKSPACES: &str = "
+/// Answers a question about the workspace.
+pub(super) fn ask_workspace(
+    graph: &PackageGraph,
+    words: &[&str],
+    out: &mut String,
+) -> Result<(), Error> {
+    match words {
+        ["order"] => put_order(graph, out),
+        ["members"] => put_members(graph, out),
+        [question @ ("named" | "set-named" | "query-named"), a, b, c] => {
+            put_named(graph, question, [a, b, c], out)
+        }
+        ["at-paths", a, b] => put_at_paths(graph, [a, b], out),
+        ["defaults"] => put_defaults(graph, out),
+        [question @ ("has-path" | "metadata-table")] => {
+            Ok(put_truth(out, workspace_holds(graph, question, ""))?)
+        }
+        [question @ ("has-path" | "has-name"), argument] => {
+            Ok(put_truth(out, workspace_holds(graph, question, argument))?)
+        }
+        [directory] => put_directory(graph, directory, out),
+        _ => Ok(put(out, "unknown question")?),
+    }
+}
+
+pub(super) const WORKSPACES: &str = "
 path_order | no_member @b @a-b @.. @a/b @./c
-    by-path = ./c .. a/b a-b b
-    by-name = .. ./c a-b a/b b
+    workspace order = ./c .. a/b a-b b and .. ./c a-b a/b b
 
 path_lookup | no_member @a/b
-    has-path a/./b/ = yes
-    has-path ./a/b = no
-    has-name a/b = yes
-    has-name no_member = no
-    members = 1 1 1
+    workspace has-path a/./b/ = yes
+    workspace has-path ./a/b = no
+    workspace has-name a/b = yes
+    workspace has-name no_member = no
+    workspace members = 1 1 1
 
 empty_path | no_member @
-    has-path = yes
-    has-path . = no
+    workspace has-path = yes
+    workspace has-path . = no
 
 unknown_members | no_member @a @b
-    query-named b x y = unknown workspace package name: x
-    at-paths a/. q = unknown workspace path: q
+    workspace query-named b x y = unknown workspace package name: x
+    workspace at-paths a/. q = unknown workspace path: q
 
 known_members | no_member @a @b
-    named b a b = 3
-    set-named b b = 1
-    members = 2 2 2
+    workspace named b a b = 3
+    workspace set-named b b b = 1
+    workspace members = 2 2 2
 
 default_members | a b !b !a !b
-    defaults = b a b 3
+    workspace defaults = b a b 3
 ";
-
-#[test]
-fn workspaces(rt: HostRuntime) -> Result<(), Fail> {
-    assert_examples(&rt, rt.alloc(), &OfWorkspaces, WORKSPACES)
-}
