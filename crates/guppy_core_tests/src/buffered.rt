@@ -1,16 +1,15 @@
 //! Searches of small graphs with filters that hand links back.
-ghost use Rattle.std.specs.Prelude.{◌≡◌, ◌<◌, length, All, IfOk};
+ghost use Rattle.std.specs.Prelude.{◌<◌, All, IfOk};
 
-use crate::positions::{positions_in, set_of};
+use crate::positions::{has_positions, set_of};
 use guppy_core::dfs::{
     BufferedEdgeFilter, SimpleEdgeFilterFn, reachable_buffered, reachable_buffered_mut,
 };
 use guppy_core::graph_core::{Graph, Link};
-use guppy_core::ix::{DependencyDirection, GraphSpec, IndexType, IxSet};
+use guppy_core::ix::{DependencyDirection, GraphSpec, IndexType};
 use guppy_core::resolve_core::ResolveCore;
 use std::alloc::{AllocError, Global};
 use std::process::Abort;
-use std::test::Fail;
 
 // A graph with letters at its nodes, and an index type of its own.
 struct Stages;
@@ -23,7 +22,7 @@ impl GraphSpec for Stages {
     type Ix = StageIx;
 }
 
-#[derive(Clone, Copy, Debug, PartialEq, Eq)]
+#[derive(Clone, Copy)]
 struct StageIx {
     stage: u32,
 }
@@ -47,7 +46,7 @@ impl IndexType for StageIx {
     ghost one_index = { λ a b same. ap (λ (n : ℕ). let p : StageIx = record { stage = n } in p) same };
 }
 
-#[derive(Clone, Copy, Debug, PartialEq, Eq)]
+#[derive(Clone, Copy, PartialEq)]
 enum Asked {
     Discover(usize),
     Filter(usize),
@@ -113,6 +112,8 @@ impl BufferedEdgeFilter<Stages> for Recording<'_> {
     }
 }
 
+const FORWARD: DependencyDirection = DependencyDirection::Forward;
+
 const NEVER: usize = 4_294_967_295;
 
 fn recording_at(alloc: Global, at: Asked, links: &[usize]) -> Recording<'_> {
@@ -124,31 +125,23 @@ fn recording_at(alloc: Global, at: Asked, links: &[usize]) -> Recording<'_> {
     }
 }
 
-fn graph_of(alloc: Global, node_count: u8, ends: &[(usize, usize)]) -> Result<Graph<Stages>, Fail>
-    ensures { IfOk result (λ graph. length graph.nodes ≡ node_count) }
-{
-    let nodes = (0..node_count).map(|_| 'p').collect(alloc)?;
-    let links = ends
-        .iter()
-        .map(|(from, to)| Link {
+fn graph_of(
+    rt: &impl Abort,
+    alloc: Global,
+    node_count: u8,
+    ends: &[(usize, usize)],
+) -> Graph<Stages> {
+    let nodes = vec![in alloc; 'p'; node_count as usize].expect(rt, "nodes");
+    let mut links = Vec::new(alloc);
+    for (from, to) in ends {
+        let link = Link {
             from: *from,
             to: *to,
             edge: 7,
-        })
-        .collect(alloc)?;
-    Ok(Graph::from_parts(nodes, links)?)
-}
-
-// What is included from one position.
-fn included(
-    graph: &Graph<Stages>,
-    start: usize,
-    direction: DependencyDirection,
-    filter: &mut Recording<'_>,
-) -> Result<Vec<usize>, AllocError> {
-    let start = set_of(graph, &[start])?;
-    let set = reachable_buffered_mut(graph, &start, direction, filter)?;
-    positions_in(graph.alloc(), &set)
+        };
+        links.push(link).expect(rt, "links");
+    }
+    Graph::from_parts(nodes, links).expect(rt, "a graph")
 }
 
 // A search from one position with a filter that hands links back at one question, and the
@@ -171,7 +164,7 @@ const SEARCHES: &[Search] = &[
         node_count: 4,
         ends: &[(0, 1), (2, 3)],
         start: 0,
-        direction: DependencyDirection::Forward,
+        direction: FORWARD,
         at: Asked::Filter(0),
         handed: &[1],
         included: &[0, 3],
@@ -182,7 +175,7 @@ const SEARCHES: &[Search] = &[
         node_count: 3,
         ends: &[(0, 1), (1, 2)],
         start: 0,
-        direction: DependencyDirection::Forward,
+        direction: FORWARD,
         at: Asked::Discover(0),
         handed: &[1],
         included: &[0, 2],
@@ -201,130 +194,79 @@ const SEARCHES: &[Search] = &[
     },
 ];
 
-fn search_holds(rt: &impl Abort, graph: &Graph<Stages>, search: &Search) -> Result<(), AllocError> {
-    let mut filter = recording_at(graph.alloc(), search.at, search.handed);
-    let set = included(graph, search.start, search.direction, &mut filter)?;
-    assert_eq!(rt; set.as_slice(), search.included, "{}", search.name);
-    assert_eq!(rt; filter.asked.as_slice(), search.asked, "{}", search.name);
-    Ok(())
-}
-
 #[test]
-fn searches(rt: HostRuntime) -> Result<(), Fail> {
+fn searches(rt: HostRuntime) {
     for search in SEARCHES {
-        let graph = graph_of(rt.alloc(), search.node_count, search.ends)?;
-        search_holds(&rt, &graph, search)?;
+        let graph = graph_of(&rt, rt.alloc(), search.node_count, search.ends);
+        let mut filter = recording_at(rt.alloc(), search.at, search.handed);
+        let start = set_of(&rt, &graph, &[search.start]);
+        let set = reachable_buffered_mut(&graph, &start, search.direction, &mut filter);
+        let set = set.expect(&rt, search.name);
+        assert!(rt; has_positions(&set, search.included), "{}", search.name);
+        assert!(rt; filter.asked.as_slice() == search.asked, "{}", search.name);
     }
-    Ok(())
 }
 
-fn times_asked(asked: &[Asked], question: Asked) -> usize {
-    asked.iter().filter(|a| **a == question).count()
-}
+const RING: &[(usize, usize)] = &[(0, 1), (1, 2), (2, 3), (3, 0)];
 
-const RING: [(usize, usize); 4] = [(0, 1), (1, 2), (2, 3), (3, 0)];
-
-// The filter hands back these links at the ring's first position, and so all of its links.
-fn ring_is_asked_once(
-    rt: &impl Abort,
-    graph: &Graph<Stages>,
-    links: &[usize],
-) -> Result<(), AllocError> {
+// The filter hands back these links at the ring's first position, and so all of its links. Each of
+// the eight questions is asked once.
+fn ring_is_asked_once(rt: &impl Abort, graph: &Graph<Stages>, links: &[usize]) {
+    let name = "hands_back_everything";
     let mut filter = recording_at(graph.alloc(), Asked::Discover(0), links);
-    let set = included(graph, 0, DependencyDirection::Forward, &mut filter)?;
-    assert_eq!(rt; set.as_slice(), [0, 1, 2, 3].as_slice());
-    assert_eq!(rt; filter.asked.len(), 8);
+    let start = set_of(rt, graph, &[0]);
+    let set = reachable_buffered_mut(graph, &start, FORWARD, &mut filter).expect(rt, name);
+    assert!(rt; has_positions(&set, &[0, 1, 2, 3]));
+    assert!(rt; filter.asked.len() == 8);
     for number in 0..4 {
-        for question in [Asked::Discover(number), Asked::Filter(number)] {
-            let times = times_asked(filter.asked.as_slice(), question);
-            assert_eq!(rt; times, 1, "{question:?}");
-        }
+        assert!(rt; filter.asked.contains(&Asked::Discover(number)));
+        assert!(rt; filter.asked.contains(&Asked::Filter(number)));
     }
-    Ok(())
 }
 
 #[test]
-fn hands_back_everything(rt: HostRuntime) -> Result<(), Fail> {
-    let graph = graph_of(rt.alloc(), 4, RING.as_slice())?;
-    ring_is_asked_once(&rt, &graph, &[0, 1, 2, 3])?;
-    let many = (0..4000).map(|i| i % 4).collect::<Vec<_>>(rt.alloc())?;
-    ring_is_asked_once(&rt, &graph, many.as_slice())?;
-    Ok(())
+fn hands_back_everything(rt: HostRuntime) {
+    let graph = graph_of(&rt, rt.alloc(), 4, RING);
+    ring_is_asked_once(&rt, &graph, &[0, 1, 2, 3]);
+    let mut many = Vec::new(rt.alloc());
+    for number in 0..4000 {
+        many.push(number % 4).expect(&rt, "hands_back_everything");
+    }
+    ring_is_asked_once(&rt, &graph, many.as_slice());
 }
 
-fn errors_end_the_search(rt: &impl Abort, graph: &Graph<Stages>) {
+#[test]
+fn an_error_ends_the_search(rt: HostRuntime) {
+    let graph = graph_of(&rt, rt.alloc(), 4, RING);
+    let start = set_of(&rt, &graph, &[0]);
     for count in 0..8 {
-        let mut filter = recording_at(graph.alloc(), Asked::Discover(0), &[0, 1, 2, 3]);
+        let mut filter = recording_at(rt.alloc(), Asked::Discover(0), &[0, 1, 2, 3]);
         filter.fails_after = count;
-        let set = included(graph, 0, DependencyDirection::Forward, &mut filter);
+        let set = reachable_buffered_mut(&graph, &start, FORWARD, &mut filter);
         assert!(rt; set.is_err());
-        assert_eq!(rt; filter.asked.len(), count + 1);
+        assert!(rt; filter.asked.len() == count + 1);
     }
 }
 
 #[test]
-fn an_error_ends_the_search(rt: HostRuntime) -> Result<(), Fail> {
-    let graph = graph_of(rt.alloc(), 4, RING.as_slice())?;
-    errors_end_the_search(&rt, &graph);
-    Ok(())
-}
-
-#[test]
-fn simple_filters(rt: HostRuntime) -> Result<(), Fail> {
-    let graph = graph_of(rt.alloc(), 4, [(0, 1), (0, 2), (1, 3), (2, 3)].as_slice())?;
-    let start = set_of(&graph, &[0])?;
+fn simple_filters(rt: HostRuntime) {
+    let graph = graph_of(&rt, rt.alloc(), 4, &[(0, 1), (0, 2), (1, 3), (2, 3)]);
+    let start = set_of(&rt, &graph, &[0]);
     let is_odd = SimpleEdgeFilterFn(|_graph: &Graph<Stages>, link: usize| link % 2 == 1);
-    let set = reachable_buffered(&graph, &start, DependencyDirection::Forward, is_odd)?;
-    let followed = positions_in(rt.alloc(), &set)?;
-    assert_eq!(rt; followed.as_slice(), [0, 2, 3].as_slice());
-    Ok(())
-}
-
-fn resolved(
-    graph: &Graph<Stages>,
-    start: &IxSet<Stages>,
-    filter: &mut Recording<'_>,
-) -> Result<Vec<usize>, AllocError>
-    requires { length start.now ≡ length graph.now.nodes }
-{
-    let direction = DependencyDirection::Forward;
-    let set = ResolveCore::with_buffered_edge_filter(graph, start, direction, filter)?;
-    positions_in(graph.alloc(), set.included())
-}
-
-fn resolved_lent(
-    graph: &Graph<Stages>,
-    start: &IxSet<Stages>,
-    filter: &mut Recording<'_>,
-) -> Result<Vec<usize>, AllocError>
-    requires { length start.now ≡ length graph.now.nodes }
-{
-    let direction = DependencyDirection::Forward;
-    let set = ResolveCore::with_buffered_edge_filter_mut(graph, start, direction, filter)?;
-    positions_in(graph.alloc(), set.included())
-}
-
-fn resolves_hold(
-    rt: &impl Abort,
-    graph: &Graph<Stages>,
-    start: &IxSet<Stages>,
-) -> Result<(), AllocError>
-    requires { length start.now ≡ length graph.now.nodes }
-{
-    let mut filter = recording_at(graph.alloc(), Asked::Filter(2), &[2, 0]);
-    let included = resolved(graph, start, &mut filter)?;
-    assert_eq!(rt; included.as_slice(), [1, 2, 3].as_slice());
-    assert_eq!(rt; filter.asked.len(), 6);
-    let included = resolved_lent(graph, start, &mut filter)?;
-    assert_eq!(rt; included.as_slice(), [1, 2, 3].as_slice());
-    assert_eq!(rt; filter.asked.len(), 12);
-    Ok(())
+    let set = reachable_buffered(&graph, &start, FORWARD, is_odd).expect(&rt, "simple_filters");
+    assert!(rt; has_positions(&set, &[0, 2, 3]));
 }
 
 #[test]
-fn resolves_with_filters(rt: HostRuntime) -> Result<(), Fail> {
-    let graph = graph_of(rt.alloc(), 4, RING.as_slice())?;
-    let start = set_of(&graph, &[2])?;
-    resolves_hold(&rt, &graph, &start)?;
-    Ok(())
+fn resolves_with_filters(rt: HostRuntime) {
+    let name = "resolves_with_filters";
+    let graph = graph_of(&rt, rt.alloc(), 4, RING);
+    let start = set_of(&rt, &graph, &[2]);
+    let mut filter = recording_at(rt.alloc(), Asked::Filter(2), &[2, 0]);
+    let set = ResolveCore::with_buffered_edge_filter(&graph, &start, FORWARD, &mut filter);
+    assert!(rt; has_positions(set.expect(&rt, name).included(), &[1, 2, 3]));
+    assert!(rt; filter.asked.len() == 6);
+    let set = ResolveCore::with_buffered_edge_filter_mut(&graph, &start, FORWARD, &mut filter);
+    assert!(rt; has_positions(set.expect(&rt, name).included(), &[1, 2, 3]));
+    assert!(rt; filter.asked.len() == 12);
 }

@@ -1,55 +1,43 @@
-//! Positions as numbers: sets made of a list of them, and read as one.
-ghost use Rattle.std.specs.Prelude.{◌≡◌, ◌<◌, length, All, IfOk};
+//! Positions as numbers: sets made of a list of them, and compared with one.
+ghost use Rattle.std.specs.Prelude.{◌≡◌, length};
 
 use guppy_core::graph_core::Graph;
 use guppy_core::ix::{GraphSpec, IndexType, IxSet, PackageIx};
-use std::alloc::{AllocError, Global};
-
-/// Those of the positions that are below the count.
-pub(crate) fn ixs_of(
-    alloc: Global,
-    positions: &[usize],
-    count: usize,
-) -> Result<Vec<PackageIx>, AllocError>
-    ensures { IfOk result (λ ixs. All (λ ix. ix.0 < count) ixs.items) }
-{
-    let mut ixs = Vec::new(alloc);
-    for position in positions {
-        if *position < count && *position < 4_294_967_295 {
-            ixs.push(PackageIx::new(*position))?;
-        }
-    }
-    Ok(ixs)
-}
+use std::process::Abort;
 
 /// The set of those of the positions that the graph has.
 pub(crate) fn set_of<G: GraphSpec>(
+    rt: &impl Abort,
     graph: &Graph<G>,
     positions: &[usize],
-) -> Result<IxSet<G>, AllocError>
-    ensures { IfOk result (λ set. length set ≡ length graph.now.nodes) }
+) -> IxSet<G>
+    ensures { length result ≡ length graph.now.nodes }
 {
-    let mut set = IxSet::empty(graph.alloc(), graph.node_count())?;
+    let mut set = IxSet::empty(graph.alloc(), graph.node_count()).expect(rt, "a set");
     for position in positions {
         if *position < graph.node_count() && *position < 4_294_967_295 {
             set.insert(G::Ix::new(*position));
         }
     }
-    Ok(set)
+    set
 }
 
-/// The set's positions as numbers.
-pub(crate) fn positions_in<G: GraphSpec>(
-    alloc: Global,
-    set: &IxSet<G>,
-) -> Result<Vec<usize>, AllocError> {
-    set.ones().map(|ix| ix.index()).collect(alloc)
+/// Whether the set's positions are these.
+pub(crate) fn has_positions<G: GraphSpec>(set: &IxSet<G>, wanted: &[usize]) -> bool {
+    for (place, ix) in set.ones().enumerate() {
+        if wanted.get(place) != Some(&ix.index()) {
+            return false;
+        }
+    }
+    set.len() == wanted.len()
 }
 
-/// The positions as numbers.
-pub(crate) fn positions_of<Ix: IndexType>(
-    alloc: Global,
-    ixs: &[Ix],
-) -> Result<Vec<usize>, AllocError> {
-    ixs.iter().map(|ix| ix.index()).collect(alloc)
+/// Whether the indexes are those of these positions.
+pub(crate) fn are_positions(ixs: &[PackageIx], wanted: &[usize]) -> bool {
+    for (place, ix) in ixs.iter().enumerate() {
+        if wanted.get(place) != Some(&ix.index()) {
+            return false;
+        }
+    }
+    ixs.len() == wanted.len()
 }

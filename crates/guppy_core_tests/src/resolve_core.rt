@@ -1,14 +1,13 @@
 //! Sets of small graphs.
 ghost use Rattle.std.specs.Prelude.{◌≡◌, ◌<◌, length, All, IfOk};
 
-use crate::dfs::{Plain, graph_of};
-use crate::positions::{ixs_of, positions_in, set_of};
+use crate::positions::{has_positions, set_of};
+use crate::scc::{DevLinks, graph_of};
 use guppy_core::graph_core::Graph;
 use guppy_core::ix::{DependencyDirection, IndexType, PackageIx};
 use guppy_core::resolve_core::ResolveCore;
 use std::alloc::AllocError;
 use std::process::Abort;
-use std::test::Fail;
 
 const FORWARD: DependencyDirection = DependencyDirection::Forward;
 
@@ -29,7 +28,7 @@ enum Maker {
 
 struct Made {
     name: &'static str,
-    node_count: u8,
+    node_count: usize,
     links: &'static [(usize, usize)],
     maker: Maker,
     included: &'static [usize],
@@ -80,70 +79,77 @@ const MADE: &[Made] = &[
     },
 ];
 
-fn of_ixs(graph: &Graph<Plain>, ixs: &[PackageIx]) -> Result<ResolveCore<Plain>, AllocError>
+// The indexes of the positions that the graph has, in their order and with repeats.
+fn ixs_of(rt: &impl Abort, graph: &Graph<DevLinks>, positions: &[usize]) -> Vec<PackageIx>
+    ensures { All (λ ix. ix.0 < length graph.now.nodes) result.items }
+{
+    let mut ixs = Vec::new(graph.alloc());
+    for position in positions {
+        if *position < graph.node_count() && *position < 4_294_967_295 {
+            ixs.push(PackageIx::new(*position)).expect(rt, "indexes");
+        }
+    }
+    ixs
+}
+
+fn of_ixs(graph: &Graph<DevLinks>, ixs: &[PackageIx]) -> Result<ResolveCore<DevLinks>, AllocError>
     requires { All (λ ix. ix.0 < length graph.now.nodes) ixs.now }
     ensures { IfOk result (λ set. length set ≡ length graph.now.nodes) }
 {
     ResolveCore::from_ixs(graph, ixs.iter().copied())
 }
 
-fn made_by(graph: &Graph<Plain>, maker: Maker) -> Result<ResolveCore<Plain>, AllocError>
-    ensures { IfOk result (λ set. length set ≡ length graph.now.nodes) }
+fn made_by(rt: &impl Abort, graph: &Graph<DevLinks>, maker: Maker) -> ResolveCore<DevLinks>
+    ensures { length result ≡ length graph.now.nodes }
 {
-    match maker {
-        Maker::Resolve(start) => ResolveCore::new(graph, &set_of(graph, &[start])?, FORWARD),
+    let made = match maker {
+        Maker::Resolve(start) => ResolveCore::new(graph, &set_of(rt, graph, &[start]), FORWARD),
         Maker::OddLinks(start) => {
-            let start = set_of(graph, &[start])?;
+            let start = set_of(rt, graph, &[start]);
             ResolveCore::with_edge_filter(graph, &start, FORWARD, |link| link % 2 == 1)
         }
         Maker::AllNodes => ResolveCore::all_nodes(graph),
         Maker::Empty => ResolveCore::empty(graph.alloc(), graph.node_count()),
-        Maker::Included(positions) => Ok(ResolveCore::from_included(set_of(graph, positions)?)),
+        Maker::Included(positions) => Ok(ResolveCore::from_included(set_of(rt, graph, positions))),
         Maker::Ixs(positions) => {
-            let ixs = ixs_of(graph.alloc(), positions, graph.node_count())?;
+            let ixs = ixs_of(rt, graph, positions);
             of_ixs(graph, ixs.as_slice())
         }
-    }
+    };
+    made.expect(rt, "a set")
 }
 
 // Exactly these are in the set, by each call that tells.
 fn includes(
     rt: &impl Abort,
     name: &str,
-    graph: &Graph<Plain>,
-    set: &ResolveCore<Plain>,
+    graph: &Graph<DevLinks>,
+    set: &ResolveCore<DevLinks>,
     wanted: &[usize],
-) -> Result<(), AllocError>
+)
     requires { length set.now ≡ length graph.now.nodes }
 {
-    let counts = (set.len(), set.is_empty());
-    assert_eq!(rt; counts, (wanted.len(), wanted.is_empty()), "{name}");
+    assert!(rt; set.len() == wanted.len(), "{name}");
+    assert!(rt; set.is_empty() == wanted.is_empty(), "{name}");
     for position in 0..graph.node_count().min(256) {
         let is_member = set.contains(PackageIx::new(position));
-        assert_eq!(rt;
-            is_member,
-            wanted.contains(&position),
+        assert!(rt;
+            is_member == wanted.contains(&position),
             "{name} at {position}"
         );
     }
-    let included = positions_in(graph.alloc(), set.included())?;
-    assert_eq!(rt; included.as_slice(), wanted, "{name}");
-    Ok(())
-}
-
-fn made_holds(rt: &impl Abort, graph: &Graph<Plain>, made: &Made) -> Result<(), AllocError> {
-    let set = made_by(graph, made.maker)?;
-    includes(rt, made.name, graph, &set, made.included)?;
-    includes(rt, made.name, graph, &set.clone()?, made.included)
+    assert!(rt; has_positions(set.included(), wanted), "{name}");
 }
 
 #[test]
-fn sets(rt: HostRuntime) -> Result<(), Fail> {
+fn sets(rt: HostRuntime) {
     for made in MADE {
-        let graph = graph_of(rt.alloc(), made.node_count, made.links)?;
-        made_holds(&rt, &graph, made)?;
+        let graph = graph_of(&rt, rt.alloc(), made.node_count, made.links);
+        let set = made_by(&rt, &graph, made.maker);
+        includes(&rt, made.name, &graph, &set, made.included);
+        let copy = set.clone().expect(&rt, made.name);
+        includes(&rt, made.name, &graph, &copy, made.included);
     }
-    Ok(())
 }
 
 #[derive(Clone, Copy)]
@@ -154,7 +160,7 @@ enum Operation {
     SymmetricDifference,
 }
 
-const SET_OPERATIONS: [(&str, Operation, &[usize]); 4] = [
+const SET_OPERATIONS: &[(&str, Operation, &[usize])] = &[
     ("union", Operation::Union, &[0, 1, 2]),
     ("intersection", Operation::Intersection, &[1]),
     ("difference", Operation::Difference, &[0]),
@@ -165,47 +171,19 @@ const SET_OPERATIONS: [(&str, Operation, &[usize]); 4] = [
     ),
 ];
 
-fn operated(
-    operation: Operation,
-    first: &ResolveCore<Plain>,
-    second: &ResolveCore<Plain>,
-) -> Result<ResolveCore<Plain>, AllocError>
-    requires { length second.now ≡ length first.now }
-    ensures { IfOk result (λ set. length set ≡ length first.now) }
-{
-    if let Operation::Difference = operation {
-        return first.difference(second);
-    }
-    let mut set = first.clone()?;
-    match operation {
-        Operation::Union => set.union_with(second),
-        Operation::Intersection => set.intersect_with(second),
-        _ => set.symmetric_difference_with(second),
-    }
-    Ok(set)
-}
-
-fn operations_hold(
-    rt: &impl Abort,
-    graph: &Graph<Plain>,
-    first: &ResolveCore<Plain>,
-    second: &ResolveCore<Plain>,
-) -> Result<(), AllocError>
-    requires first { length first.now ≡ length graph.now.nodes }
-    requires second { length second.now ≡ length graph.now.nodes }
-{
-    for (name, operation, wanted) in SET_OPERATIONS {
-        let set = operated(operation, first, second)?;
-        includes(rt, name, graph, &set, wanted)?;
-    }
-    Ok(())
-}
-
 #[test]
-fn set_operations(rt: HostRuntime) -> Result<(), Fail> {
-    let graph = graph_of(rt.alloc(), 3, [(0, 1)].as_slice())?;
-    let first = made_by(&graph, Maker::Ixs(&[0, 1]))?;
-    let second = made_by(&graph, Maker::Ixs(&[1, 2]))?;
-    operations_hold(&rt, &graph, &first, &second)?;
-    Ok(())
+fn set_operations(rt: HostRuntime) {
+    let graph = graph_of(&rt, rt.alloc(), 3, &[(0, 1)]);
+    let first = made_by(&rt, &graph, Maker::Ixs(&[0, 1]));
+    let second = made_by(&rt, &graph, Maker::Ixs(&[1, 2]));
+    for (name, operation, wanted) in SET_OPERATIONS {
+        let mut set = first.clone().expect(&rt, name);
+        match operation {
+            Operation::Union => set.union_with(&second),
+            Operation::Intersection => set.intersect_with(&second),
+            Operation::Difference => set = first.difference(&second).expect(&rt, name),
+            Operation::SymmetricDifference => set.symmetric_difference_with(&second),
+        }
+        includes(&rt, name, &graph, &set, wanted);
+    }
 }

@@ -2,7 +2,7 @@
 ghost use Rattle.std.specs.Prelude.{◌≡◌, length, IfOk};
 ghost use Rattle.std.specs.List.{concat};
 
-use crate::positions::{ixs_of, positions_of, set_of};
+use crate::positions::{are_positions, set_of};
 use guppy_core::graph_core::{CountedGraph, Graph, Link};
 use guppy_core::ix::{DependencyDirection, GraphSpec, IndexType, PackageIx};
 use guppy_core::resolve_core::ResolveCore;
@@ -10,7 +10,6 @@ use guppy_core::scc::Sccs;
 use guppy_core::topo::TopoWithCycles;
 use std::alloc::{AllocError, Global};
 use std::process::Abort;
-use std::test::Fail;
 
 /// A graph whose links say whether they are dev-only.
 pub(crate) enum DevLinks {}
@@ -46,90 +45,45 @@ pub(crate) fn make_ordered(graph: &Graph<DevLinks>) -> Result<Ordered, AllocErro
     })
 }
 
-fn graph_of(
+/// A graph with these links.
+pub(crate) fn graph_of(
+    rt: &impl Abort,
     alloc: Global,
     node_count: usize,
     ends: &[(usize, usize)],
-) -> Result<Graph<DevLinks>, Fail> {
-    let nodes = vec![in alloc; (); node_count]?;
-    let links = ends
-        .iter()
-        .map(|(from, to)| Link {
-            from: *from,
-            to: *to,
-            edge: false,
-        })
-        .collect(alloc)?;
-    Ok(Graph::from_parts(nodes, links)?)
-}
-
-/// The graph whose node at each position but the last has a link to the next one, with as many
-/// more links as are given.
-pub(crate) fn chain_of(
-    alloc: Global,
-    node_count: usize,
-    more: &[(usize, usize)],
-) -> Result<Graph<DevLinks>, Fail>
-    ensures { IfOk result (λ graph. length graph.nodes ≡ node_count) }
+) -> Graph<DevLinks>
+    ensures { length result.nodes ≡ node_count }
 {
-    let nodes = vec![in alloc; (); node_count]?;
+    let nodes = vec![in alloc; (); node_count].expect(rt, "nodes");
     let mut links = Vec::new(alloc);
-    for to in 1..node_count {
-        links.push(Link {
-            from: to - 1,
-            to,
-            edge: false,
-        })?;
-    }
-    for (from, to) in more {
-        links.push(Link {
+    for (from, to) in ends {
+        let link = Link {
             from: *from,
             to: *to,
             edge: false,
-        })?;
+        };
+        links.push(link).expect(rt, "links");
     }
-    Ok(Graph::from_parts(nodes, links)?)
+    Graph::from_parts(nodes, links).expect(rt, "a graph")
 }
 
-/// The position at each index.
-fn by_index(
+// Whether these are the positions at each index.
+fn has_indexes(
     graph: &Graph<DevLinks>,
     topo: &TopoWithCycles<PackageIx>,
-) -> Result<Vec<usize>, AllocError>
+    by_index: &[usize],
+) -> bool
     requires { length topo.now ≡ length graph.now.nodes }
 {
-    let count = graph.node_count();
-    let mut positions = vec![in graph.alloc(); 0; count]?;
-    for position in 0..count.min(4_294_967_295) {
-        let index = topo.topo_ix(PackageIx::new(position));
-        if let Some(place) = positions.get_mut(index) {
-            *place = position;
+    for (index, position) in by_index.iter().enumerate() {
+        if *position >= graph.node_count().min(4_294_967_295) {
+            return false;
         }
-    }
-    Ok(positions)
-}
-
-fn listed(
-    alloc: Global,
-    sccs: &Sccs<PackageIx>,
-    direction: DependencyDirection,
-) -> Result<Vec<usize>, AllocError> {
-    let nodes = sccs.node_iter(direction);
-    nodes.map(|ix| ix.index()).collect(alloc)
-}
-
-fn lengths(alloc: Global, sccs: &Sccs<PackageIx>) -> Result<Vec<usize>, AllocError> {
-    let components = sccs.all_sccs();
-    components.map(|component| component.len()).collect(alloc)
-}
-
-fn counts_up(list: &[usize]) -> bool {
-    for (place, position) in list.iter().enumerate() {
-        if *position != place {
+        if topo.topo_ix(PackageIx::new(*position)) != index {
             return false;
         }
     }
-    true
+    by_index.len() == graph.node_count()
 }
 
 // The positions of a graph by their index.
@@ -161,39 +115,20 @@ const INDEXED: &[Indexed] = &[
     },
 ];
 
-fn sorted(
-    graph: &Graph<DevLinks>,
-    topo: &TopoWithCycles<PackageIx>,
-) -> Result<Vec<usize>, AllocError> {
-    let mut ixs = ixs_of(graph.alloc(), &[0, 1, 2], graph.node_count())?;
-    topo.sort_nodes(ixs.as_mut_slice());
-    positions_of(graph.alloc(), ixs.as_slice())
-}
-
-fn indexed_holds(
-    rt: &impl Abort,
-    graph: &Graph<DevLinks>,
-    ordered: &Ordered,
-    indexed: &Indexed,
-) -> Result<(), AllocError>
-    requires { length ordered.now.topo ≡ length graph.now.nodes }
-{
-    assert!(rt; ordered.looks <= 8);
-    let positions = by_index(graph, &ordered.topo)?;
-    assert_eq!(rt; positions.as_slice(), indexed.by_index, "{}", indexed.name);
-    let positions = sorted(graph, &ordered.topo)?;
-    assert_eq!(rt; positions.as_slice(), indexed.by_index, "{}", indexed.name);
-    Ok(())
-}
-
 #[test]
-fn indexes(rt: HostRuntime) -> Result<(), Fail> {
+fn indexes(rt: HostRuntime) {
     for indexed in INDEXED {
-        let graph = graph_of(rt.alloc(), indexed.node_count, indexed.links)?;
-        let ordered = make_ordered(&graph)?;
-        indexed_holds(&rt, &graph, &ordered, indexed)?;
+        let graph = graph_of(&rt, rt.alloc(), indexed.node_count, indexed.links);
+        let ordered = make_ordered(&graph).expect(&rt, indexed.name);
+        let name = indexed.name;
+        assert!(rt; ordered.looks <= 8, "{name}");
+        let is_indexed = has_indexes(&graph, &ordered.topo, indexed.by_index);
+        assert!(rt; is_indexed, "{name}");
+        let set = set_of(&rt, &graph, &[0, 1, 2]);
+        let mut ixs = set.ones().collect::<Vec<_>>(rt.alloc()).expect(&rt, name);
+        ordered.topo.sort_nodes(ixs.as_mut_slice());
+        assert!(rt; are_positions(ixs.as_slice(), indexed.by_index), "{name}");
     }
-    Ok(())
 }
 
 // The roots of all three nodes of a graph.
@@ -235,56 +170,25 @@ const ROOTED: &[Rooted] = &[
     },
 ];
 
-fn external_positions(
-    graph: &Graph<DevLinks>,
-    sccs: &Sccs<PackageIx>,
-    set: &ResolveCore<DevLinks>,
-    direction: DependencyDirection,
-) -> Result<Vec<usize>, AllocError>
-    requires set { length set.now ≡ length graph.now.nodes }
-    requires components { length (concat sccs.now) ≡ length graph.now.nodes }
-{
-    let ixs = sccs.externals(graph, set.included(), direction)?;
-    positions_of(graph.alloc(), ixs.as_slice())
-}
-
-fn root_positions(
-    graph: &Graph<DevLinks>,
-    sccs: &Sccs<PackageIx>,
-    set: &ResolveCore<DevLinks>,
-    direction: DependencyDirection,
-) -> Result<Vec<usize>, AllocError>
-    requires set { length set.now ≡ length graph.now.nodes }
-    requires components { length (concat sccs.now) ≡ length graph.now.nodes }
-{
-    let ixs = set.roots(graph, sccs, direction)?;
-    positions_of(graph.alloc(), ixs.as_slice())
-}
-
-fn rooted_holds(
-    rt: &impl Abort,
-    graph: &Graph<DevLinks>,
-    sccs: &Sccs<PackageIx>,
-    rooted: &Rooted,
-) -> Result<(), AllocError>
+fn rooted_holds(rt: &impl Abort, graph: &Graph<DevLinks>, sccs: &Sccs<PackageIx>, rooted: &Rooted)
     requires { length (concat sccs.now) ≡ length graph.now.nodes }
 {
-    let set = ResolveCore::from_included(set_of(graph, &[0, 1, 2])?);
-    let positions = external_positions(graph, sccs, &set, rooted.direction)?;
-    assert_eq!(rt; positions.as_slice(), rooted.roots, "{}", rooted.name);
-    let positions = root_positions(graph, sccs, &set, rooted.direction)?;
-    assert_eq!(rt; positions.as_slice(), rooted.roots, "{}", rooted.name);
-    Ok(())
+    let (name, direction) = (rooted.name, rooted.direction);
+    let set = ResolveCore::from_included(set_of(rt, graph, &[0, 1, 2]));
+    let found = sccs.externals(graph, set.included(), direction);
+    let found = found.expect(rt, name);
+    assert!(rt; are_positions(found.as_slice(), rooted.roots), "{name}");
+    let found = set.roots(graph, sccs, direction).expect(rt, name);
+    assert!(rt; are_positions(found.as_slice(), rooted.roots), "{name}");
 }
 
 #[test]
-fn roots(rt: HostRuntime) -> Result<(), Fail> {
+fn roots(rt: HostRuntime) {
     for rooted in ROOTED {
-        let graph = graph_of(rt.alloc(), 3, rooted.links)?;
-        let ordered = make_ordered(&graph)?;
-        rooted_holds(&rt, &graph, &ordered.sccs, rooted)?;
+        let graph = graph_of(&rt, rt.alloc(), 3, rooted.links);
+        let ordered = make_ordered(&graph).expect(&rt, rooted.name);
+        rooted_holds(&rt, &graph, &ordered.sccs, rooted);
     }
-    Ok(())
 }
 
 fn components_hold(rt: &impl Abort, sccs: &Sccs<PackageIx>)
@@ -296,38 +200,51 @@ fn components_hold(rt: &impl Abort, sccs: &Sccs<PackageIx>)
     assert!(rt; sccs.in_multi_scc(second));
     assert!(rt; !sccs.in_multi_scc(last));
     let mut components = sccs.all_sccs();
-    assert_eq!(rt; components.len(), 3);
+    assert!(rt; components.len() == 3);
     for length in [1, 2] {
         let component = components.next_back();
-        assert_eq!(rt; component.map(|component| component.len()), Some(length));
+        assert!(rt; component.expect(rt, "a component").len() == length);
     }
-    assert_eq!(rt; components.len(), 1);
+    assert!(rt; components.len() == 1);
     let nodes = sccs.node_iter(DependencyDirection::Reverse);
-    assert_eq!(rt; nodes.direction(), DependencyDirection::Reverse);
+    assert!(rt; nodes.direction() == DependencyDirection::Reverse);
 }
 
 #[test]
-fn components_of_a_chain_with_a_ring(rt: HostRuntime) -> Result<(), Fail> {
-    let graph = chain_of(rt.alloc(), 4, &[(2, 1)])?;
-    let ordered = make_ordered(&graph)?;
+fn components_of_a_chain_with_a_ring(rt: HostRuntime) {
+    let graph = graph_of(&rt, rt.alloc(), 4, &[(0, 1), (1, 2), (2, 3), (2, 1)]);
+    let ordered = make_ordered(&graph).expect(&rt, "components_of_a_chain_with_a_ring");
     components_hold(&rt, &ordered.sccs);
-    Ok(())
 }
 
-fn ring_1000_holds(rt: &impl Abort, graph: &Graph<DevLinks>) -> Result<(), AllocError> {
-    let ordered = make_ordered(graph)?;
-    let positions = by_index(graph, &ordered.topo)?;
-    assert!(rt; counts_up(positions.as_slice()));
-    let forward = listed(graph.alloc(), &ordered.sccs, DependencyDirection::Forward)?;
-    assert!(rt; counts_up(forward.as_slice()));
-    let lengths = lengths(graph.alloc(), &ordered.sccs)?;
-    assert_eq!(rt; lengths.as_slice(), [1000].as_slice());
-    Ok(())
+// The nodes of the ring are one component, in their order, and a walk follows each link.
+fn ring_1000_holds(rt: &impl Abort, graph: &Graph<DevLinks>, positions: &[usize]) {
+    let name = "ring_1000";
+    let ordered = make_ordered(graph).expect(rt, name);
+    assert!(rt; has_indexes(graph, &ordered.topo, positions));
+    let nodes = ordered.sccs.node_iter(DependencyDirection::Forward);
+    let nodes = nodes.collect::<Vec<_>>(graph.alloc()).expect(rt, name);
+    assert!(rt; are_positions(nodes.as_slice(), positions));
+    let mut components = ordered.sccs.all_sccs();
+    assert!(rt; components.len() == 1);
+    assert!(rt; components.next().expect(rt, name).len() == 1000);
+    let all = ResolveCore::all_nodes(graph).expect(rt, name);
+    let links = all.links(graph, &ordered.sccs, DependencyDirection::Forward);
+    assert!(rt; links.expect(rt, name).count() == 1000);
+    let two = ResolveCore::from_included(set_of(rt, graph, &[0, 2]));
+    let links = two.links(graph, &ordered.sccs, DependencyDirection::Forward);
+    assert!(rt; links.expect(rt, name).next().is_none());
 }
 
 #[test]
-fn ring_1000(rt: HostRuntime) -> Result<(), Fail> {
-    let graph = chain_of(rt.alloc(), 1000, &[(999, 0)])?;
-    ring_1000_holds(&rt, &graph)?;
-    Ok(())
+fn ring_1000(rt: HostRuntime) {
+    let name = "ring_1000";
+    let mut positions = Vec::new(rt.alloc());
+    let mut ends = Vec::new(rt.alloc());
+    for from in 0..1000 {
+        positions.push(from).expect(&rt, name);
+        ends.push((from, (from + 1) % 1000)).expect(&rt, name);
+    }
+    let graph = graph_of(&rt, rt.alloc(), 1000, ends.as_slice());
+    ring_1000_holds(&rt, &graph, positions.as_slice());
 }

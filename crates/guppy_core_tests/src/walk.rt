@@ -1,15 +1,12 @@
-//! Walks over the links of small sets, and of a large ring.
-ghost use Rattle.std.specs.Prelude.{◌≡◌, length};
+//! Walks over the links of small sets.
 
 use crate::positions::set_of;
-use crate::scc::{DevLinks, chain_of, make_ordered};
+use crate::scc::{DevLinks, graph_of, make_ordered};
 use guppy_core::graph_core::Graph;
-use guppy_core::ix::{DependencyDirection, IndexType, IxSet};
+use guppy_core::ix::{DependencyDirection, IndexType};
 use guppy_core::resolve_core::ResolveCore;
 use guppy_core::walk::EdgeDfs;
-use std::alloc::AllocError;
 use std::process::Abort;
-use std::test::Fail;
 
 const FORWARD: DependencyDirection = DependencyDirection::Forward;
 
@@ -20,6 +17,7 @@ const REVERSE: DependencyDirection = DependencyDirection::Reverse;
 struct Walk {
     name: &'static str,
     node_count: usize,
+    ends: &'static [(usize, usize)],
     direction: DependencyDirection,
     starts: Option<&'static [usize]>,
     links: &'static [(usize, usize, usize)],
@@ -30,6 +28,7 @@ const WALKS: &[Walk] = &[
     Walk {
         name: "walks_from_given_starts",
         node_count: 4,
+        ends: &[(0, 1), (1, 2), (2, 3)],
         direction: FORWARD,
         starts: Some(&[1]),
         links: &[(1, 2, 1)],
@@ -37,6 +36,7 @@ const WALKS: &[Walk] = &[
     Walk {
         name: "walks_from_given_starts",
         node_count: 4,
+        ends: &[(0, 1), (1, 2), (2, 3)],
         direction: REVERSE,
         starts: Some(&[2, 3]),
         links: &[(1, 2, 1), (0, 1, 0)],
@@ -44,6 +44,7 @@ const WALKS: &[Walk] = &[
     Walk {
         name: "links_of_a_chain",
         node_count: 3,
+        ends: &[(0, 1), (1, 2)],
         direction: FORWARD,
         starts: None,
         links: &[(0, 1, 0), (1, 2, 1)],
@@ -51,75 +52,40 @@ const WALKS: &[Walk] = &[
     Walk {
         name: "links_of_a_chain",
         node_count: 3,
+        ends: &[(0, 1), (1, 2)],
         direction: REVERSE,
         starts: None,
         links: &[(1, 2, 1), (0, 1, 0)],
     },
 ];
 
-fn walked(
-    graph: &Graph<DevLinks>,
-    set: &IxSet<DevLinks>,
-    direction: DependencyDirection,
-    starts: &[usize],
-) -> Result<Vec<(usize, usize, usize)>, AllocError>
-    requires { length set.now ≡ length graph.now.nodes }
-{
-    let starts = set_of(graph, starts)?;
-    let links = EdgeDfs::new(graph, set, direction, &starts)?;
-    links
-        .map(|(from, to, number)| (from.index(), to.index(), number))
-        .collect(graph.alloc())
-}
-
-fn links_of(
-    graph: &Graph<DevLinks>,
-    set: IxSet<DevLinks>,
-    direction: DependencyDirection,
-) -> Result<Vec<(usize, usize, usize)>, AllocError>
-    requires { length set ≡ length graph.now.nodes }
-{
-    let ordered = make_ordered(graph)?;
-    let links = ResolveCore::from_included(set).links(graph, &ordered.sccs, direction)?;
-    links
-        .map(|(from, to, number)| (from.index(), to.index(), number))
-        .collect(graph.alloc())
-}
-
-fn links_on(
-    graph: &Graph<DevLinks>,
-    walk: &Walk,
-) -> Result<Vec<(usize, usize, usize)>, AllocError> {
-    let set = set_of(graph, &[0, 1, 2])?;
-    match walk.starts {
-        Some(starts) => walked(graph, &set, walk.direction, starts),
-        None => links_of(graph, set, walk.direction),
+fn links_on(rt: &impl Abort, graph: &Graph<DevLinks>, walk: &Walk) -> Vec<(usize, usize, usize)> {
+    let set = set_of(rt, graph, &[0, 1, 2]);
+    let mut found = Vec::new(graph.alloc());
+    if let Some(starts) = walk.starts {
+        let starts = set_of(rt, graph, starts);
+        let links = EdgeDfs::new(graph, &set, walk.direction, &starts);
+        for (from, to, number) in links.expect(rt, walk.name) {
+            let link = (from.index(), to.index(), number);
+            found.push(link).expect(rt, walk.name);
+        }
+    } else {
+        let ordered = make_ordered(graph).expect(rt, walk.name);
+        let set = ResolveCore::from_included(set);
+        let links = set.links(graph, &ordered.sccs, walk.direction);
+        for (from, to, number) in links.expect(rt, walk.name) {
+            let link = (from.index(), to.index(), number);
+            found.push(link).expect(rt, walk.name);
+        }
     }
+    found
 }
 
 #[test]
-fn walks(rt: HostRuntime) -> Result<(), Fail> {
+fn walks(rt: HostRuntime) {
     for walk in WALKS {
-        let graph = chain_of(rt.alloc(), walk.node_count, &[])?;
-        let links = links_on(&graph, walk)?;
-        assert_eq!(rt; links.as_slice(), walk.links, "{}", walk.name);
+        let graph = graph_of(&rt, rt.alloc(), walk.node_count, walk.ends);
+        let links = links_on(&rt, &graph, walk);
+        assert!(rt; links.as_slice() == walk.links, "{}", walk.name);
     }
-    Ok(())
-}
-
-fn ring_1000_holds(rt: &impl Abort, graph: &Graph<DevLinks>) -> Result<(), AllocError> {
-    let all = ResolveCore::all_nodes(graph)?;
-    let ordered = make_ordered(graph)?;
-    let links = all.links(graph, &ordered.sccs, FORWARD)?;
-    assert_eq!(rt; links.count(), 1000);
-    Ok(())
-}
-
-#[test]
-fn ring_1000(rt: HostRuntime) -> Result<(), Fail> {
-    let graph = chain_of(rt.alloc(), 1000, &[(999, 0)])?;
-    ring_1000_holds(&rt, &graph)?;
-    let links = links_of(&graph, set_of(&graph, &[0, 2])?, FORWARD)?;
-    assert!(rt; links.is_empty());
-    Ok(())
 }

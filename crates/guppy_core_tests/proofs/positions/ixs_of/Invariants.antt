@@ -1,5 +1,0 @@
-use Rattle.std.proofs.Common.{◌<◌, All}
-use Rattle.guppy_core_tests.proofs.positions.ixs_of.Given as goal
-
-abbrev pub invariant-loop-position : goal.invariant-loop-position
-invariant-loop-position l = All (λ ix. ix.0 < l.count) l.ixs.items
