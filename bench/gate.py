@@ -63,7 +63,7 @@ class Bug:
 
     def changes_nothing(self):
         """Holds of a pair that only moves spaces, so that a later pair's text is found once."""
-        return all(old.split() == new.split() or "".join(old.split()) == "".join(new.split()) for _, old, new in self.pairs)
+        return all("".join(old.split()) == "".join(new.split()) for _, old, new in self.pairs)
 
 
 def bugs_of(text):
