@@ -217,23 +217,36 @@ fn components_of_a_chain_with_a_ring(rt: HostRuntime) {
     components_hold(&rt, &ordered.sccs);
 }
 
-// The nodes of the ring are one component, in their order, and a walk follows each link.
-fn ring_1000_holds(rt: &impl Abort, graph: &Graph<DevLinks>, positions: &[usize]) {
-    let name = "ring_1000";
-    let ordered = make_ordered(graph).expect(rt, name);
+// The nodes of the ring are one component, in their order.
+fn ring_is_a_component(
+    rt: &impl Abort,
+    graph: &Graph<DevLinks>,
+    ordered: &Ordered,
+    positions: &[usize],
+)
+    requires { length ordered.now.topo ≡ length graph.now.nodes }
+{
     assert!(rt; has_indexes(graph, &ordered.topo, positions));
     let nodes = ordered.sccs.node_iter(DependencyDirection::Forward);
-    let nodes = nodes.collect::<Vec<_>>(graph.alloc()).expect(rt, name);
+    let nodes = nodes.collect::<Vec<_>>(graph.alloc()).expect(rt, "nodes");
     assert!(rt; are_positions(nodes.as_slice(), positions));
     let mut components = ordered.sccs.all_sccs();
     assert!(rt; components.len() == 1);
-    assert!(rt; components.next().expect(rt, name).len() == 1000);
-    let all = ResolveCore::all_nodes(graph).expect(rt, name);
-    let links = all.links(graph, &ordered.sccs, DependencyDirection::Forward);
-    assert!(rt; links.expect(rt, name).count() == 1000);
-    let two = ResolveCore::from_included(set_of(rt, graph, &[0, 2]));
-    let links = two.links(graph, &ordered.sccs, DependencyDirection::Forward);
-    assert!(rt; links.expect(rt, name).next().is_none());
+    assert!(rt; components.next().expect(rt, "a component").len() == 1000);
+}
+
+// How many links a walk over these nodes follows.
+fn walked(
+    rt: &impl Abort,
+    graph: &Graph<DevLinks>,
+    sccs: &Sccs<PackageIx>,
+    positions: &[usize],
+) -> usize
+    requires { length (concat sccs.now) ≡ length graph.now.nodes }
+{
+    let core = ResolveCore::from_included(set_of(rt, graph, positions));
+    let links = core.links(graph, sccs, DependencyDirection::Forward);
+    links.expect(rt, "links").count()
 }
 
 #[test]
@@ -246,5 +259,8 @@ fn ring_1000(rt: HostRuntime) {
         ends.push((from, (from + 1) % 1000)).expect(&rt, name);
     }
     let graph = graph_of(&rt, rt.alloc(), 1000, ends.as_slice());
-    ring_1000_holds(&rt, &graph, positions.as_slice());
+    let ordered = make_ordered(&graph).expect(&rt, name);
+    ring_is_a_component(&rt, &graph, &ordered, positions.as_slice());
+    assert!(rt; walked(&rt, &graph, &ordered.sccs, positions.as_slice()) == 1000);
+    assert!(rt; walked(&rt, &graph, &ordered.sccs, &[0, 2]) == 0);
 }
