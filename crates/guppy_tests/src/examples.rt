@@ -12,40 +12,75 @@
 //! answer is right, ` or ` stands between them. A question's first word tells the module that answers it:
 //! `package`, `workspace` and `resolve` do so, `graphs` has the others.
 use crate::graphs::{self, ask_graph};
+use crate::lists::{self, ask_looks};
 use crate::queries::{self, ask_query};
 use crate::records::{graph_of, ids};
+use crate::sets::{self, beside, other_graph};
 use crate::views::{self, ask_package, ask_workspace};
-use crate::{lists, sets};
 use guppy::PackageGraph;
 use guppy::set::laws::resolved_sets_are_whole;
 use guppy_data::{Error, PackageId};
 use std::alloc::{AllocError, Global};
 use std::process::Abort;
-use std::test::Fail;
 
-/// Adds a word, behind a space where it isn't the first.
-pub(super) fn put(out: &mut String, word: &str) -> Result<(), AllocError> {
-    if !out.is_empty() {
-        out.push_str(" ")?;
+/// The answer to a question.
+#[derive(Drop)]
+pub(super) struct Answer {
+    text: String,
+    // Whether memory was refused while it was written.
+    is_cut: bool,
+}
+
+impl Answer {
+    /// Takes note of whether memory was refused.
+    pub(super) fn note(&mut self, is_refused: bool) {
+        self.is_cut = self.is_cut || is_refused;
     }
-    out.push_str(word)
-}
 
-pub(super) fn put_number(out: &mut String, number: usize) -> Result<(), AllocError> {
-    put(out, "")?;
-    write!(out, "{number}")
-}
+    /// Adds a mark right behind what is there.
+    pub(super) fn put_mark(&mut self, mark: &str) {
+        let taken = self.text.push_str(mark);
+        self.note(taken.is_err());
+    }
 
-pub(super) fn put_truth(out: &mut String, truth: bool) -> Result<(), AllocError> {
-    put(out, if truth { "yes" } else { "no" })
+    /// Adds a word, behind a space where it isn't the first.
+    pub(super) fn put(&mut self, word: &str) {
+        if !self.text.is_empty() {
+            self.put_mark(" ");
+        }
+        self.put_mark(word);
+    }
+
+    pub(super) fn put_number(&mut self, number: usize) {
+        self.put("");
+        let taken = write!(self.text, "{number}");
+        self.note(taken.is_err());
+    }
+
+    pub(super) fn put_truth(&mut self, truth: bool) {
+        self.put(if truth { "yes" } else { "no" });
+    }
+
+    /// Adds a comma behind what is there.
+    pub(super) fn put_comma(&mut self) {
+        if !self.text.is_empty() {
+            self.put_mark(",");
+        }
+    }
+
+    // Adds the error's text.
+    fn put_error(&mut self, error: &Error) {
+        let taken = write!(self.text, "{error}");
+        self.note(taken.is_err());
+    }
 }
 
 // Adds the answer to a question of these words. The IDs are those of the words, place by place.
-fn answer(
+fn ask(
     graph: &PackageGraph,
     words: &[&str],
     ids: &[PackageId],
-    out: &mut String,
+    out: &mut Answer,
 ) -> Result<(), Error> {
     match (words, ids) {
         (["package", _, words @ ..], [_, name, ids @ ..]) => {
@@ -57,32 +92,51 @@ fn answer(
     }
 }
 
+// Compares the graph with another one.
+fn tell_beside(
+    rt: &impl Abort,
+    graph: &PackageGraph,
+    words: &[&str],
+    ids: &[PackageId],
+    out: &mut Answer,
+) -> Result<(), Error> {
+    if let ([_, other, ..], [_, _, a, b]) = (words, ids) {
+        let other = graph_of(rt, graph.alloc(), other_graph(other))?;
+        beside(graph, &other, a, b, out)?;
+    }
+    Ok(())
+}
+
 fn tell(
+    rt: &impl Abort,
     alloc: Global,
     graph: &str,
     words: &[&str],
-    ids: &[PackageId],
-    out: &mut String,
+    out: &mut Answer,
 ) -> Result<(), Error> {
-    let graph = graph_of(alloc, graph)?;
-    answer(&graph, words, ids, out)
+    let graph = graph_of(rt, alloc, graph)?;
+    let ids = ids(rt, alloc, words);
+    match words {
+        ["looks" | "in-turn", ..] => ask_looks(rt, &graph, words, out),
+        ["beside", ..] => tell_beside(rt, &graph, words, &ids, out),
+        _ => ask(&graph, words, &ids, out),
+    }
 }
 
-fn tell_all(
-    alloc: Global,
-    graph: &str,
-    question: &str,
-    out: &mut String,
-) -> Result<(), AllocError> {
-    let words: Vec<&str> = question.split_whitespace().collect(alloc)?;
-    let ids = ids(alloc, &words)?;
-    if let Err(error) = tell(alloc, graph, &words, &ids, out) {
-        write!(out, "{error}")?;
+fn tell_all(rt: &impl Abort, alloc: Global, graph: &str, question: &str) -> Answer {
+    let mut out = Answer {
+        text: String::new(alloc),
+        is_cut: false,
+    };
+    let words: Result<Vec<&str>, AllocError> = question.split_whitespace().collect(alloc);
+    let words = words.expect(rt, question);
+    if let Err(error) = tell(rt, alloc, graph, &words, &mut out) {
+        out.put_error(&error);
     }
-    if out.is_empty() {
-        out.push_str("nothing")?;
+    if out.text.is_empty() {
+        out.put("nothing");
     }
-    Ok(())
+    out
 }
 
 fn is_wanted(answer: &str, wanted: &str) -> bool {
@@ -94,43 +148,28 @@ fn is_wanted(answer: &str, wanted: &str) -> bool {
     false
 }
 
-fn assert_answer(
-    rt: &impl Abort,
-    alloc: Global,
-    example: (&str, &str),
-    asked: (&str, &str),
-    answer: &mut String,
-) -> Result<(), AllocError> {
+fn assert_answer(rt: &impl Abort, alloc: Global, example: (&str, &str), asked: (&str, &str)) {
     let (name, graph) = example;
     let (question, wanted) = asked;
-    answer.clear();
-    tell_all(alloc, graph, question, answer)?;
-    let answer = answer.as_str();
+    let answer = tell_all(rt, alloc, graph, question);
+    assert!(rt; !answer.is_cut, "{name}: {question}: memory was refused");
+    let answer = answer.text.as_str();
     assert!(rt; is_wanted(answer, wanted), "{name}: {question} = {answer}");
-    Ok(())
 }
 
-// Asks each question of the tables, and compares the answers.
-fn assert_examples(
-    rt: &impl Abort,
-    alloc: Global,
-    tables: &[&str],
-    answer: &mut String,
-) -> Result<(), AllocError> {
-    for table in tables {
-        let mut example = ("", "");
-        for line in table.lines() {
-            let line = line.trim();
-            if let Some((question, wanted)) = line.split_once(" = ") {
-                assert_answer(rt, alloc, example, (question, wanted), answer)?;
-            } else if let Some(next) = line.split_once(" | ") {
-                example = next;
-            } else {
-                assert!(rt; line.is_empty(), "{line}");
-            }
+// Asks each question of the table, and compares the answers.
+fn assert_examples(rt: &impl Abort, alloc: Global, table: &str) {
+    let mut example = ("", "");
+    for line in table.lines() {
+        let line = line.trim();
+        if let Some((question, wanted)) = line.split_once(" = ") {
+            assert_answer(rt, alloc, example, (question, wanted));
+        } else if let Some(next) = line.split_once(" | ") {
+            example = next;
+        } else {
+            assert!(rt; line.is_empty(), "{line}");
         }
     }
-    Ok(())
 }
 
 const TABLES: [&str; 12] = [
@@ -149,9 +188,9 @@ const TABLES: [&str; 12] = [
 ];
 
 #[test]
-fn examples(rt: HostRuntime) -> Result<(), Fail> {
+fn examples(rt: HostRuntime) {
     resolved_sets_are_whole();
-    let mut answer = String::new(rt.alloc());
-    assert_examples(&rt, rt.alloc(), &TABLES, &mut answer)?;
-    Ok(())
+    for table in TABLES {
+        assert_examples(&rt, rt.alloc(), table);
+    }
 }

@@ -5,79 +5,76 @@ use guppy_data::{
 };
 use semver::Version;
 use serde_json::Value;
-use std::alloc::{AllocError, Global};
+use std::alloc::Global;
+use std::process::Abort;
 
-fn list(alloc: Global, item: &str) -> Result<Vec<String>, AllocError> {
+fn list(rt: &impl Abort, alloc: Global, item: &str) -> Vec<String> {
     let mut items = Vec::new(alloc);
-    items.push(text(alloc, item)?)?;
-    Ok(items)
+    items.push(text(rt, alloc, item)).expect(rt, item);
+    items
 }
 
-fn fill_texts(alloc: Global, package: &mut PackageRecord) -> Result<(), AllocError> {
-    package.description = Some(text(alloc, "description")?);
-    package.license = Some(text(alloc, "MIT")?);
-    package.links = Some(text(alloc, "z")?);
-    package.default_run = Some(text(alloc, "run")?);
-    package.repository = Some(text(alloc, "repository")?);
-    package.homepage = Some(text(alloc, "homepage")?);
-    package.documentation = Some(text(alloc, "documentation")?);
-    package.edition = text(alloc, "2024")?;
-    Ok(())
+fn fill_texts(rt: &impl Abort, alloc: Global, package: &mut PackageRecord) {
+    package.description = Some(text(rt, alloc, "description"));
+    package.license = Some(text(rt, alloc, "MIT"));
+    package.links = Some(text(rt, alloc, "z"));
+    package.default_run = Some(text(rt, alloc, "run"));
+    package.repository = Some(text(rt, alloc, "repository"));
+    package.homepage = Some(text(rt, alloc, "homepage"));
+    package.documentation = Some(text(rt, alloc, "documentation"));
+    package.edition = text(rt, alloc, "2024");
 }
 
-fn fill_paths(alloc: Global, package: &mut PackageRecord) -> Result<(), AllocError> {
-    package.license_file = Some(path(alloc, "LICENSE")?);
-    package.readme = Some(path(alloc, "README.md")?);
-    package.manifest_path = path(alloc, "a/Cargo.toml")?;
+fn fill_paths(rt: &impl Abort, alloc: Global, package: &mut PackageRecord) {
+    package.license_file = Some(path(rt, alloc, "LICENSE"));
+    package.readme = Some(path(rt, alloc, "README.md"));
+    package.manifest_path = path(rt, alloc, "a/Cargo.toml");
     package.rust_version = Some(Version::new(1, 85, 0));
     package.metadata_table = Value::Bool(true);
-    Ok(())
 }
 
-fn fill_lists(alloc: Global, package: &mut PackageRecord) -> Result<(), AllocError> {
-    package.authors = list(alloc, "author")?;
-    package.categories = list(alloc, "category")?;
-    package.keywords = list(alloc, "keyword")?;
-    package.publish = PackagePublishRecord::Registries(list(alloc, "registry")?);
-    Ok(())
+fn fill_lists(rt: &impl Abort, alloc: Global, package: &mut PackageRecord) {
+    package.authors = list(rt, alloc, "author");
+    package.categories = list(rt, alloc, "category");
+    package.keywords = list(rt, alloc, "keyword");
+    package.publish = PackagePublishRecord::Registries(list(rt, alloc, "registry"));
 }
 
-fn fill_features(alloc: Global, package: &mut PackageRecord) -> Result<(), AllocError> {
+fn fill_features(rt: &impl Abort, alloc: Global, package: &mut PackageRecord) {
     let mut deps = Vec::new(alloc);
-    deps.push(NamedFeatureDep::OptionalDependency(text(alloc, "o")?))?;
-    package
-        .named_features
-        .insert(text(alloc, "default")?, deps)?;
-    package.optional_deps.insert(text(alloc, "o")?)?;
-    Ok(())
+    let dep = NamedFeatureDep::OptionalDependency(text(rt, alloc, "o"));
+    deps.push(dep).expect(rt, "o");
+    let features = &mut package.named_features;
+    let inserted = features.insert(text(rt, alloc, "default"), deps);
+    inserted.expect(rt, "default");
+    let inserted = package.optional_deps.insert(text(rt, alloc, "o"));
+    inserted.expect(rt, "o");
 }
 
-fn fill_link(alloc: Global, link: &mut LinkRecord) -> Result<(), AllocError> {
-    link.dep_name = text(alloc, "dep-name")?;
-    link.resolved_name = text(alloc, "dep_name")?;
-    link.registry = Some(text(alloc, "registry")?);
-    link.path = Some(path(alloc, "../b")?);
-    Ok(())
+fn fill_link(rt: &impl Abort, alloc: Global, link: &mut LinkRecord) {
+    link.dep_name = text(rt, alloc, "dep-name");
+    link.resolved_name = text(rt, alloc, "dep_name");
+    link.registry = Some(text(rt, alloc, "registry"));
+    link.path = Some(path(rt, alloc, "../b"));
 }
 
-fn fill_workspace(alloc: Global, workspace: &mut WorkspaceRecord) -> Result<(), AllocError> {
-    workspace.root = path(alloc, "/w")?;
-    workspace.target_directory = path(alloc, "/w/target")?;
-    workspace.build_directory = Some(path(alloc, "/w/build")?);
+fn fill_workspace(rt: &impl Abort, alloc: Global, workspace: &mut WorkspaceRecord) {
+    workspace.root = path(rt, alloc, "/w");
+    workspace.target_directory = path(rt, alloc, "/w/target");
+    workspace.build_directory = Some(path(rt, alloc, "/w/build"));
     workspace.metadata_table = Value::Bool(false);
-    Ok(())
 }
 
 /// Fills the fields of the first package, the first link and the workspace.
-pub(super) fn fill(alloc: Global, records: &mut Records) -> Result<(), AllocError> {
+pub(super) fn fill(rt: &impl Abort, alloc: Global, records: &mut Records) {
     if let Some(package) = records.packages.first_mut() {
-        fill_texts(alloc, package)?;
-        fill_paths(alloc, package)?;
-        fill_lists(alloc, package)?;
-        fill_features(alloc, package)?;
+        fill_texts(rt, alloc, package);
+        fill_paths(rt, alloc, package);
+        fill_lists(rt, alloc, package);
+        fill_features(rt, alloc, package);
     }
     if let Some(link) = records.links.first_mut() {
-        fill_link(alloc, link)?;
+        fill_link(rt, alloc, link);
     }
-    fill_workspace(alloc, &mut records.workspace)
+    fill_workspace(rt, alloc, &mut records.workspace);
 }

@@ -1,44 +1,42 @@
 //! Graphs: what they hold, which records make none, what depends on what, and whether they are verified.
-use crate::examples::{put, put_number, put_truth};
-use crate::lists::{ask_looks, put_cycles, put_in_turn};
-use crate::sets::{ask_set, beside};
+use crate::examples::Answer;
+use crate::lists::put_cycles;
+use crate::sets::ask_set;
 use guppy::{DependsCache, PackageGraph};
 use guppy_data::{Error, PackageId};
 
 // How many packages and links there are, and how many the walks over IDs, packages and members have.
-fn put_counts(graph: &PackageGraph, out: &mut String) -> Result<(), Error> {
-    put_number(out, graph.package_count())?;
-    put_number(out, graph.link_count())?;
-    put_number(out, graph.package_ids().len())?;
-    put_number(out, graph.packages().len())?;
-    put_number(out, graph.workspace().member_count())?;
-    Ok(())
+fn put_counts(graph: &PackageGraph, out: &mut Answer) {
+    out.put_number(graph.package_count());
+    out.put_number(graph.link_count());
+    out.put_number(graph.package_ids().len());
+    out.put_number(graph.packages().len());
+    out.put_number(graph.workspace().member_count());
 }
 
 // All IDs and names in the order of texts, and how many are left of each after one was taken.
-fn put_each(graph: &PackageGraph, out: &mut String) -> Result<(), Error> {
+fn put_each(graph: &PackageGraph, out: &mut Answer) {
     let mut texts = Vec::new(graph.alloc());
     for id in graph.package_ids() {
-        texts.push(id.repr())?;
+        out.note(texts.push(id.repr()).is_err());
     }
     for package in graph.packages() {
-        texts.push(package.name())?;
+        out.note(texts.push(package.name()).is_err());
     }
     texts.sort_unstable();
     for text in &texts {
-        put(out, text)?;
+        out.put(text);
     }
-    put_rest(graph, out)
+    put_rest(graph, out);
 }
 
-fn put_rest(graph: &PackageGraph, out: &mut String) -> Result<(), Error> {
+fn put_rest(graph: &PackageGraph, out: &mut Answer) {
     let mut ids = graph.package_ids();
-    put_truth(out, ids.next().is_some())?;
-    put_number(out, ids.len())?;
+    out.put_truth(ids.next().is_some());
+    out.put_number(ids.len());
     let mut packages = graph.packages();
-    put_truth(out, packages.next().is_some())?;
-    put_number(out, packages.len())?;
-    Ok(())
+    out.put_truth(packages.next().is_some());
+    out.put_number(packages.len());
 }
 
 fn put_relation(
@@ -46,32 +44,32 @@ fn put_relation(
     relation: &str,
     from: &PackageId,
     to: &PackageId,
-    out: &mut String,
+    out: &mut Answer,
 ) -> Result<(), Error> {
     let holds = match relation {
         "direct" => graph.directly_depends_on(from, to)?,
         "cyclic" => graph.cycles().is_cyclic(from, to)?,
         _ => graph.depends_on(from, to)?,
     };
-    put_truth(out, holds)?;
+    out.put_truth(holds);
     Ok(())
 }
 
 fn put_cached(
     cache: &mut DependsCache<'_>,
     asked: &[PackageId],
-    out: &mut String,
+    out: &mut Answer,
 ) -> Result<(), Error> {
     for pair in asked.chunks_exact(2) {
         if let [from, to] = pair {
-            put_truth(out, cache.depends_on(from, to)?)?;
+            out.put_truth(cache.depends_on(from, to)?);
         }
     }
     Ok(())
 }
 
 // What one cache answers to each two in turn.
-fn ask_cache(graph: &PackageGraph, asked: &[PackageId], out: &mut String) -> Result<(), Error> {
+fn ask_cache(graph: &PackageGraph, asked: &[PackageId], out: &mut Answer) -> Result<(), Error> {
     let mut cache = graph.new_depends_cache()?;
     put_cached(&mut cache, asked, out)
 }
@@ -81,29 +79,24 @@ pub(super) fn ask_graph(
     graph: &PackageGraph,
     words: &[&str],
     ids: &[PackageId],
-    out: &mut String,
+    out: &mut Answer,
 ) -> Result<(), Error> {
     match (words, ids) {
         (["counts"], _) => put_counts(graph, out),
         (["each"], _) => put_each(graph, out),
         ([relation @ ("depends" | "direct" | "cyclic"), ..], [_, from, to]) => {
-            put_relation(graph, relation, from, to, out)
+            put_relation(graph, relation, from, to, out)?;
         }
-        (["cache", ..], [_, asked @ ..]) => ask_cache(graph, asked, out),
+        (["cache", ..], [_, asked @ ..]) => ask_cache(graph, asked, out)?,
         (["verify"], _) => {
             graph.verify()?;
-            Ok(put(out, "ok")?)
+            out.put("ok");
         }
         (["cycles"], _) => put_cycles(graph, false, out),
         (["cycles", "from-back"], _) => put_cycles(graph, true, out),
-        (["looks", words @ ..], _) => ask_looks(graph, words, out),
-        (["in-turn", looks @ ..], _) => {
-            put_in_turn(graph, out)?;
-            ask_looks(graph, looks, out)
-        }
-        (["beside", other, ..], [_, _, a, b]) => beside(graph, other, a, b, out),
-        _ => ask_set(graph, words, ids, out),
+        _ => ask_set(graph, words, ids, out)?,
     }
+    Ok(())
 }
 
 pub(super) const GRAPHS: &str = "

@@ -1,7 +1,7 @@
 //! Lists of sets, cycles, and the looks for the order.
 ghost use Rattle.std.specs.Iterator.{IsFinite};
 
-use crate::examples::{put, put_number, put_truth};
+use crate::examples::Answer;
 use crate::records::{numbered_name, shape_of};
 use guppy::{CycleIds, PackageGraph};
 use guppy_core::{
@@ -9,35 +9,28 @@ use guppy_core::{
 };
 use guppy_data::{Error, PackageId};
 use std::alloc::{AllocError, Global};
+use std::process::Abort;
 
 // How many packages the cycle has, and these, behind a comma if it isn't the first.
-fn put_cycle(cycle: CycleIds<'_>, out: &mut String) -> Result<(), AllocError> {
-    if !out.is_empty() {
-        out.push_str(",")?;
-    }
-    put_number(out, cycle.len())?;
+fn put_cycle(cycle: CycleIds<'_>, out: &mut Answer) {
+    out.put_comma();
+    out.put_number(cycle.len());
     for id in cycle {
-        put(out, id.repr())?;
+        out.put(id.repr());
     }
-    Ok(())
 }
 
-pub(super) fn put_cycles(
-    graph: &PackageGraph,
-    is_from_back: bool,
-    out: &mut String,
-) -> Result<(), Error> {
+pub(super) fn put_cycles(graph: &PackageGraph, is_from_back: bool, out: &mut Answer) {
     let cycles = graph.cycles().all_cycles();
     if is_from_back {
         for cycle in cycles.rev() {
-            put_cycle(cycle, out)?;
+            put_cycle(cycle, out);
         }
     } else {
         for cycle in cycles {
-            put_cycle(cycle, out)?;
+            put_cycle(cycle, out);
         }
     }
-    Ok(())
 }
 
 pub(super) const LISTS: &str = "
@@ -91,32 +84,36 @@ no_cycle | a b c d: a>b
 
 // How many IDs there are where they are p0, p1 and so on, and 0 where they aren't.
 fn counts_up<'g, I: Iterator<Item = &'g PackageId> + Drop>(
+    rt: &impl Abort,
     alloc: Global,
     ids: I,
-) -> Result<usize, AllocError>
+) -> usize
     requires can { I.can_next ids }
     requires ends { IsFinite (I.remaining ids) }
 {
     let mut position = 0;
     for id in ids {
-        if id.repr() != numbered_name(alloc, position)?.as_str() {
-            return Ok(0);
+        if id.repr() != numbered_name(rt, alloc, position).as_str() {
+            return 0;
         }
         position = position.saturating_add(1);
     }
-    Ok(position)
+    position
 }
 
 // How many packages the graph has and how many each cycle has, where all are p0, p1 and so on.
-pub(super) fn put_in_turn(graph: &PackageGraph, out: &mut String) -> Result<(), Error> {
-    let count = {
-        let all = graph.resolve_all()?;
-        counts_up(graph.alloc(), all.package_ids(DependencyDirection::Forward))?
-    };
-    put_number(out, count)?;
+fn put_in_turn(
+    rt: &impl Abort,
+    alloc: Global,
+    graph: &PackageGraph,
+    out: &mut Answer,
+) -> Result<(), Error> {
+    let all = graph.resolve_all()?;
+    let ids = all.package_ids(DependencyDirection::Forward);
+    out.put_number(counts_up(rt, alloc, ids));
     for cycle in graph.cycles().all_cycles() {
-        put_number(out, cycle.len())?;
-        put_number(out, counts_up(graph.alloc(), cycle)?)?;
+        out.put_number(cycle.len());
+        out.put_number(counts_up(rt, alloc, cycle));
     }
     Ok(())
 }
@@ -150,14 +147,20 @@ fn counted_looks(graph: &Graph<DevLinks>) -> Result<u64, AllocError> {
 }
 
 // The looks for index and components of the nodes and links alone, and none where these make no graph.
-fn looks_of(alloc: Global, count: usize, ends: &[(usize, usize, bool)]) -> Result<u64, AllocError> {
+fn looks_of(
+    rt: &impl Abort,
+    alloc: Global,
+    count: usize,
+    ends: &[(usize, usize, bool)],
+) -> Result<u64, AllocError> {
     let mut links = Vec::new(alloc);
     for (from, to, is_dev_only) in ends {
-        links.push(Link {
+        let link = Link {
             from: *from,
             to: *to,
             edge: *is_dev_only,
-        })?;
+        };
+        links.push(link).expect(rt, "a link");
     }
     let nodes = vec![in alloc; (); count]?;
     match Graph::from_parts(nodes, links) {
@@ -167,30 +170,38 @@ fn looks_of(alloc: Global, count: usize, ends: &[(usize, usize, bool)]) -> Resul
 }
 
 // Whether the graph's looks are those for index and components of its links alone.
-fn put_sum(
-    graph: &PackageGraph,
-    ends: &[(usize, usize, bool)],
-    out: &mut String,
-) -> Result<(), AllocError> {
-    let looks = looks_of(graph.alloc(), graph.package_count(), ends)?;
-    put_truth(out, 0 < looks && graph.order_looks() == looks)
+fn put_sum(rt: &impl Abort, graph: &PackageGraph, ends: &[(usize, usize, bool)], out: &mut Answer) {
+    let looks = looks_of(rt, graph.alloc(), graph.package_count(), ends);
+    let looks = looks.expect(rt, "looks");
+    out.put_truth(0 < looks && graph.order_looks() == looks);
 }
 
-/// Answers whether there were at most so many looks, or those of links alone.
+// Whether there were at most so many looks, or those of links alone.
+fn put_looks(rt: &impl Abort, graph: &PackageGraph, words: &[&str], out: &mut Answer) {
+    match words {
+        ["sum", "backs"] => put_sum(rt, graph, &BACKS, out),
+        ["sum", shape] => {
+            let ends = shape_of(rt, graph.alloc(), shape, graph.package_count());
+            put_sum(rt, graph, &ends, out);
+        }
+        [most] => out.put_truth(graph.order_looks() <= most.parse().unwrap_or(0)),
+        _ => {}
+    }
+}
+
+/// Answers how many looks the order took, and before that, where it is asked, whether lists and cycles are
+/// in turn.
 pub(super) fn ask_looks(
+    rt: &impl Abort,
     graph: &PackageGraph,
     words: &[&str],
-    out: &mut String,
+    out: &mut Answer,
 ) -> Result<(), Error> {
-    match words {
-        ["sum", "backs"] => put_sum(graph, &BACKS, out)?,
-        ["sum", shape] => {
-            let ends = shape_of(graph.alloc(), shape, graph.package_count())?;
-            put_sum(graph, &ends, out)?;
-        }
-        [] => {}
-        [most] => put_truth(out, graph.order_looks() <= most.parse().unwrap_or(0))?,
-        _ => put(out, "unknown question")?,
+    if let ["in-turn", words @ ..] = words {
+        put_in_turn(rt, graph.alloc(), graph, out)?;
+        put_looks(rt, graph, words, out);
+    } else if let ["looks", words @ ..] = words {
+        put_looks(rt, graph, words, out);
     }
     Ok(())
 }

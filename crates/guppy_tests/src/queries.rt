@@ -3,7 +3,7 @@
 //! A resolve is written as `resolve`, its visitor, a direction, and where it starts. The answer is the
 //! set's letters and how many they are, and then each link that was shown, with `+` where it was accepted
 //! and `-` where it was refused, or how often the visitor was called.
-use crate::examples::{put, put_number};
+use crate::examples::Answer;
 use crate::sets::{direction_of, put_letters};
 use crate::visitors::RefusesOnce;
 use guppy::{
@@ -59,12 +59,12 @@ fn put_recorded(
     graph: &PackageGraph,
     set: &PackageSet<'_>,
     entries: &[(usize, bool)],
-    out: &mut String,
+    out: &mut Answer,
 ) -> Result<(), Error> {
     put_letters(graph, set, out)?;
     for (number, is_accepted) in entries {
-        put_number(out, *number)?;
-        out.push_str(if *is_accepted { "+" } else { "-" })?;
+        out.put_number(*number);
+        out.put_mark(if *is_accepted { "+" } else { "-" });
     }
     Ok(())
 }
@@ -73,7 +73,7 @@ fn ask_first(
     graph: &PackageGraph,
     query: PackageQuery<'_>,
     accepted: usize,
-    out: &mut String,
+    out: &mut Answer,
 ) -> Result<(), Error> {
     let (set, recorder) = query.resolve_recorded(First(accepted))?;
     put_recorded(graph, &set, recorder.entries.as_slice(), out)
@@ -83,7 +83,7 @@ fn ask_first(
 fn ask_refuses_once(
     graph: &PackageGraph,
     query: PackageQuery<'_>,
-    out: &mut String,
+    out: &mut Answer,
 ) -> Result<(), Error> {
     let visitor = RefusesOnce { has_refused: false };
     let (set, mut recorder) = query.resolve_recorded(visitor)?;
@@ -95,7 +95,7 @@ fn ask_visitor<V: PackageLinkVisitor + Drop>(
     graph: &PackageGraph,
     query: PackageQuery<'_>,
     visitor: V,
-    out: &mut String,
+    out: &mut Answer,
 ) -> Result<(), Error> {
     let set = query.resolve_with(visitor)?;
     put_letters(graph, &set, out)
@@ -104,30 +104,30 @@ fn ask_visitor<V: PackageLinkVisitor + Drop>(
 fn ask_odd_lent(
     graph: &PackageGraph,
     query: PackageQuery<'_>,
-    out: &mut String,
+    out: &mut Answer,
 ) -> Result<(), Error> {
     let mut counter = Odd { calls: 0 };
     ask_visitor(graph, query, &mut counter, out)?;
-    put_number(out, counter.calls)?;
+    out.put_number(counter.calls);
     Ok(())
 }
 
 fn ask_odd_behind_dyn(
     graph: &PackageGraph,
     query: PackageQuery<'_>,
-    out: &mut String,
+    out: &mut Answer,
 ) -> Result<(), Error> {
     let mut counter = Odd { calls: 0 };
     let visitor: &mut dyn PackageLinkVisitor = &mut counter;
     ask_visitor(graph, query, visitor, out)?;
-    put_number(out, counter.calls)?;
+    out.put_number(counter.calls);
     Ok(())
 }
 
 fn ask_odd_in_a_box(
     graph: &PackageGraph,
     query: PackageQuery<'_>,
-    out: &mut String,
+    out: &mut Answer,
 ) -> Result<(), Error> {
     let visitor: Box<dyn PackageLinkVisitor + Drop> = Box::new(graph.alloc(), Odd { calls: 0 })?;
     ask_visitor(graph, query, visitor, out)
@@ -136,7 +136,7 @@ fn ask_odd_in_a_box(
 fn ask_odd_closure(
     graph: &PackageGraph,
     query: PackageQuery<'_>,
-    out: &mut String,
+    out: &mut Answer,
 ) -> Result<(), Error> {
     let mut calls = 0_usize;
     let set = query.resolve_with_fn(|_cx, _link| {
@@ -144,7 +144,7 @@ fn ask_odd_closure(
         calls % 2 == 1
     })?;
     put_letters(graph, &set, out)?;
-    put_number(out, calls)?;
+    out.put_number(calls);
     Ok(())
 }
 
@@ -153,10 +153,10 @@ pub(super) fn ask_query(
     graph: &PackageGraph,
     words: &[&str],
     ids: &[PackageId],
-    out: &mut String,
+    out: &mut Answer,
 ) -> Result<(), Error> {
     let ([visitor, direction, ..], [_, _, starts @ ..]) = (words, ids) else {
-        put(out, "unknown question")?;
+        out.put("unknown question");
         return Ok(());
     };
     let query = graph.query_directed(starts.iter(), direction_of(direction))?;
@@ -171,7 +171,10 @@ pub(super) fn ask_query(
         "odd-in-a-box" => ask_odd_in_a_box(graph, query, out),
         "odd-closure" => ask_odd_closure(graph, query, out),
         "from-initials" => ask_visitor(graph, query, FromInitials, out),
-        _ => Ok(put(out, "unknown visitor")?),
+        _ => {
+            out.put("unknown visitor");
+            Ok(())
+        }
     }
 }
 

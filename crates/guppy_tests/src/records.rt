@@ -32,7 +32,7 @@ use semver::{Version, VersionReq};
 use serde_json::Value;
 use std::alloc::{AllocError, Global};
 use std::collections::BTreeMap;
-use std::test::Fail;
+use std::process::Abort;
 
 /// The records of a graph.
 #[derive(Drop)]
@@ -42,25 +42,25 @@ pub(super) struct Records {
     pub(super) workspace: WorkspaceRecord,
 }
 
-pub(super) fn text(alloc: Global, text: &str) -> Result<String, AllocError> {
-    String::from_str(alloc, text)
+pub(super) fn text(rt: &impl Abort, alloc: Global, text: &str) -> String {
+    String::from_str(alloc, text).expect(rt, text)
 }
 
-pub(super) fn id(alloc: Global, id: &str) -> Result<PackageId, AllocError> {
-    Ok(PackageId::new(text(alloc, id)?))
+fn id(rt: &impl Abort, alloc: Global, id: &str) -> PackageId {
+    PackageId::new(text(rt, alloc, id))
 }
 
 /// The package IDs of these texts.
-pub(super) fn ids(alloc: Global, texts: &[&str]) -> Result<Vec<PackageId>, AllocError> {
+pub(super) fn ids(rt: &impl Abort, alloc: Global, texts: &[&str]) -> Vec<PackageId> {
     let mut ids = Vec::new(alloc);
     for text in texts {
-        ids.push(id(alloc, text)?)?;
+        ids.push(id(rt, alloc, text)).expect(rt, text);
     }
-    Ok(ids)
+    ids
 }
 
-pub(super) fn path(alloc: Global, path: &str) -> Result<Utf8PathBuf, AllocError> {
-    Ok(Utf8PathBuf::new(text(alloc, path)?))
+pub(super) fn path(rt: &impl Abort, alloc: Global, path: &str) -> Utf8PathBuf {
+    Utf8PathBuf::new(text(rt, alloc, path))
 }
 
 fn no_path(alloc: Global) -> Utf8PathBuf {
@@ -89,16 +89,15 @@ fn section(alloc: Global, is_present: bool) -> DependencyReqImpl {
 }
 
 fn add_package(
-    packages: &mut Vec<PackageRecord>,
+    rt: &impl Abort,
     alloc: Global,
+    packages: &mut Vec<PackageRecord>,
     id_text: &str,
     name: &str,
-) -> Result<(), AllocError> {
-    let id = id(alloc, id_text)?;
-    let name = text(alloc, name)?;
-    packages.push(PackageRecord {
-        id,
-        name,
+) {
+    let package = PackageRecord {
+        id: id(rt, alloc, id_text),
+        name: text(rt, alloc, name),
         version: Version::new(1, 2, 3),
         authors: Vec::new(alloc),
         description: None,
@@ -121,116 +120,101 @@ fn add_package(
         named_features: IndexMap::new(alloc),
         optional_deps: IndexSet::new(alloc),
         build_targets: Vec::new(alloc),
-    })?;
-    Ok(())
+    };
+    packages.push(package).expect(rt, name);
 }
 
 fn add_member(
-    packages: &mut Vec<PackageRecord>,
+    rt: &impl Abort,
     alloc: Global,
+    packages: &mut Vec<PackageRecord>,
     id: &str,
     name: &str,
     place: &str,
-) -> Result<(), AllocError> {
-    add_package(packages, alloc, id, name)?;
+) {
+    add_package(rt, alloc, packages, id, name);
     if let Some(package) = packages.last_mut() {
-        package.source = PackageSourceRecord::Workspace(path(alloc, place)?);
-    }
-    Ok(())
-}
-
-// An error that no graph gives, so that no example wants it.
-fn unread(alloc: Global, word: &str) -> Result<(), Error> {
-    Err(Error::FeatureGraphInternalError(text(alloc, word)?))
-}
-
-fn set_version(package: &mut PackageRecord, alloc: Global, version: &str) -> Result<(), Error> {
-    match Version::parse(alloc, version) {
-        Ok(version) => {
-            package.version = version;
-            Ok(())
-        }
-        Err(_) => unread(alloc, version),
+        package.source = PackageSourceRecord::Workspace(path(rt, alloc, place));
     }
 }
 
-fn set_requirement(link: &mut LinkRecord, alloc: Global, requirement: &str) -> Result<(), Error> {
-    match VersionReq::parse(alloc, requirement) {
-        Ok(requirement) => {
-            link.version_req = requirement;
-            Ok(())
-        }
-        Err(_) => unread(alloc, requirement),
+fn add_versioned(
+    rt: &impl Abort,
+    alloc: Global,
+    packages: &mut Vec<PackageRecord>,
+    name: &str,
+    version: &str,
+) {
+    add_package(rt, alloc, packages, name, name);
+    let version = Version::parse(alloc, version).expect(rt, version);
+    if let Some(package) = packages.last_mut() {
+        package.version = version;
     }
 }
 
-fn target_id(alloc: Global, kind: &str, name: &str) -> Result<OwnedBuildTargetId, AllocError> {
+fn target_id(rt: &impl Abort, alloc: Global, kind: &str, name: &str) -> OwnedBuildTargetId {
     match kind {
-        "bin" => Ok(OwnedBuildTargetId::Binary(text(alloc, name)?)),
-        "test" | "misfit" => Ok(OwnedBuildTargetId::Test(text(alloc, name)?)),
-        _ => Ok(OwnedBuildTargetId::Library),
+        "bin" => OwnedBuildTargetId::Binary(text(rt, alloc, name)),
+        "test" | "misfit" => OwnedBuildTargetId::Test(text(rt, alloc, name)),
+        _ => OwnedBuildTargetId::Library,
     }
 }
 
-fn target(alloc: Global, id: OwnedBuildTargetId, kind: &str) -> BuildTargetRecord {
-    BuildTargetRecord {
-        id,
-        kind: match kind {
-            "macro" => BuildTargetKindRecord::ProcMacro,
-            "misfit" => BuildTargetKindRecord::LibraryOrExample(SortedSet::new(Vec::new(alloc))),
-            _ => BuildTargetKindRecord::Binary,
-        },
-        lib_name: None,
+// A library's own name, where one is written.
+fn lib_name(rt: &impl Abort, alloc: Global, kind: &str, name: &str) -> Option<String> {
+    match (kind, name) {
+        (_, "") => None,
+        ("lib" | "macro", _) => Some(text(rt, alloc, name)),
+        _ => None,
+    }
+}
+
+fn target_kind(alloc: Global, kind: &str) -> BuildTargetKindRecord {
+    match kind {
+        "macro" => BuildTargetKindRecord::ProcMacro,
+        "misfit" => BuildTargetKindRecord::LibraryOrExample(SortedSet::new(Vec::new(alloc))),
+        _ => BuildTargetKindRecord::Binary,
+    }
+}
+
+fn add_target(
+    rt: &impl Abort,
+    alloc: Global,
+    targets: &mut Vec<BuildTargetRecord>,
+    kind: &str,
+    name: &str,
+) {
+    let target = BuildTargetRecord {
+        id: target_id(rt, alloc, kind, name),
+        kind: target_kind(alloc, kind),
+        lib_name: lib_name(rt, alloc, kind, name),
         required_features: Vec::new(alloc),
         path: no_path(alloc),
         edition: String::new(alloc),
         doc_by_default: false,
         doctest_by_default: false,
         test_by_default: false,
-    }
+    };
+    targets.push(target).expect(rt, kind);
 }
 
-fn add_target(
-    targets: &mut Vec<BuildTargetRecord>,
-    alloc: Global,
-    kind: &str,
-    name: &str,
-) -> Result<(), AllocError> {
-    let id = target_id(alloc, kind, name)?;
-    targets.push(target(alloc, id, kind))?;
-    if let ("lib" | "macro", Some(library)) = (kind, targets.last_mut()) {
-        if !name.is_empty() {
-            library.lib_name = Some(text(alloc, name)?);
-        }
-    }
-    Ok(())
-}
-
-fn add_package_word(
-    packages: &mut Vec<PackageRecord>,
-    alloc: Global,
-    word: &str,
-) -> Result<(), Error> {
+fn add_package_word(rt: &impl Abort, alloc: Global, packages: &mut Vec<PackageRecord>, word: &str) {
     if let Some(target) = word.strip_prefix('+') {
         let (kind, name) = target.split_once('=').unwrap_or((target, ""));
         if let Some(package) = packages.last_mut() {
-            add_target(&mut package.build_targets, alloc, kind, name)?;
+            add_target(rt, alloc, &mut package.build_targets, kind, name);
         }
     } else if let Some(place) = word.strip_prefix('@') {
-        add_member(packages, alloc, place, place, place)?;
+        add_member(rt, alloc, packages, place, place, place);
     } else if let Some((id, name)) = word.split_once('=') {
         match name.split_once('@') {
-            Some((name, place)) => add_member(packages, alloc, id, name, place)?,
-            None => add_package(packages, alloc, id, name)?,
+            Some((name, place)) => add_member(rt, alloc, packages, id, name, place),
+            None => add_package(rt, alloc, packages, id, name),
         }
     } else {
         let (name, version) = word.split_once('#').unwrap_or((word, "1.2.3"));
-        add_package(packages, alloc, name, name)?;
-        if let Some(package) = packages.last_mut() {
-            set_version(package, alloc, version)?;
-        }
+        add_versioned(rt, alloc, packages, name, version);
     }
-    Ok(())
 }
 
 // The parts of a link without its requirement, and in which sections it is: normal, build, dev.
@@ -248,130 +232,127 @@ fn ends_of(ends: &str) -> (&str, &str, [bool; 3]) {
 }
 
 fn add_link(
-    links: &mut Vec<LinkRecord>,
+    rt: &impl Abort,
     alloc: Global,
-    from: &str,
-    to: &str,
-    sections: [bool; 3],
-) -> Result<(), AllocError> {
-    let from = id(alloc, from)?;
-    let to = id(alloc, to)?;
-    let [normal, build, dev] = sections;
-    links.push(LinkRecord {
-        from,
-        to,
+    links: &mut Vec<LinkRecord>,
+    ends: (&str, &str, [bool; 3]),
+    version_req: VersionReq,
+) {
+    let (from, to, [normal, build, dev]) = ends;
+    let link = LinkRecord {
+        from: id(rt, alloc, from),
+        to: id(rt, alloc, to),
         dep_name: String::new(alloc),
         resolved_name: String::new(alloc),
-        version_req: VersionReq::star(alloc),
+        version_req,
         registry: None,
         path: None,
         normal: section(alloc, normal),
         build: section(alloc, build),
         dev: section(alloc, dev),
-    })?;
-    Ok(())
+    };
+    links.push(link).expect(rt, from);
 }
 
-fn add_link_word(links: &mut Vec<LinkRecord>, alloc: Global, word: &str) -> Result<(), Error> {
+fn add_link_word(rt: &impl Abort, alloc: Global, links: &mut Vec<LinkRecord>, word: &str) {
     let (ends, requirement) = word.split_once('#').unwrap_or((word, "*"));
-    let (from, to, sections) = ends_of(ends);
-    add_link(links, alloc, from, to, sections)?;
-    if let Some(link) = links.last_mut() {
-        set_requirement(link, alloc, requirement)?;
-    }
-    Ok(())
+    let requirement = VersionReq::parse(alloc, requirement).expect(rt, requirement);
+    add_link(rt, alloc, links, ends_of(ends), requirement);
 }
 
 /// The links of this shape between so many positions: from, to, and whether it is dev-only.
 pub(super) fn shape_of(
+    rt: &impl Abort,
     alloc: Global,
     shape: &str,
     count: usize,
-) -> Result<Vec<(usize, usize, bool)>, AllocError> {
+) -> Vec<(usize, usize, bool)> {
     let mut ends = Vec::new(alloc);
     if shape == "complete" {
         for from in 0..count {
             for to in 0..count {
-                ends.push((from, to, false))?;
+                ends.push((from, to, false)).expect(rt, shape);
             }
         }
     } else {
         for to in 1..count {
-            ends.push((to - 1, to, false))?;
+            ends.push((to - 1, to, false)).expect(rt, shape);
         }
         if shape == "ring" {
-            ends.push((count.saturating_sub(1), 0, false))?;
+            ends.push((count.saturating_sub(1), 0, false))
+                .expect(rt, shape);
         }
     }
-    Ok(ends)
+    ends
 }
 
-pub(super) fn numbered_name(alloc: Global, position: usize) -> Result<String, AllocError> {
-    format!(in alloc; "p{position}")
+pub(super) fn numbered_name(rt: &impl Abort, alloc: Global, position: usize) -> String {
+    let name: Result<String, AllocError> = format!(in alloc; "p{position}");
+    name.expect(rt, "a name")
 }
 
 fn add_numbered(
-    packages: &mut Vec<PackageRecord>,
+    rt: &impl Abort,
     alloc: Global,
+    packages: &mut Vec<PackageRecord>,
     position: usize,
-) -> Result<(), AllocError> {
-    let name = numbered_name(alloc, position)?;
-    add_package(packages, alloc, name.as_str(), name.as_str())
+) {
+    let name = numbered_name(rt, alloc, position);
+    add_package(rt, alloc, packages, name.as_str(), name.as_str());
 }
 
 fn add_numbered_link(
-    links: &mut Vec<LinkRecord>,
+    rt: &impl Abort,
     alloc: Global,
+    links: &mut Vec<LinkRecord>,
     ends: (usize, usize, bool),
-) -> Result<(), AllocError> {
+) {
     let (from, to, is_dev_only) = ends;
-    let from = numbered_name(alloc, from)?;
-    let to = numbered_name(alloc, to)?;
+    let from = numbered_name(rt, alloc, from);
+    let to = numbered_name(rt, alloc, to);
     let sections = [!is_dev_only, false, is_dev_only];
-    add_link(links, alloc, from.as_str(), to.as_str(), sections)
+    let ends = (from.as_str(), to.as_str(), sections);
+    add_link(rt, alloc, links, ends, VersionReq::star(alloc));
 }
 
 impl Records {
-    fn add_shape(&mut self, alloc: Global, shape: &str, count: usize) -> Result<(), AllocError> {
+    fn add_shape(&mut self, rt: &impl Abort, alloc: Global, shape: &str, count: usize) {
         for position in 0..count {
-            add_numbered(&mut self.packages, alloc, position)?;
+            add_numbered(rt, alloc, &mut self.packages, position);
         }
-        let shape = shape_of(alloc, shape, count)?;
-        for ends in &shape {
-            add_numbered_link(&mut self.links, alloc, *ends)?;
+        for ends in &shape_of(rt, alloc, shape, count) {
+            add_numbered_link(rt, alloc, &mut self.links, *ends);
         }
-        Ok(())
     }
 
-    fn add_word(&mut self, alloc: Global, word: &str) -> Result<(), Error> {
+    fn add_word(&mut self, rt: &impl Abort, alloc: Global, word: &str) {
         if let Some(member) = word.strip_prefix('!') {
-            self.workspace.default_members.push(id(alloc, member)?)?;
+            let member = id(rt, alloc, member);
+            self.workspace.default_members.push(member).expect(rt, word);
         } else if let Some((shape, count)) = word.split_once('*') {
-            self.add_shape(alloc, shape, count.parse().unwrap_or(0))?;
+            self.add_shape(rt, alloc, shape, count.parse().unwrap_or(0));
         } else {
-            add_package_word(&mut self.packages, alloc, word)?;
+            add_package_word(rt, alloc, &mut self.packages, word);
         }
-        Ok(())
     }
 
-    fn add(&mut self, alloc: Global, line: &str) -> Result<(), Error> {
+    fn add(&mut self, rt: &impl Abort, alloc: Global, line: &str) {
         let (packages, links) = line.split_once(':').unwrap_or((line, ""));
         for word in packages.split_whitespace() {
-            self.add_word(alloc, word)?;
+            self.add_word(rt, alloc, word);
         }
         for word in links.split_whitespace() {
             if word == "filled" {
-                fill(alloc, self)?;
+                fill(rt, alloc, self);
             } else {
-                add_link_word(&mut self.links, alloc, word)?;
+                add_link_word(rt, alloc, &mut self.links, word);
             }
         }
-        Ok(())
     }
 }
 
 // The records that the line says.
-fn records_of(alloc: Global, line: &str) -> Result<Records, Error> {
+fn records_of(rt: &impl Abort, alloc: Global, line: &str) -> Records {
     let mut records = Records {
         packages: Vec::new(alloc),
         links: Vec::new(alloc),
@@ -383,12 +364,12 @@ fn records_of(alloc: Global, line: &str) -> Result<Records, Error> {
             default_members: Vec::new(alloc),
         },
     };
-    records.add(alloc, line)?;
-    Ok(records)
+    records.add(rt, alloc, line);
+    records
 }
 
 /// The graph that the line says.
-pub(super) fn graph_of(alloc: Global, line: &str) -> Result<PackageGraph, Error> {
-    let records = records_of(alloc, line)?;
+pub(super) fn graph_of(rt: &impl Abort, alloc: Global, line: &str) -> Result<PackageGraph, Error> {
+    let records = records_of(rt, alloc, line);
     PackageGraph::from_records(records.packages, records.links, records.workspace)
 }

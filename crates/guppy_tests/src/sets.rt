@@ -4,8 +4,7 @@
 //! name of packages, or `query`, a resolve of all of them. What is asked of it stands before an `of`: its
 //! letters and how many they are, where nothing does. `make` makes a set of the first two packages and the
 //! next two.
-use crate::examples::{put, put_number, put_truth};
-use crate::records::{graph_of, id};
+use crate::examples::Answer;
 use guppy::{PackageGraph, PackageMetadata, PackageQuery, PackageSet};
 use guppy_core::{DependencyDirection, IndexType};
 use guppy_data::{Error, PackageId};
@@ -46,62 +45,60 @@ fn set_of<'g>(
     }
 }
 
+fn has_letter(graph: &PackageGraph, set: &PackageSet<'_>, letter: &str) -> Result<bool, Error> {
+    for id in graph.package_ids() {
+        if id.repr() == letter {
+            return set.contains(id);
+        }
+    }
+    Ok(false)
+}
+
 // Those of the graph's letters whose packages are in the set, and how many packages it has.
 pub(super) fn put_letters(
     graph: &PackageGraph,
     set: &PackageSet<'_>,
-    out: &mut String,
+    out: &mut Answer,
 ) -> Result<(), Error> {
     for letter in LETTERS.iter().take(graph.package_count()) {
-        let id = id(graph.alloc(), letter)?;
-        if set.contains(&id)? {
-            out.push_str(letter)?;
+        if has_letter(graph, set, letter)? {
+            out.put_mark(letter);
         }
     }
-    put_number(out, set.len())?;
+    out.put_number(set.len());
     if set.is_empty() {
-        put(out, "empty")?;
+        out.put("empty");
     }
     Ok(())
 }
 
 // How many packages the set has, and how many its list has.
-fn put_lengths(
-    set: &PackageSet<'_>,
-    direction: DependencyDirection,
-    out: &mut String,
-) -> Result<(), Error> {
-    put_number(out, set.len())?;
-    put_number(out, set.packages(direction).len())?;
-    Ok(())
+fn put_lengths(set: &PackageSet<'_>, direction: DependencyDirection, out: &mut Answer) {
+    out.put_number(set.len());
+    out.put_number(set.packages(direction).len());
 }
 
-fn put_list(
-    set: &PackageSet<'_>,
-    direction: DependencyDirection,
-    out: &mut String,
-) -> Result<(), Error> {
+fn put_list(set: &PackageSet<'_>, direction: DependencyDirection, out: &mut Answer) {
     for id in set.package_ids(direction) {
-        put(out, id.repr())?;
+        out.put(id.repr());
     }
-    Ok(())
 }
 
 // The roots, how many IDs they have, the first of these, and how many are left then.
 fn put_roots(
     set: &PackageSet<'_>,
     direction: DependencyDirection,
-    out: &mut String,
+    out: &mut Answer,
 ) -> Result<(), Error> {
     for package in set.root_packages(direction)? {
-        put(out, package.name())?;
+        out.put(package.name());
     }
     let mut ids = set.root_ids(direction)?;
-    put_number(out, ids.len())?;
+    out.put_number(ids.len());
     if let Some(id) = ids.next() {
-        put(out, id.repr())?;
+        out.put(id.repr());
     }
-    put_number(out, ids.len())?;
+    out.put_number(ids.len());
     Ok(())
 }
 
@@ -109,10 +106,10 @@ fn put_roots(
 fn put_links(
     set: &PackageSet<'_>,
     direction: DependencyDirection,
-    out: &mut String,
+    out: &mut Answer,
 ) -> Result<(), Error> {
     for link in set.links(direction)? {
-        put_number(out, link.link_ix())?;
+        out.put_number(link.link_ix());
     }
     Ok(())
 }
@@ -122,7 +119,7 @@ fn put_links(
 fn filter_two(
     set: &PackageSet<'_>,
     direction: DependencyDirection,
-    out: &mut String,
+    out: &mut Answer,
 ) -> Result<(), Error> {
     let mut positions = 0_usize;
     let mut calls = 0_usize;
@@ -134,23 +131,20 @@ fn filter_two(
         calls <= 2
     };
     let kept = set.filter_mut(direction, &mut callback)?;
-    put_number(out, calls)?;
-    put_number(out, positions)?;
-    put_list(&kept, DependencyDirection::Forward, out)
+    out.put_number(calls);
+    out.put_number(positions);
+    put_list(&kept, DependencyDirection::Forward, out);
+    Ok(())
 }
 
-fn put_halves(
-    first: &PackageSet<'_>,
-    second: &PackageSet<'_>,
-    out: &mut String,
-) -> Result<(), Error> {
-    put_list(first, DependencyDirection::Forward, out)?;
-    put(out, "and")?;
-    put_list(second, DependencyDirection::Forward, out)
+fn put_halves(first: &PackageSet<'_>, second: &PackageSet<'_>, out: &mut Answer) {
+    put_list(first, DependencyDirection::Forward, out);
+    out.put("and");
+    put_list(second, DependencyDirection::Forward, out);
 }
 
 // Leaves out the first package, and parts the second from the others.
-fn part_second(set: &PackageSet<'_>, out: &mut String) -> Result<(), Error> {
+fn part_second(set: &PackageSet<'_>, out: &mut Answer) -> Result<(), Error> {
     let mut calls = 0_usize;
     let (first, second) = set.filter_partition(DependencyDirection::Forward, |_package| {
         calls = calls.wrapping_add(1);
@@ -160,46 +154,45 @@ fn part_second(set: &PackageSet<'_>, out: &mut String) -> Result<(), Error> {
             _ => Some(false),
         }
     })?;
-    put_halves(&first, &second, out)
+    put_halves(&first, &second, out);
+    Ok(())
 }
 
 // Whether the one half is what a filter made and the other isn't, and both.
-fn put_parted(
-    only: &PackageSet<'_>,
-    halves: (&PackageSet<'_>, &PackageSet<'_>),
-    out: &mut String,
-) -> Result<(), Error> {
-    put_truth(out, *only == *halves.0 && *only != *halves.1)?;
-    put_halves(halves.0, halves.1, out)
+fn put_parted(only: &PackageSet<'_>, halves: (&PackageSet<'_>, &PackageSet<'_>), out: &mut Answer) {
+    out.put_truth(*only == *halves.0 && *only != *halves.1);
+    put_halves(halves.0, halves.1, out);
 }
 
 // Parts the packages of this name from the others.
-fn part_by_name(set: &PackageSet<'_>, name: &str, out: &mut String) -> Result<(), Error> {
+fn part_by_name(set: &PackageSet<'_>, name: &str, out: &mut Answer) -> Result<(), Error> {
     let direction = DependencyDirection::Forward;
     let is_named = |package: PackageMetadata<'_>| package.name() == name;
     let only = set.filter(direction, is_named)?;
     let (first, second) = set.partition(direction, is_named)?;
-    put_parted(&only, (&first, &second), out)
+    put_parted(&only, (&first, &second), out);
+    Ok(())
 }
 
 fn read(
     set: &PackageSet<'_>,
     question: (&str, &str, &PackageId),
-    out: &mut String,
+    out: &mut Answer,
 ) -> Result<(), Error> {
     let (question, argument, id) = question;
     let direction = direction_of(argument);
     match question {
-        "has" => Ok(put_truth(out, set.contains(id)?)?),
+        "has" => out.put_truth(set.contains(id)?),
         "list" => put_list(set, direction, out),
-        "roots" => put_roots(set, direction, out),
-        "links" => put_links(set, direction, out),
-        "first-two" => filter_two(set, direction, out),
-        "second-apart" => part_second(set, out),
-        "apart" => part_by_name(set, argument, out),
+        "roots" => put_roots(set, direction, out)?,
+        "links" => put_links(set, direction, out)?,
+        "first-two" => filter_two(set, direction, out)?,
+        "second-apart" => part_second(set, out)?,
+        "apart" => part_by_name(set, argument, out)?,
         "len" => put_lengths(set, direction, out),
-        _ => Ok(put(out, "unknown question")?),
+        _ => out.put("unknown question"),
     }
+    Ok(())
 }
 
 fn ask(
@@ -207,7 +200,7 @@ fn ask(
     question: (&str, &str, &PackageId),
     words: &[&str],
     ids: &[PackageId],
-    out: &mut String,
+    out: &mut Answer,
 ) -> Result<(), Error> {
     let set = set_of(graph, words, ids)?;
     read(&set, question, out)
@@ -217,7 +210,7 @@ fn ask_letters(
     graph: &PackageGraph,
     words: &[&str],
     ids: &[PackageId],
-    out: &mut String,
+    out: &mut Answer,
 ) -> Result<(), Error> {
     let set = set_of(graph, words, ids)?;
     put_letters(graph, &set, out)
@@ -228,7 +221,7 @@ pub(super) fn ask_set(
     graph: &PackageGraph,
     words: &[&str],
     ids: &[PackageId],
-    out: &mut String,
+    out: &mut Answer,
 ) -> Result<(), Error> {
     match (words, ids) {
         (["make", operation, ..], [_, _, a, b, c, d]) => combine(
@@ -254,10 +247,10 @@ fn put_combined(
     operation: &str,
     x: &PackageSet<'_>,
     y: &PackageSet<'_>,
-    out: &mut String,
+    out: &mut Answer,
 ) -> Result<(), Error> {
     if !x.same_packages(y) {
-        put(out, "other packages")?;
+        out.put("other packages");
         return Ok(());
     }
     let set = match operation {
@@ -274,7 +267,7 @@ fn combine(
     operation: &str,
     x: [&PackageId; 2],
     y: [&PackageId; 2],
-    out: &mut String,
+    out: &mut Answer,
 ) -> Result<(), Error> {
     let x = graph.resolve_ids(x.into_iter())?;
     let y = graph.resolve_ids(y.into_iter())?;
@@ -335,12 +328,12 @@ partition_by_name | d c b a: a>b b~a b>c c>d d~c
     apart c of all = yes c and a b d
 ";
 
-fn put_union(x: &PackageSet<'_>, y: &PackageSet<'_>, out: &mut String) -> Result<(), Error> {
-    put_truth(out, x.same_packages(y))?;
-    put_truth(out, *x == *y)?;
+fn put_union(x: &PackageSet<'_>, y: &PackageSet<'_>, out: &mut Answer) -> Result<(), Error> {
+    out.put_truth(x.same_packages(y));
+    out.put_truth(*x == *y);
     if x.same_packages(y) {
         let union = x.union(y)?;
-        return put_list(&union, DependencyDirection::Forward, out);
+        put_list(&union, DependencyDirection::Forward, out);
     }
     Ok(())
 }
@@ -350,9 +343,9 @@ fn put_union(x: &PackageSet<'_>, y: &PackageSet<'_>, out: &mut String) -> Result
 fn put_sets(
     one: &PackageSet<'_>,
     sets: (&PackageSet<'_>, &PackageSet<'_>),
-    out: &mut String,
+    out: &mut Answer,
 ) -> Result<(), Error> {
-    put_truth(out, *one == *sets.0)?;
+    out.put_truth(*one == *sets.0);
     if one.same_packages(sets.0) {
         put_union(one, sets.1, out)?;
         put_union(sets.1, one, out)?;
@@ -360,36 +353,29 @@ fn put_sets(
     Ok(())
 }
 
-fn compare(
+/// The graph that `beside` compares with.
+pub(super) fn other_graph(name: &str) -> &'static str {
+    match name {
+        "turned" => "a b: b>a",
+        _ => "b a",
+    }
+}
+
+/// Whether the graphs have the same packages, whether the packages and the sets of a are equal, and what
+/// their unions are.
+pub(super) fn beside(
     one: &PackageGraph,
     other: &PackageGraph,
     a: &PackageId,
     b: &PackageId,
-    out: &mut String,
+    out: &mut Answer,
 ) -> Result<(), Error> {
-    put_truth(out, one.same_packages(other))?;
-    put_truth(out, one.metadata(a)? == other.metadata(a)?)?;
+    out.put_truth(one.same_packages(other));
+    out.put_truth(one.metadata(a)? == other.metadata(a)?);
     let here = one.resolve_ids([a].into_iter())?;
     let there = other.resolve_ids([a].into_iter())?;
     let far = other.resolve_ids([b].into_iter())?;
     put_sets(&here, (&there, &far), out)
-}
-
-// Whether the graph and another have the same packages, whether the packages and the sets of a are equal,
-// and what their unions are.
-pub(super) fn beside(
-    graph: &PackageGraph,
-    other: &str,
-    a: &PackageId,
-    b: &PackageId,
-    out: &mut String,
-) -> Result<(), Error> {
-    let other = match other {
-        "turned" => "a b: b>a",
-        _ => "b a",
-    };
-    let other = graph_of(graph.alloc(), other)?;
-    compare(graph, &other, a, b, out)
 }
 
 // The same packages with the link turned round, and then in the other order.

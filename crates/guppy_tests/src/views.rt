@@ -1,5 +1,5 @@
 //! What is read out of a graph: fields, links, build targets, members and default members.
-use crate::examples::{put, put_number, put_truth};
+use crate::examples::Answer;
 use crate::sets::direction_of;
 use guppy::{PackageGraph, PackageLink, PackageMetadata};
 use guppy_data::{BuildTargetId, DependencyKind, Error, PackageId, Utf8Path};
@@ -33,16 +33,15 @@ fn path_of<'g>(package: PackageMetadata<'g>, field: &str) -> Option<Utf8Path<'g>
     }
 }
 
-fn put_list(package: PackageMetadata<'_>, field: &str, out: &mut String) -> Result<(), Error> {
+fn put_list(package: PackageMetadata<'_>, field: &str, out: &mut Answer) {
     let items = match field {
         "authors" => package.authors(),
         "categories" => package.categories(),
         _ => package.keywords(),
     };
     for item in items {
-        put(out, item.as_str())?;
+        out.put(item.as_str());
     }
-    Ok(())
 }
 
 // Whether the package is so, or as `filled` says.
@@ -63,17 +62,16 @@ fn holds(package: PackageMetadata<'_>, field: &str) -> Option<bool> {
     Some(holds)
 }
 
-fn put_field(package: PackageMetadata<'_>, field: &str, out: &mut String) -> Result<(), Error> {
+fn put_field(package: PackageMetadata<'_>, field: &str, out: &mut Answer) {
     if let Some(text) = text_of(package, field) {
-        put(out, text)?;
+        out.put(text);
     } else if let Some(path) = path_of(package, field) {
-        put(out, path.as_str())?;
+        out.put(path.as_str());
     } else if let Some(truth) = holds(package, field) {
-        put_truth(out, truth)?;
+        out.put_truth(truth);
     } else {
-        put(out, "unknown question")?;
+        out.put("unknown question");
     }
-    Ok(())
 }
 
 fn link_text_of<'g>(link: PackageLink<'g>, field: &str) -> Option<&'g str> {
@@ -102,21 +100,16 @@ fn link_holds(link: PackageLink<'_>, field: &str) -> Option<bool> {
 }
 
 // This field of each of the package's links.
-fn put_link_field(
-    package: PackageMetadata<'_>,
-    field: &str,
-    out: &mut String,
-) -> Result<(), Error> {
+fn put_link_field(package: PackageMetadata<'_>, field: &str, out: &mut Answer) {
     for link in package.direct_links() {
         if let Some(text) = link_text_of(link, field) {
-            put(out, text)?;
+            out.put(text);
         } else if let Some(truth) = link_holds(link, field) {
-            put_truth(out, truth)?;
+            out.put_truth(truth);
         } else {
-            put(out, "unknown question")?;
+            out.put("unknown question");
         }
     }
-    Ok(())
 }
 
 // The number of the link between the two, if there is one.
@@ -124,7 +117,7 @@ fn put_between(
     package: PackageMetadata<'_>,
     other: &PackageId,
     relation: &str,
-    out: &mut String,
+    out: &mut Answer,
 ) -> Result<(), Error> {
     let link = match relation {
         "from" => package.link_from(other)?,
@@ -132,40 +125,38 @@ fn put_between(
         _ => package.link_between(other, direction_of(relation))?,
     };
     match link {
-        Some(link) => put_number(out, link.link_ix())?,
-        None => put(out, "none")?,
+        Some(link) => out.put_number(link.link_ix()),
+        None => out.put("none"),
     }
     Ok(())
 }
 
 // The number and the other end of each link; and then, of those to the package, how many there are, the
 // other end of the first, and how many are left.
-fn put_links(package: PackageMetadata<'_>, out: &mut String) -> Result<(), Error> {
+fn put_links(package: PackageMetadata<'_>, out: &mut Answer) {
     for link in package.direct_links() {
-        put_number(out, link.link_ix())?;
-        put(out, link.to().name())?;
+        out.put_number(link.link_ix());
+        out.put(link.to().name());
     }
-    put(out, "and")?;
+    out.put("and");
     let mut links = package.reverse_direct_links();
-    put_number(out, links.len())?;
+    out.put_number(links.len());
     if let Some(link) = links.next() {
-        put(out, link.from().name())?;
+        out.put(link.from().name());
     }
-    put_number(out, links.len())?;
-    Ok(())
+    out.put_number(links.len());
 }
 
 // The names of the build targets, how many they are, and whether there are a binary and a test of a name.
-fn put_targets(package: PackageMetadata<'_>, name: &str, out: &mut String) -> Result<(), Error> {
+fn put_targets(package: PackageMetadata<'_>, name: &str, out: &mut Answer) {
     for target in package.build_targets() {
-        put(out, target.name())?;
+        out.put(target.name());
     }
-    put_number(out, package.build_targets().len())?;
+    out.put_number(package.build_targets().len());
     let binary = package.build_target(&BuildTargetId::Binary(name));
-    put_truth(out, binary.is_some())?;
+    out.put_truth(binary.is_some());
     let test = package.build_target(&BuildTargetId::Test(name));
-    put_truth(out, test.is_some())?;
-    Ok(())
+    out.put_truth(test.is_some());
 }
 
 /// Answers a question about the package.
@@ -173,17 +164,18 @@ pub(super) fn ask_package(
     package: PackageMetadata<'_>,
     words: &[&str],
     ids: &[PackageId],
-    out: &mut String,
+    out: &mut Answer,
 ) -> Result<(), Error> {
     match (words, ids) {
-        (["link", relation, _], [_, _, other]) => put_between(package, other, relation, out),
+        (["link", relation, _], [_, _, other]) => put_between(package, other, relation, out)?,
         (["of-links", field], _) => put_link_field(package, field, out),
         (["list", field], _) => put_list(package, field, out),
         (["links"], _) => put_links(package, out),
         (["targets", name], _) => put_targets(package, name, out),
         ([field], _) => put_field(package, field, out),
-        _ => Ok(put(out, "unknown question")?),
+        _ => out.put("unknown question"),
     }
+    Ok(())
 }
 
 // Each field of a package, a link and a workspace.
@@ -263,21 +255,20 @@ target_order | p +test=t +lib=l +bin=b +bin=a
 ";
 
 // The members by path and by name.
-fn put_order(graph: &PackageGraph, out: &mut String) -> Result<(), Error> {
+fn put_order(graph: &PackageGraph, out: &mut Answer) {
     for (path, _) in graph.workspace().iter_by_path() {
-        put(out, path.as_str())?;
+        out.put(path.as_str());
     }
-    put(out, "and")?;
+    out.put("and");
     for (name, _) in graph.workspace().iter_by_name() {
-        put(out, name)?;
+        out.put(name);
     }
-    Ok(())
 }
 
-fn put_members(graph: &PackageGraph, out: &mut String) -> Result<(), Error> {
-    put_number(out, graph.workspace().member_count())?;
-    put_number(out, graph.workspace().iter().len())?;
-    put_number(out, graph.query_workspace()?.resolve()?.len())?;
+fn put_members(graph: &PackageGraph, out: &mut Answer) -> Result<(), Error> {
+    out.put_number(graph.workspace().member_count());
+    out.put_number(graph.workspace().iter().len());
+    out.put_number(graph.query_workspace()?.resolve()?.len());
     Ok(())
 }
 
@@ -286,7 +277,7 @@ fn put_named(
     graph: &PackageGraph,
     question: &str,
     names: [&str; 3],
-    out: &mut String,
+    out: &mut Answer,
 ) -> Result<(), Error> {
     let names = names.into_iter();
     let count = match question {
@@ -294,36 +285,34 @@ fn put_named(
         "set-named" => graph.resolve_workspace_names(names)?.len(),
         _ => graph.query_workspace_names(names)?.resolve()?.len(),
     };
-    put_number(out, count)?;
+    out.put_number(count);
     Ok(())
 }
 
-fn put_at_paths(graph: &PackageGraph, paths: [&str; 2], out: &mut String) -> Result<(), Error> {
+fn put_at_paths(graph: &PackageGraph, paths: [&str; 2], out: &mut Answer) -> Result<(), Error> {
     let [first, second] = paths;
     let paths = [Utf8Path::new(first), Utf8Path::new(second)];
     let set = graph.resolve_workspace_paths(paths.into_iter())?;
-    put_number(out, set.len())?;
+    out.put_number(set.len());
     Ok(())
 }
 
-fn put_defaults(graph: &PackageGraph, out: &mut String) -> Result<(), Error> {
+fn put_defaults(graph: &PackageGraph, out: &mut Answer) {
     for package in graph.workspace().default_members() {
-        put(out, package.name())?;
+        out.put(package.name());
     }
-    put_number(out, graph.workspace().default_member_ids().len())?;
-    Ok(())
+    out.put_number(graph.workspace().default_member_ids().len());
 }
 
-fn put_directory(graph: &PackageGraph, field: &str, out: &mut String) -> Result<(), Error> {
+fn put_directory(graph: &PackageGraph, field: &str, out: &mut Answer) {
     let directory = match field {
         "root" => Some(graph.workspace().root()),
         "target-directory" => Some(graph.workspace().target_directory()),
         _ => graph.workspace().build_directory(),
     };
     if let Some(path) = directory {
-        put(out, path.as_str())?;
+        out.put(path.as_str());
     }
-    Ok(())
 }
 
 fn workspace_holds(graph: &PackageGraph, question: &str, argument: &str) -> bool {
@@ -339,25 +328,26 @@ fn workspace_holds(graph: &PackageGraph, question: &str, argument: &str) -> bool
 pub(super) fn ask_workspace(
     graph: &PackageGraph,
     words: &[&str],
-    out: &mut String,
+    out: &mut Answer,
 ) -> Result<(), Error> {
     match words {
         ["order"] => put_order(graph, out),
-        ["members"] => put_members(graph, out),
+        ["members"] => put_members(graph, out)?,
         [question @ ("named" | "set-named" | "query-named"), a, b, c] => {
-            put_named(graph, question, [a, b, c], out)
+            put_named(graph, question, [a, b, c], out)?;
         }
-        ["at-paths", a, b] => put_at_paths(graph, [a, b], out),
+        ["at-paths", a, b] => put_at_paths(graph, [a, b], out)?,
         ["defaults"] => put_defaults(graph, out),
         [question @ ("has-path" | "metadata-table")] => {
-            Ok(put_truth(out, workspace_holds(graph, question, ""))?)
+            out.put_truth(workspace_holds(graph, question, ""));
         }
         [question @ ("has-path" | "has-name"), argument] => {
-            Ok(put_truth(out, workspace_holds(graph, question, argument))?)
+            out.put_truth(workspace_holds(graph, question, argument));
         }
         [directory] => put_directory(graph, directory, out),
-        _ => Ok(put(out, "unknown question")?),
+        _ => out.put("unknown question"),
     }
+    Ok(())
 }
 
 pub(super) const WORKSPACES: &str = "
