@@ -27,7 +27,7 @@ sys.dont_write_bytecode = True
 TOP = os.path.dirname(os.path.dirname(os.path.realpath(__file__)))
 ONE_JOB = ["--jobs", "1"]
 EDITS_ALONE = ("--edits", "--bugs")
-SHARED = "a_bug_in_each_call.edit"
+SHARED = ("a_bug_in_each_call.edit", "a_second_bug_in_some_calls.edit")
 
 
 def load_rt():
@@ -126,7 +126,7 @@ def measure_edits(rt, crate, kept, each_bug=False):
     kept = kept if len(edits) > 1 else None
     whole = 0.0
     for edit in edits:
-        if each_bug and os.path.basename(edit) == SHARED:
+        if each_bug and os.path.basename(edit) in SHARED:
             whole += measure_bugs(rt, crate, edit, kept)
             continue
         (refused, text), seconds = seconds_of(rt.must_fail, crate, edit, ONE_JOB, kept)
