@@ -19,15 +19,12 @@ pub(super) fn direction_of(word: &str) -> DependencyDirection {
     }
 }
 
-fn resolved<'g>(query: &PackageQuery<'g>) -> Result<PackageSet<'g>, Error> {
-    query.clone()?.resolve()
-}
-
 // The set, by a query that starts at a copy of it.
 fn resolved_again<'g>(set: &PackageSet<'g>) -> Result<PackageSet<'g>, Error> {
     let copy = set.clone()?;
     let query = copy.to_package_query(DependencyDirection::Forward)?;
-    resolved(&query)
+    let query = query.clone()?;
+    query.resolve()
 }
 
 fn set_of<'g>(
@@ -45,13 +42,13 @@ fn set_of<'g>(
     }
 }
 
-fn has_letter(graph: &PackageGraph, set: &PackageSet<'_>, letter: &str) -> Result<bool, Error> {
+fn id_of<'g>(graph: &'g PackageGraph, letter: &str) -> Option<&'g PackageId> {
     for id in graph.package_ids() {
         if id.repr() == letter {
-            return set.contains(id);
+            return Some(id);
         }
     }
-    Ok(false)
+    None
 }
 
 // Those of the graph's letters whose packages are in the set, and how many packages it has.
@@ -61,8 +58,9 @@ pub(super) fn put_letters(
     out: &mut Answer,
 ) -> Result<(), Error> {
     for letter in LETTERS.iter().take(graph.package_count()) {
-        if has_letter(graph, set, letter)? {
-            out.put_mark(letter);
+        match id_of(graph, letter) {
+            Some(id) if set.contains(id)? => out.put_mark(letter),
+            _ => {}
         }
     }
     out.put_number(set.len());

@@ -131,20 +131,28 @@ fn put_between(
     Ok(())
 }
 
-// The number and the other end of each link; and then, of those to the package, how many there are, the
-// other end of the first, and how many are left.
-fn put_links(package: PackageMetadata<'_>, out: &mut Answer) {
+// The number and the other end of each link.
+fn put_direct_links(package: PackageMetadata<'_>, out: &mut Answer) {
     for link in package.direct_links() {
         out.put_number(link.link_ix());
         out.put(link.to().name());
     }
-    out.put("and");
+}
+
+// How many links to the package there are, the other end of the first, and how many are left.
+fn put_reverse_links(package: PackageMetadata<'_>, out: &mut Answer) {
     let mut links = package.reverse_direct_links();
     out.put_number(links.len());
     if let Some(link) = links.next() {
         out.put(link.from().name());
     }
     out.put_number(links.len());
+}
+
+fn put_links(package: PackageMetadata<'_>, out: &mut Answer) {
+    put_direct_links(package, out);
+    out.put("and");
+    put_reverse_links(package, out);
 }
 
 // The names of the build targets, how many they are, and whether there are a binary and a test of a name.
@@ -254,15 +262,23 @@ target_order | p +test=t +lib=l +bin=b +bin=a
     package p build-script = no
 ";
 
-// The members by path and by name.
-fn put_order(graph: &PackageGraph, out: &mut Answer) {
+fn put_by_path(graph: &PackageGraph, out: &mut Answer) {
     for (path, _) in graph.workspace().iter_by_path() {
         out.put(path.as_str());
     }
-    out.put("and");
+}
+
+fn put_by_name(graph: &PackageGraph, out: &mut Answer) {
     for (name, _) in graph.workspace().iter_by_name() {
         out.put(name);
     }
+}
+
+// The members by path and by name.
+fn put_order(graph: &PackageGraph, out: &mut Answer) {
+    put_by_path(graph, out);
+    out.put("and");
+    put_by_name(graph, out);
 }
 
 fn put_members(graph: &PackageGraph, out: &mut Answer) -> Result<(), Error> {
