@@ -10,7 +10,8 @@
 //!
 //! An answer is words and numbers, an error is its text, and no text is `nothing`. Where more than one
 //! answer is right, ` or ` stands between them. A question's first word tells the module that answers it:
-//! `package`, `workspace` and `resolve` do so, `graphs` has the others.
+//! `package` and `workspace` go to `views`, `resolve` to `queries`, `looks` and `in-turn` to `lists`, `beside`
+//! to `sets`, all others to `graphs`.
 use crate::graphs::{self, ask_graph};
 use crate::lists::{self, ask_looks};
 use crate::queries::{self, ask_query};

@@ -5,7 +5,7 @@
 //! letters and how many they are, where nothing does. `make` makes a set of the first two packages and the
 //! next two.
 use crate::examples::Answer;
-use guppy::{PackageGraph, PackageMetadata, PackageQuery, PackageSet};
+use guppy::{PackageGraph, PackageMetadata, PackageSet};
 use guppy_core::{DependencyDirection, IndexType};
 use guppy_data::{Error, PackageId};
 
