@@ -1,8 +1,9 @@
-//! A source and a sink in memory, which fail when they are told to.
+//! A source and a sink in memory, and a reader and a writer of std, which fail when they are told to.
 ghost use Rattle.std.specs.Prelude.{◌≡◌, false, Some};
 
 use guppy_input::device::{DeviceFault, Sink, Source};
 use std::alloc::Global;
+use std::io::{self, ErrorKind, Read, Write};
 
 /// A source of given bytes, a piece at a time.
 #[derive(Drop)]
@@ -97,5 +98,69 @@ impl Sink for Paper {
 
     fn failed(&self) -> bool {
         self.failed
+    }
+}
+
+/// A reader of std that gives its bytes one by one. One of its reads fails, those after it don't.
+#[derive(Drop)]
+pub struct Stumbling<'a> {
+    bytes: &'a [u8],
+    reads: usize,
+}
+
+impl<'a> Stumbling<'a> {
+    /// The reader of these bytes that fails after so many reads.
+    pub fn new(bytes: &'a [u8], reads: usize) -> Self {
+        Stumbling { bytes, reads }
+    }
+}
+
+impl Read for Stumbling<'_> {
+    fn read(&mut self, buf: &mut [u8]) -> io::Result<usize> {
+        let is_bad = self.reads == 0;
+        self.reads = self.reads.wrapping_sub(1);
+        if is_bad {
+            return Err(ErrorKind::Other.into());
+        }
+        match (self.bytes.split_first(), buf.first_mut()) {
+            (Some((byte, rest)), Some(place)) => {
+                *place = *byte;
+                self.bytes = rest;
+                Ok(1)
+            }
+            _ => Ok(0),
+        }
+    }
+}
+
+/// A writer of std that takes its bytes one by one, and none once it is full.
+#[derive(Drop)]
+pub struct Full<'a> {
+    room: &'a mut [u8],
+    /// How many bytes it took.
+    pub count: usize,
+}
+
+impl<'a> Full<'a> {
+    /// A writer to this room.
+    pub fn new(room: &'a mut [u8]) -> Self {
+        Full { room, count: 0 }
+    }
+}
+
+impl Write for Full<'_> {
+    fn write(&mut self, buf: &[u8]) -> io::Result<usize> {
+        match (self.room.get_mut(self.count), buf.first()) {
+            (Some(place), Some(byte)) => {
+                *place = *byte;
+                self.count = self.count.wrapping_add(1);
+                Ok(1)
+            }
+            _ => Ok(0),
+        }
+    }
+
+    fn flush(&mut self) -> io::Result<()> {
+        Ok(())
     }
 }

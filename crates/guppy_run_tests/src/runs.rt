@@ -1,8 +1,8 @@
 //! Runs of the program on answers and faults known from outside, and on devices that fail.
 ghost use Rattle.std.specs.Prelude.{◌≡◌, false};
 
-use crate::devices::{Feed, Paper};
-use guppy_input::device::{Sink, Source};
+use crate::devices::{Feed, Full, Paper, Stumbling};
+use guppy_input::device::{IoSink, IoSource, Sink, Source};
 use guppy_program::run::run;
 use std::alloc::{AllocError, Global};
 use std::process::Abort;
@@ -17,14 +17,14 @@ fn words_of(alloc: Global, line: &str) -> Result<Vec<String>, AllocError> {
 }
 
 // The text of the program's fault, if it has one, and its status.
-fn fault_of(
+fn fault_of<R: Source, W: Sink>(
     alloc: Global,
     args: &[String],
-    reader: &mut Feed<'_>,
-    writer: &mut Paper,
+    reader: &mut R,
+    writer: &mut W,
 ) -> Result<(String, u8), AllocError>
-    requires input_works { reader.old.failed ≡ false }
-    requires output_works { writer.old.failed ≡ false }
+    requires input_works { R.has_failed reader.old ≡ false }
+    requires output_works { W.has_failed writer.old ≡ false }
 {
     match run(alloc, args, reader, writer) {
         Ok(()) => Ok((String::new(alloc), 0)),
@@ -134,19 +134,14 @@ const ANSWERS: [(&str, &str, &[u8], &str); 30] = [
     ("verify", "verify", FIRST, "ok\n"),
     ("verify", "verify", BACKS, "ok\n"),
     ("verify", "verify", b"", "ok\n"),
-    (
-        "wrong_bytes",
-        "reach forward a\r",
-        b"package a\r\r\n",
-        "a\r\n",
-    ),
+    ("wrong_bytes", "order", b"package a\r\r\n", "a\r\n"),
     (
         "wrong_bytes",
         "depends a\r a\r",
         b"package a\r\r\n",
         "true\n",
     ),
-    ("wrong_bytes", "reach forward a\r", b"package a\r", "a\r\n"),
+    ("wrong_bytes", "order", b"package a\r", "a\r\n"),
     ("wrong_bytes", "depends a\r a\r", b"package a\r", "true\n"),
 ];
 
@@ -234,42 +229,22 @@ const MISREAD: [(&str, &str, &[u8], &str); 30] = [
     ("command_to_come", "cycles a", FIRST, "bad arguments"),
     ("command_to_come", "verify a", FIRST, "bad arguments"),
     ("command_to_come", "", FIRST, "bad arguments"),
-    (
-        "wrong_bytes",
-        "reach forward a",
-        b"\n\r\nlink a\n",
-        "bad line 3",
-    ),
+    ("wrong_bytes", "order", b"\n\r\nlink a\n", "bad line 3"),
     (
         "wrong_bytes",
         "depends a a",
         b"\n\r\nlink a\n",
         "bad line 3",
     ),
-    (
-        "wrong_bytes",
-        "reach forward a",
-        b" package a\n",
-        "bad line 1",
-    ),
+    ("wrong_bytes", "order", b" package a\n", "bad line 1"),
     ("wrong_bytes", "depends a a", b" package a\n", "bad line 1"),
-    ("wrong_bytes", "reach forward a", b"package\n", "bad line 1"),
+    ("wrong_bytes", "order", b"package\n", "bad line 1"),
     ("wrong_bytes", "depends a a", b"package\n", "bad line 1"),
-    (
-        "wrong_bytes",
-        "reach forward a",
-        b"package a b\n",
-        "bad line 1",
-    ),
+    ("wrong_bytes", "order", b"package a b\n", "bad line 1"),
     ("wrong_bytes", "depends a a", b"package a b\n", "bad line 1"),
-    ("wrong_bytes", "reach forward a", b"pack", "bad line 1"),
+    ("wrong_bytes", "order", b"pack", "bad line 1"),
     ("wrong_bytes", "depends a a", b"pack", "bad line 1"),
-    (
-        "wrong_bytes",
-        "reach forward a",
-        b"package \xff\n",
-        "bad line 1",
-    ),
+    ("wrong_bytes", "order", b"package \xff\n", "bad line 1"),
     (
         "wrong_bytes",
         "depends a a",
@@ -278,7 +253,7 @@ const MISREAD: [(&str, &str, &[u8], &str); 30] = [
     ),
     (
         "wrong_bytes",
-        "reach forward a",
+        "order",
         b"package a\npackage b\nlink a b Normal\n",
         "bad line 3",
     ),
@@ -342,6 +317,54 @@ fn failing_devices(rt: HostRuntime) -> Result<(), Fail> {
             FIRST,
             [1, MANY, writes],
             &printed[..writes],
+            "output failed",
+            2,
+        )?;
+    }
+    Ok(())
+}
+
+// Runs `reach forward a` on std's reader and writer: the fault's text and the status are these, and so many
+// bytes were taken.
+fn assert_std_fails(
+    rt: &impl Abort,
+    alloc: Global,
+    reads: usize,
+    room: &mut [u8],
+    count: usize,
+    fault: &str,
+    status: u8,
+) -> Result<(), AllocError> {
+    let args = words_of(alloc, "reach forward a")?;
+    let mut reader = IoSource::new(Stumbling::new(FIRST, reads));
+    let mut full = Full::new(room);
+    let mut writer = IoSink::new(&mut full);
+    let (told, ended) = fault_of(alloc, &args, &mut reader, &mut writer)?;
+    assert_eq!(rt; told.as_str(), fault);
+    assert_eq!(rt; ended, status);
+    assert_eq!(rt; reader.failed(), fault == "input failed", "{fault}");
+    assert_eq!(rt; writer.failed(), fault == "output failed", "{fault}");
+    assert_eq!(rt; full.count, count, "{fault}");
+    Ok(())
+}
+
+#[test]
+fn std_devices(rt: HostRuntime) -> Result<(), Fail> {
+    let alloc = rt.alloc();
+    let mut room = [0; 4];
+    assert_std_fails(&rt, alloc, MANY, &mut room, 4, "", 0)?;
+    assert_eq!(rt; room.as_slice(), b"a\nb\n".as_slice());
+    // 46 bytes, and the end.
+    for reads in [0, 1, 45, 46] {
+        assert_std_fails(&rt, alloc, reads, &mut room, 0, "input failed", 2)?;
+    }
+    for count in 0..4 {
+        assert_std_fails(
+            &rt,
+            alloc,
+            MANY,
+            &mut room[..count],
+            count,
             "output failed",
             2,
         )?;

@@ -42,7 +42,22 @@ impl PackageLinkVisitor for Odd {
     }
 }
 
-// Accepts links that start from an initial package.
+// The same, which counts in a number that it is lent: it can be read after the visitor was handed over.
+#[derive(Drop)]
+struct OddIn<'c> {
+    calls: &'c mut usize,
+}
+
+impl PackageLinkVisitor for OddIn<'_> {
+    ghost visits = { λ _ _ _ _ _. Unit {0} };
+
+    fn visit_link(&mut self, _cx: &PackageLinkContext<'_>, _link: PackageLink<'_>) -> bool {
+        *self.calls = self.calls.wrapping_add(1);
+        *self.calls % 2 == 1
+    }
+}
+
+// Accepts links that start from an initial package, as a copy of the context says.
 #[derive(Drop)]
 struct FromInitials;
 
@@ -50,7 +65,10 @@ impl PackageLinkVisitor for FromInitials {
     ghost visits = { λ _ _ _ _ _. Unit {0} };
 
     fn visit_link(&mut self, cx: &PackageLinkContext<'_>, link: PackageLink<'_>) -> bool {
-        cx.starts_from_initial(&link)
+        match cx.clone() {
+            Ok(copy) => copy.starts_from_initial(&link),
+            Err(_) => false,
+        }
     }
 }
 
@@ -99,6 +117,17 @@ fn ask_visitor<V: PackageLinkVisitor + Drop>(
 ) -> Result<(), Error> {
     let set = query.resolve_with(visitor)?;
     put_letters(graph, &set, out)
+}
+
+fn ask_odd_moved(
+    graph: &PackageGraph,
+    query: PackageQuery<'_>,
+    out: &mut Answer,
+) -> Result<(), Error> {
+    let mut calls = 0;
+    ask_visitor(graph, query, OddIn { calls: &mut calls }, out)?;
+    out.put_number(calls);
+    Ok(())
 }
 
 fn ask_odd_lent(
@@ -166,7 +195,7 @@ pub(super) fn ask_query(
         "all" => ask_first(graph, query, 9, out),
         "refuses-once" => ask_refuses_once(graph, query, out),
         "odd-lent" => ask_odd_lent(graph, query, out),
-        "odd-moved" => ask_visitor(graph, query, Odd { calls: 0 }, out),
+        "odd-moved" => ask_odd_moved(graph, query, out),
         "odd-behind-dyn" => ask_odd_behind_dyn(graph, query, out),
         "odd-in-a-box" => ask_odd_in_a_box(graph, query, out),
         "odd-closure" => ask_odd_closure(graph, query, out),
@@ -193,7 +222,7 @@ diamond_with_refusal | a b c d: a>b a>c b>d c>d
 
 counting_visitor | a b c d: a>b b>c c>d
     resolve odd-lent forward a = ab 2 2
-    resolve odd-moved forward a = ab 2
+    resolve odd-moved forward a = ab 2 2
 
 counting_visitor_behind_dyn | a b c d: a>b b>c c>d
     resolve odd-behind-dyn forward a = ab 2 2

@@ -1,7 +1,8 @@
 //! Sets: their members, lists, roots and walked links, sets made of sets, and equal sets.
 //!
-//! A set is written as its IDs, or as `all`, `none`, `forward` with where a resolve starts, `name` with the
-//! name of packages, or `query`, a resolve of all of them. What is asked of it stands before an `of`: its
+//! A set is written as its IDs, or as `all`, `none`, `forward` or `reverse` with where a resolve starts, `name`
+//! with the name of packages, `query`, a resolve of all of them, or `only` or `onwards` with a package, which
+//! makes its set or its query. What is asked of it stands before an `of`: its
 //! letters and how many they are, where nothing does. `make` makes a set of the first two packages and the
 //! next two.
 use crate::examples::Answer;
@@ -27,6 +28,12 @@ fn resolved_again<'g>(set: &PackageSet<'g>) -> Result<PackageSet<'g>, Error> {
     query.resolve()
 }
 
+// What the package leads to, by a query that it makes.
+fn onwards<'g>(package: PackageMetadata<'g>) -> Result<PackageSet<'g>, Error> {
+    let query = package.to_package_query(DependencyDirection::Forward)?;
+    query.resolve()
+}
+
 fn set_of<'g>(
     graph: &'g PackageGraph,
     words: &[&str],
@@ -37,7 +44,10 @@ fn set_of<'g>(
         (["none"], _) => graph.resolve_none(),
         (["query"], _) => resolved_again(&graph.resolve_all()?),
         (["name", name], _) => graph.resolve_package_name(name),
+        (["only", _], [_, id]) => graph.metadata(id)?.to_package_set(),
+        (["onwards", _], [_, id]) => onwards(graph.metadata(id)?),
         (["forward", ..], [_, starts @ ..]) => graph.query_forward(starts.iter())?.resolve(),
+        (["reverse", ..], [_, starts @ ..]) => graph.query_reverse(starts.iter())?.resolve(),
         _ => graph.resolve_ids(ids.iter()),
     }
 }
@@ -285,6 +295,10 @@ sets_of_a_graph | a b c d: a>b b>c c>d
     has d of all = yes
     has d of none = no
     query = abcd 4
+    forward b = bcd 3
+    reverse b = ab 2
+    only b = b 1
+    onwards b = bcd 3
 
 four_with_dev_backs | d c b a: a>b b~a b>c c>d d~c
     list forward of d a b = a b d

@@ -231,7 +231,7 @@ every_field | a=n@p b: a>b filled
     workspace target-directory = /w/target
     workspace build-directory = /w/build
     workspace metadata-table = yes
-    workspace members = 1 1 2
+    workspace members = 1 1 1 2
 ";
 
 pub(super) const PACKAGES: &str = "
@@ -284,6 +284,7 @@ fn put_order(graph: &PackageGraph, out: &mut Answer) {
 fn put_members(graph: &PackageGraph, out: &mut Answer) -> Result<(), Error> {
     out.put_number(graph.workspace().member_count());
     out.put_number(graph.workspace().iter().len());
+    out.put_number(graph.resolve_workspace()?.len());
     out.put_number(graph.query_workspace()?.resolve()?.len());
     Ok(())
 }
@@ -305,11 +306,25 @@ fn put_named(
     Ok(())
 }
 
+// How many members the paths name, how many the set of them has, and how many a resolve of them.
 fn put_at_paths(graph: &PackageGraph, paths: [&str; 2], out: &mut Answer) -> Result<(), Error> {
     let [first, second] = paths;
     let paths = [Utf8Path::new(first), Utf8Path::new(second)];
+    let members = graph.workspace().members_by_paths(paths.into_iter())?;
+    out.put_number(members.len());
     let set = graph.resolve_workspace_paths(paths.into_iter())?;
     out.put_number(set.len());
+    let query = graph.query_workspace_paths(paths.into_iter())?;
+    out.put_number(query.resolve()?.len());
+    Ok(())
+}
+
+// The member with the path, and the one with the name.
+fn put_member(graph: &PackageGraph, path: &str, name: &str, out: &mut Answer) -> Result<(), Error> {
+    let by_path = graph.workspace().member_by_path(Utf8Path::new(path))?;
+    let by_name = graph.workspace().member_by_name(name)?;
+    out.put(by_path.name());
+    out.put(by_name.name());
     Ok(())
 }
 
@@ -353,6 +368,7 @@ pub(super) fn ask_workspace(
             put_named(graph, question, [a, b, c], out)?;
         }
         ["at-paths", a, b] => put_at_paths(graph, [a, b], out)?,
+        ["member", path, name] => put_member(graph, path, name, out)?,
         ["defaults"] => put_defaults(graph, out),
         [question @ ("has-path" | "metadata-table")] => {
             out.put_truth(workspace_holds(graph, question, ""));
@@ -375,7 +391,7 @@ path_lookup | no_member @a/b
     workspace has-path ./a/b = no
     workspace has-name a/b = yes
     workspace has-name no_member = no
-    workspace members = 1 1 1
+    workspace members = 1 1 1 1
 
 empty_path | no_member @
     workspace has-path = yes
@@ -384,11 +400,17 @@ empty_path | no_member @
 unknown_members | no_member @a @b
     workspace query-named b x y = unknown workspace package name: x
     workspace at-paths a/. q = unknown workspace path: q
+    workspace member q b = unknown workspace path: q
+    workspace member a x = unknown workspace package name: x
 
 known_members | no_member @a @b
     workspace named b a b = 3
+    workspace query-named b a b = 2
+    workspace at-paths a a/. = 2 1 1
+    workspace at-paths a/. b/ = 2 2 2
+    workspace member a/. b = a b
     workspace set-named b b b = 1
-    workspace members = 2 2 2
+    workspace members = 2 2 2 2
 
 default_members | a b !b !a !b
     workspace defaults = b a b 3
