@@ -14,7 +14,7 @@ use Rattle.guppy_data.specs.declared.records.PackageRecord.{PackageRecord}
 use Rattle.guppy_graph.specs.Ids.{HasId, IsKnown, DistinctBelow, ix_position}
 use Rattle.guppy_graph.specs.Keys.{DifferBelow}
 use Rattle.guppy.specs.Query.{AreNamed, IsSetNamed}
-use Rattle.guppy_graph.specs.Refused.{NamesId, IsFirstUnknown}
+use Rattle.guppy_graph.specs.Refused.{NamesId, IsFirstUnknown, EndsInUnknown}
 use Rattle.guppy_graph.proofs.Named.{position_is, within_of}
 use Rattle.guppy_graph.proofs.Unknown.{NamesId-along, first_unknown-next}
 
@@ -47,9 +47,9 @@ All-ix_position P ixs all = λ k d within.
 
 -- an iterator gave known IDs, and then one that is unknown
 pub unknown_next : {S : Type 0} (steps : S → Option (Bor (List ℕ)) → S → Type 0) (packages : List PackageRecord) (s t u : S) (named : List (Bor (List ℕ))) (x : Bor (List ℕ)) (e : Error) → Yields steps s named t → steps t (Some x) u → All (IsKnown packages) (map (λ id. id.now) named) → NamesId (IsFirstUnknown packages (x.now ∷ [])) e
-    → NamesId (λ id. (named : List (Bor (List ℕ))) × (rest : S) × Yields steps s named rest × IsFirstUnknown packages (map (λ id. id.now) named) id) e
+    → NamesId (λ id. (named : List (Bor (List ℕ))) × (rest : S) × Yields steps s named rest × EndsInUnknown packages (map (λ id. id.now) named) id) e
 unknown_next {S} steps packages s t u named x e gave step known names =
-    NamesId-along (IsFirstUnknown packages (x.now ∷ [])) (λ id. (named : List (Bor (List ℕ))) × (rest : S) × Yields steps s named rest × IsFirstUnknown packages (map (λ id. id.now) named) id) e
+    NamesId-along (IsFirstUnknown packages (x.now ∷ [])) (λ id. (named : List (Bor (List ℕ))) × (rest : S) × Yields steps s named rest × EndsInUnknown packages (map (λ id. id.now) named) id) e
     (λ id first. first_unknown-next (IsKnown packages) steps (λ (id : Bor (List ℕ)). id.now) s t u named x id gave step known first) names
 
 -- texts, and the positions that they name one by one

@@ -1,8 +1,9 @@
--- Lists of IDs that are equal or not.
-use Rattle.std.proofs.Common.{◌≡◌, refl, Bool, true, List}
+-- Lists of IDs, and sets, that are equal or not.
+use Rattle.std.proofs.Common.{◌≡◌, refl, ap, ◌∙◌, ℕ, suc, Bool, true, List, [], ◌∷◌, length, arith}
 use Rattle.std.specs.Prelude.{◌↔◌}
 use Rattle.std.specs.Cmp.{both_ways}
 use Rattle.std.proofs.lemmas.Slice.Eq.{slice_eq-Decides, bytes_eq-Decides}
+use Rattle.guppy_core.specs.IxSet.{IsIn}
 use Rattle.guppy_data.specs.declared.records.PackageRecord.{PackageRecord}
 use Rattle.guppy_graph.specs.Ids.{ids_of}
 use Rattle.guppy.specs.Same.{same_ids}
@@ -16,3 +17,11 @@ pub same_ids-decided : (a b : List PackageRecord) (r : Bool) → (r ≡ true) �
 same_ids-decided a b r decides =
     let equal = same_ids-equal a b (same_ids a b) refl in
     both_ways (same_ids a b) r (λ e. decides.1 (equal.0 e)) (λ e. equal.1 (decides.0 e))
+
+-- sets of as many positions with the same members are equal
+pub same_members : (s t : List Bool) → length s ≡ length t → ((p : ℕ) → IsIn s p ↔ IsIn t p) → s ≡ t
+same_members [] [] count same = refl
+same_members [] (b ∷ t) count same = absurd (omega arith)
+same_members (a ∷ s) [] count same = absurd (omega arith)
+same_members (a ∷ s) (b ∷ t) count same =
+    ap (λ c. c ∷ s) (both_ways a b (same 0).0 (same 0).1) ∙ ap (λ rest. b ∷ rest) (same_members s t (omega arith) (λ p. same (suc p)))

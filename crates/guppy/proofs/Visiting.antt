@@ -1,16 +1,18 @@
 -- Links as visitors are shown them, and the states of visitors over a trace.
 use Rattle.std.proofs.Common.{◌≡◌, ◌∙◌, sym, refl, ap, subst, ℕ, ◌<◌, List, [], ◌∷◌, Bool, Some, slice_get}
-use Rattle.std.specs.List.{FoldsTo}
+use Rattle.std.specs.List.{FoldsTo, Contains}
+use Rattle.std.proofs.lemmas.Fn.{chained_keeps}
 use Rattle.guppy_search.specs.declared.ix.direction.DependencyDirection.{DependencyDirection}
 use Rattle.guppy_search.specs.declared.ix.direction.DependencyDirection.TheVariants.{Forward, Reverse}
 use Rattle.guppy_search.specs.declared.graph_core.link.Link.{Link}
 use Rattle.guppy_core.specs.Links.{near_end}
-use Rattle.guppy_core.specs.Resolve.{Visits}
+use Rattle.guppy_core.specs.Resolve.{IsShown, Visits, IsCallableBelow}
 use Rattle.guppy_data.specs.declared.records.PackageRecord.{PackageRecord}
 use Rattle.guppy_data.specs.declared.records.LinkRecord.{LinkRecord}
 use Rattle.guppy_graph.specs.Ids.{HasId}
 use Rattle.guppy.specs.Query.{QueryData, IncludesId, initials_of}
 use Rattle.guppy.specs.Visitors.{LinkData, StartsFromInitial}
+use Rattle.guppy_search.proofs.Lists.{Contains-first, Contains-later}
 use Rattle.guppy_graph.proofs.Named.{id_is}
 
 -- the end that a link leaves lies between the same bounds as its ends
@@ -23,6 +25,27 @@ pub FoldsTo-along_kept : {S T X : Type 0} (f : S → T) (I : S → Type 0) (R : 
     (step : (s : S) (e : X) (t : S) → I s → R s e t → Q (f s) e (f t) × I t) (trace : List X) (s t : S) → I s → FoldsTo R s trace t → FoldsTo Q (f s) trace (f t)
 FoldsTo-along_kept f I R Q step [] s t i h = ap f h
 FoldsTo-along_kept f I R Q step (e ∷ es) s t i h = let r = step s e h.0 i h.1 in (f h.0, r.0, FoldsTo-along_kept f I R Q step es h.0 t r.1 h.2)
+
+-- a visitor whose states keep I may be called with each number below the count once where what f reads of them may
+pub IsCallableBelow-along_kept : {S T : Type 0} (f : S → T) (I : S → Type 0) (may_call : S → ℕ → Type 0) (may_call' : T → ℕ → Type 0) (calls : S → ℕ → Bool → S → Type 0) (calls' : T → ℕ → Bool → T → Type 0) (count : ℕ)
+    (may : (s : S) (n : ℕ) → I s → n < count → may_call' (f s) n → may_call s n) (step : (s : S) (e : ℕ × Bool) (t : S) → I s → calls s e.0 e.1 t → calls' (f s) e.0 e.1 (f t) × I t)
+    (s : S) → I s → IsCallableBelow may_call' calls' count (f s) → IsCallableBelow may_call calls count s
+IsCallableBelow-along_kept f I may_call may_call' calls calls' count may step s i callable = record {
+  at = λ earlier now n few once new steps below.
+      let kept = chained_keeps _ (λ _ t. I t) (λ _ t e u k h. (step t e u k h).1) earlier s now i steps in
+      may now n kept below (callable.at earlier (f now) n few once new (FoldsTo-along_kept f I _ _ step earlier s now i steps) below);
+}
+
+-- a visitor that may be called with each number below the count, until it was called with it, may be called with each once
+module _ {S : Type 0} (may_call : S → ℕ → Type 0) (calls : S → ℕ → Bool → S → Type 0) (others : (s : S) (n : ℕ) (b : Bool) (t : S) → calls s n b t → (m : ℕ) → (m ≡ n → ⊥) → may_call s m → may_call t m) where
+  stays_callable : (n : ℕ) (earlier : List (ℕ × Bool)) (s now : S) → Visits calls s earlier now → ¬ IsShown earlier n → may_call s n → may_call now n
+  stays_callable n [] s now h new may = subst (λ t. may_call t n) h may
+  stays_callable n (e ∷ es) s now h new may = stays_callable n es h.0 now h.2
+      (λ k. new (k.0, Contains-later e (n, k.0) es k.1))
+      (others s e.0 e.1 h.0 h.1 n (λ same. new (e.1, subst (λ m. Contains (e ∷ es) (m, e.1)) (sym same) (Contains-first e es))) may)
+
+  pub IsCallableBelow-others : (count : ℕ) (s : S) → ((n : ℕ) → n < count → may_call s n) → IsCallableBelow may_call calls count s
+  IsCallableBelow-others count s may = record { at = λ earlier now n few once new steps below. stays_callable n earlier s now steps new (may n below) }
 
 -- a chain ends at what is equal to its end
 pub ends_at : {V : Type 0} (visits : V → ℕ → Bool → V → Type 0) (s : V) (trace : List (ℕ × Bool)) (t u : V) → Visits visits s trace t → u ≡ t → Visits visits s trace u

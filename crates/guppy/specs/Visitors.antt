@@ -24,6 +24,10 @@ link_in query n = record { graph = query.graph; number = n }
 abbrev pub VisitsAt : {V : Type 0} → (V → QueryData → LinkData → Bool → V → Type 0) → QueryData → V → ℕ → Bool → V → Type 0
 VisitsAt visits query s n answer t = visits s query (link_in query n) answer t
 
+-- the visitor of the query may be shown its link n
+abbrev pub MayVisitAt : {V : Type 0} → (V → QueryData → LinkData → Type 0) → QueryData → V → ℕ → Type 0
+MayVisitAt may_visit query s n = may_visit s query (link_in query n)
+
 module _ {F : Type 0} where
   -- what a call of the closure may do at the query's link n
   abbrev pub CallsAt : (F → Bor QueryData → PackageLink → Bool → F → Type 0) → QueryData → F → ℕ → Bool → F → Type 0

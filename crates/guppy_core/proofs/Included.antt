@@ -1,5 +1,5 @@
 -- The members of a set in a list of positions.
-use Rattle.std.proofs.Common.{◌≡◌, ℕ, suc, zero, ◌+◌, ◌<◌, Bool, true, false, List, [], ◌∷◌, ◌++◌, length, reverse, refl, sym, ap, ◌∙◌, subst, arith, Some, cond}
+use Rattle.std.proofs.Common.{◌≡◌, ◌⊎◌, ◌↔◌, ℕ, suc, zero, ◌+◌, ◌<◌, Bool, true, false, inl, inr, List, [], ◌∷◌, ◌++◌, length, reverse, refl, sym, ap, ◌∙◌, subst, arith, Some, cond}
 use Rattle.std.specs.Prelude.{All}
 use Rattle.std.specs.List.{filter}
 use Rattle.std.proofs.Math.ListN.{set}
@@ -12,7 +12,7 @@ use Rattle.guppy_search.specs.IxSet.{has, IsIn, member_count}
 use Rattle.guppy_core.specs.Listing.{Stands, IsOnce, IsListing}
 use Rattle.guppy_core.specs.Sccs.{listed}
 use Rattle.guppy_search.proofs.Members.{IsIn-below}
-use Rattle.guppy_core.proofs.Listings.{stands_reversed}
+use Rattle.guppy_core.proofs.Listings.{at_reversed, stands_reversed, reversed_stands}
 
 last_kept : {X : Type 0} (b : Bool) (x : X) (ys : List X) → reverse ys ++ cond b (x ∷ []) [] ≡ reverse (cond b (x ∷ ys) ys)
 last_kept true x ys = sym (reverse-append (x ∷ []) ys)
@@ -100,3 +100,76 @@ pub count_listed : (d : DependencyDirection) (s : List Bool) (xs : List ℕ) →
 count_listed d s xs is =
     ap length (filter-listed d (has s) xs)
     ∙ (length-listed d (filter (has s) xs) ∙ count_once xs s is.once (λ p h. is.all p (IsIn-below s p h)))
+
+-- A list kept to a test.
+
+stands_cases : (y x : ℕ) (xs : List ℕ) → Stands (y ∷ xs) x → (y ≡ x) ⊎ Stands xs x
+stands_cases y x xs (zero, at) = inl (cc)
+stands_cases y x xs (suc i, at) = inr (i, at)
+
+kept_cases : (b : Bool) (y x : ℕ) (xs : List ℕ) → Stands (cond b (y ∷ xs) xs) x → ((b ≡ true) × (y ≡ x)) ⊎ Stands xs x
+kept_cases true y x xs s = elim (stands_cases y x xs s) [ inl e ↦ inl (refl, e) | inr t ↦ inr t ]
+kept_cases false y x xs s = inr s
+
+kept_first : (b : Bool) (y : ℕ) (xs : List ℕ) → b ≡ true → Stands (cond b (y ∷ xs) xs) y
+kept_first true y xs h = (0, refl)
+kept_first false y xs h = absurd (cc)
+
+kept_later : (b : Bool) (y x : ℕ) (xs : List ℕ) → Stands xs x → Stands (cond b (y ∷ xs) xs) x
+kept_later true y x xs s = (suc s.0, s.1)
+kept_later false y x xs s = s
+
+module _ (f : ℕ → Bool) where
+  kept_back : (xs : List ℕ) (x : ℕ) → Stands (filter f xs) x → Stands xs x × (f x ≡ true)
+  kept_back [] x s = absurd (cc (s.1))
+  kept_back (y ∷ ys) x s = elim (kept_cases (f y) y x (filter f ys) s) [
+    | inl e ↦ ((0, ap Some e.1), subst (λ z. f z ≡ true) e.1 e.0)
+    | inr t ↦ let back = kept_back ys x t in ((suc back.0.0, back.0.1), back.1)
+  ]
+
+  kept_there : (xs : List ℕ) (x : ℕ) → Stands xs x → f x ≡ true → Stands (filter f xs) x
+  kept_there [] x s h = absurd (cc (s.1))
+  kept_there (y ∷ ys) x s h = elim (stands_cases y x ys s) [
+    | inl e ↦ subst (λ z. Stands (cond (f y) (y ∷ filter f ys) (filter f ys)) z) e (kept_first (f y) y (filter f ys) (subst (λ z. f z ≡ true) (sym e) h))
+    | inr t ↦ kept_later (f y) y x (filter f ys) (kept_there ys x t h)
+  ]
+
+once_cons : (y : ℕ) (xs : List ℕ) → (Stands xs y → ⊥) → IsOnce xs → IsOnce (y ∷ xs)
+once_cons y xs none once zero zero x p q = refl
+once_cons y xs none once zero (suc j) x p q = absurd (none (j, q ∙ sym p))
+once_cons y xs none once (suc i) zero x p q = absurd (none (i, p ∙ sym q))
+once_cons y xs none once (suc i) (suc j) x p q = ap suc (once i j x p q)
+
+once_kept : (b : Bool) (y : ℕ) (xs : List ℕ) → (Stands xs y → ⊥) → IsOnce xs → IsOnce (cond b (y ∷ xs) xs)
+once_kept true y xs none once = once_cons y xs none once
+once_kept false y xs none once = once
+
+once_filtered : (f : ℕ → Bool) (xs : List ℕ) → IsOnce xs → IsOnce (filter f xs)
+once_filtered f [] once = λ i j x p q. absurd (cc)
+once_filtered f (y ∷ ys) once =
+    once_kept (f y) y (filter f ys) (λ s. apart_head y ys once y (kept_back f ys y s).0 refl) (once_filtered f ys (once_tail y ys once))
+
+once_listed : (d : DependencyDirection) (xs : List ℕ) → IsOnce xs → IsOnce (listed d xs)
+once_listed Forward xs once = once
+once_listed Reverse xs once = λ i j x p q.
+    let a = at_reversed xs i x p in
+    let b = at_reversed xs j x q in
+    let same = once a.0 b.0 x a.1 b.1 in
+    let left = a.2 in
+    let right = b.2 in
+    omega arith
+
+listed_stands : (d : DependencyDirection) (xs : List ℕ) (x : ℕ) → Stands xs x → Stands (listed d xs) x
+listed_stands Forward xs x s = s
+listed_stands Reverse xs x s = reversed_stands xs x s
+
+-- a listing of all positions that is kept to a set has the set's positions, each once
+module _ (d : DependencyDirection) (s : List Bool) (xs : List ℕ) (is : IsListing (length s) xs) where
+  pub listed_members : (p : ℕ) → Stands (listed d (filter (has s) xs)) p ↔ IsIn s p
+  listed_members p = (
+    λ st. (kept_back (has s) xs p (stands_listed d (filter (has s) xs) p st)).1,
+    λ h. listed_stands d (filter (has s) xs) p (kept_there (has s) xs p (is.all p (IsIn-below s p h)) h),
+  )
+
+  pub listed_once : IsOnce (listed d (filter (has s) xs))
+  listed_once = once_listed d (filter (has s) xs) (once_filtered (has s) xs is.once)

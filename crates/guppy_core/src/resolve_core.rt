@@ -1,10 +1,10 @@
 //! Sets of positions that a resolve included, over any kind of graph.
-ghost use Rattle.std.specs.Prelude.{◌≡◌, ◌⊎◌, ◌↔◌, ◌==◌, ℕ, ◌<◌, Bool, true, false, List, length, map, replicate, IfOk, OnOk, OnErr, All, Contains};
+ghost use Rattle.std.specs.Prelude.{◌≡◌, ◌⊎◌, ◌↔◌, ◌==◌, ℕ, ◌<◌, Bool, true, false, List, length, map, replicate, IfOk, OnErr, All, Contains};
 ghost use Rattle.std.specs.Iterator.{IsFinite, HoldsAlong, Drains};
 ghost use Rattle.guppy_search.specs.IxSet.{has, IsIn, IsUnion, IsIntersection, IsDifference, IsSymmetricDifference, member_count};
 ghost use Rattle.std.specs.List.{concat, filter};
-ghost use Rattle.guppy_search.specs.Buffered.{Question, Answers, Asks, EndsInError, JudgesBuffered};
-ghost use Rattle.guppy_core.specs.Listing.{IsListing};
+ghost use Rattle.guppy_search.specs.Buffered.{Question, Answers, Asks, IsAskable, EndsInError, JudgesBuffered};
+ghost use Rattle.guppy_core.specs.Listing.{Stands, IsOnce};
 ghost use Rattle.guppy_core.specs.Sccs.{listed, AreSccs, InOneBlock};
 ghost use Rattle.guppy_search.specs.declared.ix.direction.DependencyDirection.TheVariants.{Forward};
 ghost use Rattle.guppy_search.specs.Graph.{LinkIs};
@@ -16,7 +16,7 @@ ghost use Rattle.guppy_search.specs.Resolve.{JudgesResolve, AcceptsAll, Visits, 
 use crate::scc::Sccs;
 use guppy_search::{
     BufferedEdgeFilter, DependencyDirection, EdgeDfs, Graph, GraphSpec, IndexType, IxSet,
-    reachable, reachable_buffered, reachable_buffered_mut, reachable_filtered,
+    reachable, reachable_buffered, reachable_buffered_mut, reachable_filtered, reachable_with_fn,
 };
 use std::alloc::{AllocError, Global};
 use std::marker::Model;
@@ -92,9 +92,9 @@ impl<G: GraphSpec> ResolveCore<G> {
     /// leaves one of these positions, after that position was included, and for no other link.
     ///
     /// The initial ones are a set of the graph's positions, and the filter takes every link number,
-    /// also after earlier calls. Time grows with the nodes and the links that leave the result.
-    /// Takes memory for the set and a number a node, all of it before the first call, and fails
-    /// only where there is none.
+    /// also after calls with other numbers. Time grows with the nodes and the links that leave the result.
+    /// Takes memory for the set and a number a node, and fails only where there is none. What the
+    /// filter is like then is told by [`with_edge_filter_mut`](ResolveCore::with_edge_filter_mut).
     pub fn with_edge_filter<F: FnMut(usize) -> bool>(
         graph: &Graph<G>,
         initials: &IxSet<G>,
@@ -112,13 +112,35 @@ impl<G: GraphSpec> ResolveCore<G> {
         Ok(Self::from_included(included))
     }
 
+    /// [`with_edge_filter`](ResolveCore::with_edge_filter), with a filter that is lent: at the end it
+    /// is as its calls left it, and where there is no memory it is as it was.
+    pub fn with_edge_filter_mut<F: FnMut(usize) -> bool>(
+        graph: &Graph<G>,
+        initials: &IxSet<G>,
+        direction: DependencyDirection,
+        filter: &mut F,
+    ) -> Result<Self, AllocError>
+        requires count { length initials.now ≡ length graph.now.nodes }
+        requires callable { IsCallableBelow F.pre F.step (length graph.now.links) filter.old }
+        ensures count { IfOk result (λ set. length set ≡ length graph.now.nodes) }
+        ensures judged { IfOk result (λ set. (trace : List (ℕ × Bool))
+            × JudgesResolve direction graph.now.links initials.now trace set
+            × Visits F.step filter.old trace filter.new) }
+        ensures not_called { OnErr result (filter.new ≡ filter.old) }
+    {
+        let included = reachable_with_fn(graph, initials, direction, filter)?;
+        Ok(Self::from_included(included))
+    }
+
     /// The positions that the initial ones lead to over the links that the filter hands back, the
     /// initial ones among them: those of [`reachable_buffered`].
     ///
-    /// The initial ones are a set of the graph's positions, and the filter may be asked about the
-    /// graph. Time grows with the nodes, the links that leave the result, and the links handed back.
-    /// Takes memory for the set and a number a node, all of it before the first question; `AllocError`
-    /// comes where there is none, and where the filter answers it.
+    /// The initial ones are a set of the graph's positions, and the filter may be asked about each of
+    /// the graph's positions and links, also after other questions. Time grows with the nodes, the
+    /// links that leave the result, and the links handed back. Takes memory for the set and a number a
+    /// node. `AllocError` comes where there is none, and where the filter answers it; what the filter
+    /// is like then is told by
+    /// [`with_buffered_edge_filter_mut`](ResolveCore::with_buffered_edge_filter_mut).
     pub fn with_buffered_edge_filter<T: BufferedEdgeFilter<G> + Drop>(
         graph: &Graph<G>,
         initials: &IxSet<G>,
@@ -126,7 +148,7 @@ impl<G: GraphSpec> ResolveCore<G> {
         filter: T,
     ) -> Result<Self, AllocError>
         requires count { length initials.now ≡ length graph.now.nodes }
-        requires ready { T.can_ask graph.now filter }
+        requires ready { IsAskable (T.can_discover graph.now) (T.can_filter graph.now) (Answers (T.discovers graph.now) (T.filters graph.now)) (length graph.now.nodes) (length graph.now.links) filter }
         ensures count { IfOk result (λ set. length set ≡ length graph.now.nodes) }
         ensures judged { IfOk result (λ set. (trace : List (Question × List ℕ)) × (last : T)
             × JudgesBuffered direction graph.now.links initials.now trace set
@@ -146,14 +168,13 @@ impl<G: GraphSpec> ResolveCore<G> {
         filter: &mut T,
     ) -> Result<Self, AllocError>
         requires count { length initials.now ≡ length graph.now.nodes }
-        requires ready { T.can_ask graph.now filter.old }
+        requires ready { IsAskable (T.can_discover graph.now) (T.can_filter graph.now) (Answers (T.discovers graph.now) (T.filters graph.now)) (length graph.now.nodes) (length graph.now.links) filter.old }
         ensures count { IfOk result (λ set. length set ≡ length graph.now.nodes) }
         ensures judged { IfOk result (λ set. (trace : List (Question × List ℕ))
             × JudgesBuffered direction graph.now.links initials.now trace set
             × Asks (Answers (T.discovers graph.now) (T.filters graph.now)) filter.old trace filter.new) }
         ensures refused { OnErr result ((filter.new ≡ filter.old)
             ⊎ EndsInError (Answers (T.discovers graph.now) (T.filters graph.now)) direction graph.now.links initials.now filter.old filter.new) }
-        ensures ready { OnOk result (T.can_ask graph.now filter.new) }
         ensures same_place { T.place filter.new ≡ T.place filter.old }
     {
         let included = reachable_buffered_mut(graph, initials, direction, filter)?;
@@ -209,11 +230,13 @@ impl<G: GraphSpec> ResolveCore<G> {
         self.included.contains(ix)
     }
 
-    /// The included positions: Forward in the order of the components, Reverse that list from its
-    /// end. The components are of the graph that the set is of. Takes no memory.
+    /// The included positions, each once: Forward in the order of the components, Reverse that list
+    /// from its end. The components are of as many nodes as the set. Takes no memory.
     pub fn topo<'s>(&'s self, sccs: &'s Sccs<G::Ix>, direction: DependencyDirection) -> Topo<'s, G>
-        requires { IsListing (length self.now) (concat sccs.now) }
+        requires { length self.now ≡ length (concat sccs.now) }
         ensures left { result ≡ listed direction (filter (has self.now) (concat sccs.now)) }
+        ensures members { (p : ℕ) → Stands result p ↔ IsIn self.now p }
+        ensures once { IsOnce result }
         ensures count { length result ≡ member_count self.now }
         ensures below { All (λ p. p < length self.now) result }
     {

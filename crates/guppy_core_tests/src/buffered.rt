@@ -252,9 +252,14 @@ fn an_error_ends_the_search(rt: HostRuntime) {
 fn simple_filters(rt: HostRuntime) {
     let graph = graph_of(&rt, rt.alloc(), 4, &[(0, 1), (0, 2), (1, 3), (2, 3)]);
     let start = set_of(&rt, &graph, &[0]);
-    let is_odd = SimpleEdgeFilterFn(|_graph: &Graph<Stages>, link: usize| link % 2 == 1);
+    let mut calls = 0_usize;
+    let is_odd = SimpleEdgeFilterFn(|_graph: &Graph<Stages>, link: usize| {
+        calls = calls.wrapping_add(1);
+        link % 2 == 1
+    });
     let set = reachable_buffered(&graph, &start, FORWARD, is_odd).expect(&rt, "simple_filters");
     assert!(rt; has_positions(&set, &[0, 2, 3]));
+    assert!(rt; calls == 3);
 }
 
 #[test]
@@ -269,4 +274,18 @@ fn resolves_with_filters(rt: HostRuntime) {
     let set = ResolveCore::with_buffered_edge_filter_mut(&graph, &start, FORWARD, &mut filter);
     assert!(rt; has_positions(set.expect(&rt, name).included(), &[1, 2, 3]));
     assert!(rt; filter.asked.len() == 12);
+    let mut calls = 0_usize;
+    let set = ResolveCore::with_edge_filter(&graph, &start, FORWARD, |link| {
+        calls = calls.wrapping_add(1);
+        link != 0
+    });
+    assert!(rt; has_positions(set.expect(&rt, name).included(), &[0, 2, 3]));
+    assert!(rt; calls == 3);
+    let mut counting = |link| {
+        calls = calls.wrapping_add(1);
+        link != 0
+    };
+    let set = ResolveCore::with_edge_filter_mut(&graph, &start, FORWARD, &mut counting);
+    assert!(rt; has_positions(set.expect(&rt, name).included(), &[0, 2, 3]));
+    assert!(rt; calls == 6);
 }

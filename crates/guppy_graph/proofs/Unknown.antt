@@ -1,5 +1,5 @@
 -- The first unknown text of a list, and the errors that name it.
-use Rattle.std.proofs.Common.{◌∙◌, sym, ap, refl, ℕ, List, [], ◌∷◌, ◌++◌, append_assoc, arith, All, map, Option, Some}
+use Rattle.std.proofs.Common.{◌≡◌, ◌∙◌, sym, ap, refl, ℕ, List, [], ◌∷◌, ◌++◌, length, length-append, append_assoc, arith, All, map, Option, Some}
 use Rattle.std.specs.String.{string_bytes}
 use Rattle.std.specs.Iterator.{Yields}
 use Rattle.std.proofs.iter.Next.{Yields-more}
@@ -8,7 +8,7 @@ use Rattle.std.proofs.lemmas.List.Elements.{All-append, All-cons}
 use Rattle.guppy_data.specs.declared.texts.fault.ConstructFault.{ConstructFault}
 use Rattle.guppy_data.specs.declared.texts.error.Error.{Error}
 use Rattle.guppy_data.specs.declared.texts.error.Error.TheVariants.{PackageGraphConstructError, UnknownPackageId, UnknownFeatureId, UnknownWorkspacePath, UnknownWorkspaceName, PackageGraphInternalError, FeatureGraphInternalError, OutOfMemory}
-use Rattle.guppy_graph.specs.Refused.{TellsFault, NamesId, NamesPath, NamesName, IsFirstNot}
+use Rattle.guppy_graph.specs.Refused.{TellsFault, NamesId, NamesPath, NamesName, IsFirstNot, EndsInFirstNot}
 
 pub NamesId-along : (P Q : List ℕ → Type 0) (e : Error) → ((id : List ℕ) → P id → Q id) → NamesId P e → NamesId Q e
 NamesId-along P Q (PackageGraphConstructError f) h n = n
@@ -79,8 +79,32 @@ module _ (Known : List ℕ → Type 0) where
     unknown = first.unknown;
   }
 
+  -- nor does what is behind those that were read
+  pub first_unknown-read : (texts behind : List (List ℕ)) (text : List ℕ) → EndsInFirstNot Known texts text → IsFirstNot Known (texts ++ behind) text
+  first_unknown-read texts behind text first = record {
+    before = first.before;
+    after = behind;
+    place = ap (λ l. l ++ behind) first.place ∙ append_assoc first.before (text ∷ []) behind;
+    known = first.known;
+    unknown = first.unknown;
+  }
+
+  -- of one text it is that one
+  first_of_one : (text found : List ℕ) (before after : List (List ℕ)) → text ∷ [] ≡ before ++ found ∷ after → found ≡ text
+  first_of_one text found [] after e = cc
+  first_of_one text found (b ∷ bs) after e = let short = simp length-append at (ap (λ (l : List (List ℕ)). length l) e) in absurd (omega arith)
+
   -- an iterator gave known texts, and then one that is unknown
   pub first_unknown-next : {S X : Type 0} (steps : S → Option X → S → Type 0) (text : X → List ℕ) (s t u : S) (asked : List X) (x : X) (found : List ℕ) → Yields steps s asked t → steps t (Some x) u → All Known (map text asked) → IsFirstNot Known (text x ∷ []) found
-      → (given : List X) × (rest : S) × Yields steps s given rest × IsFirstNot Known (map text given) found
-  first_unknown-next steps text s t u asked x found gave step known first =
-      (asked ++ x ∷ [], u, Yields-more steps s asked t x u gave step, rw map_push (first_unknown-front (map text asked) (text x ∷ []) found known first))
+      → (given : List X) × (rest : S) × Yields steps s given rest × EndsInFirstNot Known (map text given) found
+  first_unknown-next steps text s t u asked x found gave step known first = (
+    asked ++ x ∷ [],
+    u,
+    Yields-more steps s asked t x u gave step,
+    record {
+      before = map text asked;
+      place = rw map_push (ap (λ y. map text asked ++ y ∷ []) (sym (first_of_one (text x) found first.before first.after first.place)));
+      known = known;
+      unknown = first.unknown;
+    },
+  )

@@ -1,5 +1,5 @@
 -- What an error tells.
-use Rattle.std.specs.Prelude.{◌≡◌, ℕ, List, ◌∷◌, ◌++◌, All}
+use Rattle.std.specs.Prelude.{◌≡◌, ℕ, List, [], ◌∷◌, ◌++◌, All}
 use Rattle.guppy_search.specs.declared.graph_core.graph.GraphFault.{GraphFault}
 use Rattle.guppy_search.specs.declared.graph_core.graph.GraphFault.TheVariants.{TooManyNodes, TooManyLinks, UnknownEnd, RepeatedLink, OutOfMemory as GraphMemory}
 use Rattle.guppy_data.specs.declared.texts.fault.ConstructFault.{ConstructFault}
@@ -70,6 +70,13 @@ pub record IsFirstNot (Known : List ℕ → Type 0) (texts : List (List ℕ)) (t
   pub known : All Known before
   pub unknown : Known text → ⊥
 
+-- the list ends in the text, the first of it that isn't known
+pub record EndsInFirstNot (Known : List ℕ → Type 0) (texts : List (List ℕ)) (text : List ℕ) : Type 0 where
+  pub before : List (List ℕ)
+  pub place : texts ≡ before ++ text ∷ []
+  pub known : All Known before
+  pub unknown : Known text → ⊥
+
 -- the ID is the first of the list that is no package's
 abbrev pub IsFirstUnknown : List PackageRecord → List (List ℕ) → List ℕ → Type 0
 IsFirstUnknown packages = IsFirstNot (IsKnown packages)
@@ -81,6 +88,18 @@ IsFirstUnknownPath packages = IsFirstNot (IsMemberPath packages)
 -- the name is the first of the list that is no member's
 abbrev pub IsFirstUnknownName : List PackageRecord → List (List ℕ) → List ℕ → Type 0
 IsFirstUnknownName packages = IsFirstNot (IsMemberName packages)
+
+-- the list ends in the ID, the first of it that is no package's
+abbrev pub EndsInUnknown : List PackageRecord → List (List ℕ) → List ℕ → Type 0
+EndsInUnknown packages = EndsInFirstNot (IsKnown packages)
+
+-- the list ends in the path, the first of it that is no member's
+abbrev pub EndsInUnknownPath : List PackageRecord → List (List ℕ) → List ℕ → Type 0
+EndsInUnknownPath packages = EndsInFirstNot (IsMemberPath packages)
+
+-- the list ends in the name, the first of it that is no member's
+abbrev pub EndsInUnknownName : List PackageRecord → List (List ℕ) → List ℕ → Type 0
+EndsInUnknownName packages = EndsInFirstNot (IsMemberName packages)
 
 -- the error of a fault of a graph's parts
 abbrev pub error_of : GraphFault → Error

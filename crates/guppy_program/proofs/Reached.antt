@@ -20,8 +20,8 @@ use Rattle.guppy_data.specs.Sorted.{KeepsUpTo}
 use Rattle.guppy.specs.Ids.{HasId, IsKnown}
 use Rattle.guppy.specs.Graph.{GraphData}
 use Rattle.guppy.specs.Query.{IsNamedSet, IncludesId, SetData}
-use Rattle.guppy.specs.Refused.{NamesId, IsFirstUnknown}
-use Rattle.guppy.proofs.Unknown.{NamesId-along, first_unknown-behind}
+use Rattle.guppy.specs.Refused.{NamesId, IsFirstUnknown, EndsInUnknown}
+use Rattle.guppy.proofs.Unknown.{NamesId-along, first_unknown-read}
 use Rattle.guppy_program.specs.Answer.{IsReached}
 
 module _ {S : Type 0} (steps : S → Option (Bor (List ℕ)) → S → Type 0) (s : S) (ids : List (List ℕ)) (road : YieldsList steps (λ r. r.now) s ids) where
@@ -31,13 +31,13 @@ module _ {S : Type 0} (steps : S → Option (Bor (List ℕ)) → S → Type 0) (
 
   -- the first unknown ID of what was given is that of the list
   pub first_unknown-given : (packages : List PackageRecord) (e : Error)
-      → NamesId (λ id. (named : List (Bor (List ℕ))) × (rest : S) × Yields steps s named rest × IsFirstUnknown packages (map (λ r. r.now) named) id) e
+      → NamesId (λ id. (named : List (Bor (List ℕ))) × (rest : S) × Yields steps s named rest × EndsInUnknown packages (map (λ r. r.now) named) id) e
       → NamesId (IsFirstUnknown packages ids) e
   first_unknown-given packages e names =
-      NamesId-along (λ id. (named : List (Bor (List ℕ))) × (rest : S) × Yields steps s named rest × IsFirstUnknown packages (map (λ r. r.now) named) id) (IsFirstUnknown packages ids) e
+      NamesId-along (λ id. (named : List (Bor (List ℕ))) × (rest : S) × Yields steps s named rest × EndsInUnknown packages (map (λ r. r.now) named) id) (IsFirstUnknown packages ids) e
       (λ id n. subst (λ l. IsFirstUnknown packages l id) (take-append-drop (length n.0) ids)
-      (first_unknown-behind (IsKnown packages) (take (length n.0) ids) (drop (length n.0) ids) id
-      (subst (λ l. IsFirstUnknown packages l id) (YieldsList-so_far road n.0 n.1 n.2) n.3))) names
+      (first_unknown-read (IsKnown packages) (take (length n.0) ids) (drop (length n.0) ids) id
+      (subst (λ l. EndsInUnknown packages l id) (YieldsList-so_far road n.0 n.1 n.2) n.3))) names
 
 -- what is reached from the named packages
 pub included_is_reached : (direction : DependencyDirection) (set : SetData) (g : GraphData) (ids : List (List ℕ)) (initials : List Bool) → IsNamedSet g.packages ids initials → set.graph ≡ g

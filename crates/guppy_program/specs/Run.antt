@@ -1,12 +1,14 @@
 -- What a run of the program does.
-use Rattle.std.specs.Prelude.{◌≡◌, ℕ, List, ◌++◌, Option, Some, IfSome, Result, Ok, Err}
-use Rattle.std.specs.Io.KnownBytes.{IsAtEnd}
+use Rattle.std.specs.Prelude.{◌≡◌, ◌↔◌, ℕ, Bool, List, ◌++◌, Option, Some, IfSome, IsNone, Result, Ok, Err, OnOk, IsErrOf}
+use Rattle.std.specs.Io.KnownBytes.{IsAtEnd, Appends}
 use Rattle.guppy_data.specs.declared.texts.error.Error.{Error}
 use Rattle.guppy_data.specs.declared.texts.error.Error.TheVariants.{PackageGraphConstructError, UnknownPackageId, UnknownFeatureId, UnknownWorkspacePath, UnknownWorkspaceName, PackageGraphInternalError, FeatureGraphInternalError, OutOfMemory}
 use Rattle.guppy_data.specs.declared.texts.fault.VerifyFault.{VerifyFault}
 use Rattle.guppy.specs.Graph.{GraphData}
 use Rattle.guppy_input.specs.declared.fault.RunFault.{RunFault}
 use Rattle.guppy_input.specs.declared.fault.RunFault.TheVariants.{Library, BadArguments, BadLine, InputFailed, OutputFailed}
+use Rattle.guppy_input.specs.Text.{IsFirstBadLine}
+use Rattle.guppy_input.specs.Reading.{is_input_fault, is_output_fault}
 use Rattle.guppy_command.specs.Command.{Command, command_of}
 use Rattle.guppy_program.specs.Loaded.{IsLoaded, IsRecordFault}
 use Rattle.guppy_program.specs.Answer.{IsAnswer, IsFirstUnknownNamed, IsVerifyFault}
@@ -66,3 +68,15 @@ WritesNothing old new (Err BadArguments) = new ≡ old
 WritesNothing old new (Err (BadLine n)) = new ≡ old
 WritesNothing old new (Err InputFailed) = new ≡ old
 WritesNothing old new (Err OutputFailed) = Unit {0}
+
+-- what a run of the program did to its source and its sink, and what came of it; the fields are the clauses of `run`
+pub record IsRun {T R W : Type 0} (left : R → Option (List ℕ)) (input_failed : R → Bool) (written : W → Option (List ℕ)) (output_failed : W → Bool) (args : List (List ℕ)) (reader reader' : R) (writer writer' : W) (outcome : Result T RunFault) : Type 0 where
+  pub ok : OnOk outcome (OfWholeInput (left reader) (left reader') (λ input. IsAnswered args input (Appends (written writer) (written writer'))))
+  pub arguments : IsErrOf outcome BadArguments ↔ IsNone (command_of args)
+  pub arguments_read : IsErrOf outcome BadArguments → reader' ≡ reader
+  pub bad_line : (n : ℕ) → outcome ≡ Err (BadLine n) → OfWholeInput (left reader) (left reader') (λ input. IsFirstBadLine input n)
+  pub library : (error : Error) → outcome ≡ Err (Library error) → IsLibraryRefusal args (left reader) (left reader') error
+  pub input_fails : input_failed reader' ≡ is_input_fault outcome
+  pub output_fails : output_failed writer' ≡ is_output_fault outcome
+  pub refused : WritesNothing writer writer' outcome
+  pub begun : IsErrOf outcome OutputFailed → OfWholeInput (left reader) (left reader') (λ input. IsBegun args input (Appends (written writer) (written writer')))

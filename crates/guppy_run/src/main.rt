@@ -1,16 +1,16 @@
 //! Answers questions on a graph of packages, which it reads as lines.
 //!
-//! What it does is `guppy_program`'s `run`; here stand its arguments, its streams and its status.
+//! What it does is `guppy_program`'s `run_process`; here stand the arguments and the standard streams.
 #![tactic(auto)]
 
 use guppy_data::Error;
 use guppy_input::device::{IoSink, IoSource};
 use guppy_input::fault::RunFault;
-use guppy_program::run::run;
+use guppy_program::process::run_process;
 use std::process::ExitCode;
 use std::{env, io};
 
-fn arguments(rt: HostRuntime) -> io::Result<Vec<String>> {
+fn read_arguments(rt: HostRuntime) -> io::Result<Vec<String>> {
     let mut args = Vec::new(rt.alloc());
     for arg in env::args(&rt)?.skip(1) {
         args.push(arg)?;
@@ -18,26 +18,27 @@ fn arguments(rt: HostRuntime) -> io::Result<Vec<String>> {
     Ok(args)
 }
 
-fn answer_standard_input(rt: HostRuntime) -> Result<(), RunFault> {
-    let args = match arguments(rt) {
-        Ok(args) => args,
+fn arguments(rt: HostRuntime) -> Result<Vec<String>, RunFault> {
+    match read_arguments(rt) {
+        Ok(args) => Ok(args),
         Err(error) if error.kind() == io::ErrorKind::OutOfMemory => {
-            return Err(RunFault::Library(Error::OutOfMemory));
+            Err(RunFault::Library(Error::OutOfMemory))
         }
         // An argument that is not UTF-8 is part of no command.
-        Err(_) => return Err(RunFault::BadArguments),
-    };
-    let mut reader = IoSource::new(rt.stdin());
-    let mut writer = IoSink::new(rt.stdout());
-    run(rt.alloc(), &args, &mut reader, &mut writer)
+        Err(_) => Err(RunFault::BadArguments),
+    }
 }
 
 fn main(rt: HostRuntime) -> ExitCode {
-    match answer_standard_input(rt) {
-        Ok(()) => ExitCode::SUCCESS,
-        Err(fault) => {
-            let _ = eprintln!(rt; "error: {fault}");
-            ExitCode::from(fault.status())
-        }
-    }
+    let mut reader = IoSource::new(rt.stdin());
+    let mut writer = IoSink::new(rt.stdout());
+    let mut errors = IoSink::new(rt.stderr());
+    let ending = run_process(
+        rt.alloc(),
+        arguments(rt),
+        &mut reader,
+        &mut writer,
+        &mut errors,
+    );
+    ExitCode::from(ending.status)
 }

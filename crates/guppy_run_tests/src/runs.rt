@@ -3,7 +3,8 @@ ghost use Rattle.std.specs.Prelude.{◌≡◌, false};
 
 use crate::devices::{Feed, Full, Paper, Stumbling};
 use guppy_input::device::{IoSink, IoSource, Sink, Source};
-use guppy_program::run::run;
+use guppy_input::fault::RunFault;
+use guppy_program::process::run_process;
 use std::alloc::{AllocError, Global};
 use std::process::Abort;
 use std::test::Fail;
@@ -16,23 +17,40 @@ fn words_of(alloc: Global, line: &str) -> Result<Vec<String>, AllocError> {
     Ok(words)
 }
 
-// The text of the program's fault, if it has one, and its status.
-fn fault_of<R: Source, W: Sink>(
+// The line that tells the fault, where there is one.
+fn line_of(alloc: Global, fault: &str) -> Result<Vec<u8>, AllocError> {
+    let mut line = Vec::new(alloc);
+    if !fault.is_empty() {
+        line.extend_from_slice(b"error: ")?;
+        line.extend_from_slice(fault.as_bytes())?;
+        line.extend_from_slice(b"\n")?;
+    }
+    Ok(line)
+}
+
+// A run tells this fault, if there is one, and ends with this status.
+fn assert_ends<R: Source, W: Sink>(
+    rt: &impl Abort,
     alloc: Global,
-    args: &[String],
+    line: &str,
     reader: &mut R,
     writer: &mut W,
-) -> Result<(String, u8), AllocError>
+    fault: &str,
+    status: u8,
+) -> Result<(), AllocError>
     requires input_works { R.has_failed reader.old ≡ false }
     requires output_works { W.has_failed writer.old ≡ false }
 {
-    match run(alloc, args, reader, writer) {
-        Ok(()) => Ok((String::new(alloc), 0)),
-        Err(fault) => {
-            let status = fault.status();
-            Ok((fault.to_string(alloc)?, status))
-        }
-    }
+    let args = words_of(alloc, line)?;
+    let mut errors = Paper::new(alloc, MANY, MANY);
+    let ending = run_process(alloc, Ok(args), reader, writer, &mut errors);
+    let told = line_of(alloc, fault)?;
+    assert_eq!(rt; errors.bytes(), told.as_slice(), "{line}: {fault}");
+    assert!(rt;
+        ending.is_told && ending.status == status,
+        "{line}: {fault}"
+    );
+    Ok(())
 }
 
 // What is written, the fault's text and the status are these, and a device has failed exactly where the
@@ -51,10 +69,7 @@ fn assert_run(
     requires input_works { reader.failed ≡ false }
     requires output_works { writer.failed ≡ false }
 {
-    let args = words_of(alloc, line)?;
-    let (told, ended) = fault_of(alloc, &args, &mut reader, &mut writer)?;
-    assert_eq!(rt; told.as_str(), fault, "{case}: {line}");
-    assert_eq!(rt; ended, status, "{case}: {line}");
+    assert_ends(rt, alloc, line, &mut reader, &mut writer, fault, status)?;
     assert_eq!(rt; writer.bytes(), output, "{case}: {line}");
     assert_eq!(rt; reader.failed(), fault == "input failed", "{case}: {line}");
     assert_eq!(rt; writer.failed(), fault == "output failed", "{case}: {line}");
@@ -335,13 +350,11 @@ fn assert_std_fails(
     fault: &str,
     status: u8,
 ) -> Result<(), AllocError> {
-    let args = words_of(alloc, "reach forward a")?;
     let mut reader = IoSource::new(Stumbling::new(FIRST, reads));
     let mut full = Full::new(room);
     let mut writer = IoSink::new(&mut full);
-    let (told, ended) = fault_of(alloc, &args, &mut reader, &mut writer)?;
-    assert_eq!(rt; told.as_str(), fault);
-    assert_eq!(rt; ended, status);
+    let line = "reach forward a";
+    assert_ends(rt, alloc, line, &mut reader, &mut writer, fault, status)?;
     assert_eq!(rt; reader.failed(), fault == "input failed", "{fault}");
     assert_eq!(rt; writer.failed(), fault == "output failed", "{fault}");
     assert_eq!(rt; full.count, count, "{fault}");
@@ -370,4 +383,25 @@ fn std_devices(rt: HostRuntime) -> Result<(), Fail> {
         )?;
     }
     Ok(())
+}
+
+// Arguments that could not be had, and a sink that takes so many of the bytes of the fault's line.
+#[test]
+fn no_arguments(rt: HostRuntime) {
+    let alloc = rt.alloc();
+    for (writes, is_told) in [(MANY, true), (21, true), (20, false), (0, false)] {
+        let mut reader = Feed::new(FIRST, MANY, MANY);
+        let mut writer = Paper::new(alloc, MANY, MANY);
+        let mut errors = Paper::new(alloc, 1, writes);
+        let ending = run_process(
+            alloc,
+            Err(RunFault::BadArguments),
+            &mut reader,
+            &mut writer,
+            &mut errors,
+        );
+        assert!(rt; ending.is_told == is_told && ending.status == 2);
+        assert!(rt; errors.bytes() == &b"error: bad arguments\n"[..writes.min(21)]);
+        assert!(rt; writer.bytes().is_empty());
+    }
 }

@@ -1,5 +1,5 @@
 -- Traces: the states of a visitor or a filter over them, and how long they are.
-use Rattle.std.proofs.Common.{◌≡◌, ℕ, ◌<◌, ◌≤◌, Bool, true, false, inl, inr, List, [], ◌∷◌, ◌++◌, length, replicate, refl, ap, subst, ◌∙◌, length-append, arith}
+use Rattle.std.proofs.Common.{◌≡◌, ℕ, ◌<◌, ◌≤◌, Bool, true, false, inl, inr, List, [], ◌∷◌, ◌++◌, length, replicate, refl, sym, ap, subst, ◌∙◌, length-append, arith}
 use Rattle.std.specs.List.{FoldsTo, All}
 use Rattle.std.proofs.Math.ListN.{set, length-set, length-replicate}
 use Rattle.std.proofs.lemmas.Bool.{false_from_ne_true}
@@ -9,8 +9,8 @@ use Rattle.std.proofs.lemmas.List.Elements.{All-nil, All-push, Contains-append_l
 use Rattle.guppy_search.specs.declared.ix.direction.DependencyDirection.{DependencyDirection}
 use Rattle.guppy_search.specs.declared.graph_core.link.Link.{Link}
 use Rattle.guppy_search.specs.IxSet.{has, IsIn, member_count}
-use Rattle.guppy_search.specs.Resolve.{EachAfter, IsShown, JudgesResolve, IsCallableBelow}
-use Rattle.guppy_search.proofs.Lists.{nothing_in, Contains-cons_cases, EachAfter-along}
+use Rattle.guppy_search.specs.Resolve.{IsShown, ShownOnce, JudgesResolve, IsCallableBelow}
+use Rattle.guppy_search.proofs.Lists.{EachAfter-along}
 use Rattle.guppy_search.proofs.Members.{member_count-replicate, member_count-le-length, member_count-set, has-replicate, member-set_cases}
 
 -- steps of one relation over what f reads of the states of another
@@ -27,19 +27,22 @@ each_answer {S} {X} R P I step trace s t i h =
     (λ es q e v j k. let r = step q e v j.1 k in (All-push P es e j.0 r.0, r.1))
     trace s t (All-nil P, i) h).0
 
--- A filter that may be called with each number below the count.
-module _ {F : Type 0} (may_call : F → ℕ → Type 0) (calls : F → ℕ → Bool → F → Type 0) (count : ℕ) (f : F) (callable : IsCallableBelow may_call calls count f) (n : ℕ) (below : n < count) where
-  pub callable_now : may_call f n
-  callable_now = callable.at [] f n (λ m h. absurd (nothing_in (m, h.0) h.1)) refl below
+-- A visitor that may be called with each number below the count once.
+module _ {S : Type 0} (may_call : S → ℕ → Type 0) (calls : S → ℕ → Bool → S → Type 0) (count : ℕ) (s : S) where
+  -- one whose states are read by f, and which calls what is read
+  pub IsCallableBelow-along : {T : Type 0} (f : S → T) (may_call' : T → ℕ → Type 0) (calls' : T → ℕ → Bool → T → Type 0)
+      (may : (t : S) (n : ℕ) → may_call' (f t) n → may_call t n) (step : (t : S) (n : ℕ) (b : Bool) (u : S) → calls t n b u → calls' (f t) n b (f u))
+      → IsCallableBelow may_call' calls' count (f s) → IsCallableBelow may_call calls count s
+  IsCallableBelow-along f may_call' calls' may step callable = record {
+    at = λ earlier now n few once new steps below. may now n (callable.at earlier (f now) n few once new (FoldsTo-along f _ _ (λ t e u k. step t e.0 e.1 u k) earlier s now steps) below);
+  }
 
-  pub callable_after : (b : Bool) (g : F) → calls f n b g → IsCallableBelow may_call calls count g
-  callable_after b g call = record {
-    at = λ earlier now m few steps h. callable.at ((n, b) ∷ earlier) now m
-        (λ q shown. elim (Contains-cons_cases (n, b) (q, shown.0) earlier shown.1) [
-          | inl e ↦ subst (λ z. z < count) (ap (λ z. z.0) e) below
-          | inr c ↦ few q (shown.0, c)
-        ])
-        (g, call, steps) h;
+  -- one that no call changes
+  pub IsCallableBelow-same : (stays : (t : S) (n : ℕ) (b : Bool) (u : S) → calls t n b u → u ≡ t) → ((n : ℕ) → n < count → may_call s n) → IsCallableBelow may_call calls count s
+  IsCallableBelow-same stays may = record {
+    at = λ earlier now n few once new steps below.
+        let same : now ≡ s = chained_keeps _ (λ _ t. t ≡ s) (λ _ t e u k h. stays t e.0 e.1 u h ∙ k) earlier s now refl steps in
+        subst (λ t. may_call t n) (sym same) (may n below);
   }
 
 -- the numbers of a trace, as a set
@@ -66,7 +69,7 @@ mark_next count before entry new marked =
     )
 
 -- a trace with no link twice is no longer than there are links
-pub length-trace : (count : ℕ) (trace : List (ℕ × Bool)) → EachAfter (λ before entry. ¬ IsShown before entry.0) trace → ((n : ℕ) → IsShown trace n → n < count) → length trace ≤ count
+pub length-trace : (count : ℕ) (trace : List (ℕ × Bool)) → ShownOnce trace → ((n : ℕ) → IsShown trace n → n < count) → length trace ≤ count
 length-trace count trace once below =
     let marked : AreMarked count trace = EachAfter-along (IsNewBelow count) (AreMarked count) (mark_next count) trace
     (λ before entry after e. (once before entry after e, below entry.0 (entry.1, rw e (Contains-append_right before (entry ∷ after) entry (0, omega arith, refl)))))

@@ -30,3 +30,8 @@ pub record Takes {E : Type 0} (d : DependencyDirection) (links : List (Link E)) 
 -- each search from this state ends in an error that takes the filter from the one state to the other
 pub record Stops {E T : Type 0} (answers : T → Question → Option (List ℕ) → T → Type 0) (d : DependencyDirection) (links : List (Link E)) (set : List Bool) (waiting left : List ℕ) (old last : T) : Type 0 where
   pub after : (initials : List Bool) (trace : List (Question × List ℕ)) (first : T) → Buffering d links initials trace set waiting left → Asks answers first trace old → EndsInError answers d links initials first last
+
+-- the filter may be asked about the next link, whatever it was asked on the way there
+pub record MayAskOn {E T : Type 0} (can_filter : T → ℕ → Type 0) (answers : T → Question → Option (List ℕ) → T → Type 0) (d : DependencyDirection) (links : List (Link E)) (set : List Bool) (waiting left : List ℕ) (first : T) : Type 0 where
+  pub at : (asked : List (Question × List ℕ)) (now : T) (n : ℕ) (set' : List Bool) (waiting' left' : List ℕ)
+      → Takes d links asked set waiting left set' waiting' left' → Contains left' n → Asks answers first asked now → can_filter now n

@@ -16,6 +16,10 @@ EachAfter {X} P xs = (before : List X) (x : X) (after : List X) → xs ≡ befor
 abbrev pub IsShown : List (ℕ × Bool) → ℕ → Type 0
 IsShown trace n = (answer : Bool) × Contains trace (n, answer)
 
+-- no link of the trace is shown twice
+abbrev pub ShownOnce : List (ℕ × Bool) → Type 0
+ShownOnce = EachAfter (λ before entry. ¬ IsShown before entry.0)
+
 -- P holds of the end that link n leaves
 abbrev pub LeavesOne : {E : Type 0} → DependencyDirection → List (Link E) → (ℕ → Type 0) → ℕ → Type 0
 LeavesOne {E} d links P n = (l : Link E) × (slice_get links n ≡ Some l) × P (near_end d l)
@@ -28,7 +32,7 @@ IsIncluded {E} d links initials trace p =
 -- the trace and the set judge a resolve from the initial positions
 pub record JudgesResolve {E : Type 0} (d : DependencyDirection) (links : List (Link E)) (initials : List Bool) (trace : List (ℕ × Bool)) (set : List Bool) : Type 0 where
   -- no link is shown twice
-  pub once : EachAfter (λ before entry. ¬ IsShown before entry.0) trace
+  pub once : ShownOnce trace
   -- exactly the links that leave the set are shown
   pub shown : (n : ℕ) → IsShown trace n ↔ LeavesOne d links (IsIn set) n
   -- the set has the initial positions, those to which accepted links lead, and no other
@@ -48,6 +52,7 @@ accepted_links trace = map (λ (entry : ℕ × Bool). entry.0) (filter (λ (entr
 abbrev pub Visits : {V : Type 0} → (V → ℕ → Bool → V → Type 0) → V → List (ℕ × Bool) → V → Type 0
 Visits visits = FoldsTo (λ state entry next. visits state entry.0 entry.1 next)
 
--- a filter may be called with each number below the count, also after any such calls
+-- a filter may be called with each number below the count once, in any order: after calls with other such numbers
 pub record IsCallableBelow {F : Type 0} (may_call : F → ℕ → Type 0) (calls : F → ℕ → Bool → F → Type 0) (count : ℕ) (filter : F) : Type 0 where
-  pub at : (earlier : List (ℕ × Bool)) (now : F) (n : ℕ) → ((m : ℕ) → IsShown earlier m → m < count) → Visits calls filter earlier now → n < count → may_call now n
+  pub at : (earlier : List (ℕ × Bool)) (now : F) (n : ℕ) → ((m : ℕ) → IsShown earlier m → m < count) → ShownOnce earlier → ¬ IsShown earlier n
+      → Visits calls filter earlier now → n < count → may_call now n

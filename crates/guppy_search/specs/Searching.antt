@@ -4,7 +4,7 @@ use Rattle.std.specs.List.{Contains}
 use Rattle.guppy_search.specs.declared.ix.direction.DependencyDirection.{DependencyDirection}
 use Rattle.guppy_search.specs.declared.graph_core.link.Link.{Link}
 use Rattle.guppy_search.specs.IxSet.{IsIn, member_count}
-use Rattle.guppy_search.specs.Resolve.{EachAfter, IsShown, LeavesOne, IsIncluded}
+use Rattle.guppy_search.specs.Resolve.{EachAfter, IsShown, ShownOnce, LeavesOne, IsIncluded, Visits}
 
 -- each number is above those before it
 abbrev pub IsAscending : List ℕ → Type 0
@@ -30,7 +30,7 @@ IsDue d links waiting left n = LeavesOne d links (Contains waiting) n ⊎ Contai
 
 -- a search under way, where left are the links still to be shown of the position that is being followed.
 pub record Searching {E : Type 0} (d : DependencyDirection) (links : List (Link E)) (initials : List Bool) (trace : List (ℕ × Bool)) (set : List Bool) (waiting left : List ℕ) : Type 0 where
-  pub once : EachAfter (λ before entry. ¬ IsShown before entry.0) trace
+  pub once : ShownOnce trace
   pub led_to : EachAfter (λ before entry. LeavesOne d links (IsIncluded d links initials before) entry.0) trace
   pub included : (p : ℕ) → IsIn set p ↔ IsIncluded d links initials trace p
   pub shown : (n : ℕ) → IsShown trace n → LeavesOne d links (IsIn set) n
@@ -43,3 +43,8 @@ pub record Searching {E : Type 0} (d : DependencyDirection) (links : List (Link 
 -- these links, shown with these answers, take each search from the one state to the other
 pub record Shows {E : Type 0} (d : DependencyDirection) (links : List (Link E)) (shown : List (ℕ × Bool)) (set : List Bool) (waiting left : List ℕ) (set' : List Bool) (waiting' left' : List ℕ) : Type 0 where
   pub after : (initials : List Bool) (trace : List (ℕ × Bool)) → Searching d links initials trace set waiting left → Searching d links initials (trace ++ shown) set' waiting' left'
+
+-- the visitor may be shown the next link, whatever it was shown on the way there
+pub record MayGoOn {E V : Type 0} (may_call : V → ℕ → Type 0) (calls : V → ℕ → Bool → V → Type 0) (d : DependencyDirection) (links : List (Link E)) (set : List Bool) (waiting left : List ℕ) (visitor : V) : Type 0 where
+  pub at : (shown : List (ℕ × Bool)) (now : V) (n : ℕ) (set' : List Bool) (waiting' left' : List ℕ)
+      → Shows d links shown set waiting left set' waiting' left' → Contains left' n → Visits calls visitor shown now → may_call now n

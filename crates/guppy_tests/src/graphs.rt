@@ -161,6 +161,8 @@ resolves_forward | a b c d: c>b b>a a>c d>a
 
 first_unknown_of_a_list | a b c d
     forward a z y = unknown package ID: z
+    unread a z b y = 2 2 2 2
+    unread z a = 1 1 1 1
     has z of forward a = unknown package ID: z
 
 package_name | n k m=n

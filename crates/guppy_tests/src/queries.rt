@@ -3,6 +3,9 @@
 //! A resolve is written as `resolve`, its visitor, a direction, and where it starts. The answer is the
 //! set's letters and how many they are, and then each link that was shown, with `+` where it was accepted
 //! and `-` where it was refused, or how often the visitor was called.
+ghost use Rattle.std.specs.Prelude.{ℕ, ◌<◌, length};
+ghost use Rattle.guppy.specs.Visitors.{MayVisitAt};
+
 use crate::examples::Answer;
 use crate::sets::{direction_of, put_letters};
 use crate::visitors::RefusesOnce;
@@ -114,7 +117,9 @@ fn ask_visitor<V: PackageLinkVisitor + Drop>(
     query: PackageQuery<'_>,
     visitor: V,
     out: &mut Answer,
-) -> Result<(), Error> {
+) -> Result<(), Error>
+    requires { (n : ℕ) → n < length query.graph.links → MayVisitAt V.can_visit query visitor n }
+{
     let set = query.resolve_with(visitor)?;
     put_letters(graph, &set, out)
 }

@@ -224,6 +224,22 @@ fn ask_letters(
     put_letters(graph, &set, out)
 }
 
+// How many of the IDs each call leaves unread.
+fn put_unread(graph: &PackageGraph, ids: &[PackageId], out: &mut Answer) {
+    let mut unread = ids.iter();
+    let _refused = graph.query_directed(&mut unread, DependencyDirection::Reverse);
+    out.put_number(unread.len());
+    let mut unread = ids.iter();
+    let _refused = graph.query_forward(&mut unread);
+    out.put_number(unread.len());
+    let mut unread = ids.iter();
+    let _refused = graph.query_reverse(&mut unread);
+    out.put_number(unread.len());
+    let mut unread = ids.iter();
+    let _refused = graph.resolve_ids(&mut unread);
+    out.put_number(unread.len());
+}
+
 /// Answers a question about a set of the graph.
 pub(super) fn ask_set(
     graph: &PackageGraph,
@@ -232,6 +248,10 @@ pub(super) fn ask_set(
     out: &mut Answer,
 ) -> Result<(), Error> {
     match (words, ids) {
+        (["unread", ..], [_, ids @ ..]) => {
+            put_unread(graph, ids, out);
+            Ok(())
+        }
         (["make", operation, ..], [_, _, a, b, c, d]) => combine(
             graph,
             operation,

@@ -319,6 +319,34 @@ fn put_at_paths(graph: &PackageGraph, paths: [&str; 2], out: &mut Answer) -> Res
     Ok(())
 }
 
+// How many of the texts each call leaves unread, taken as names and as paths.
+fn put_unread(graph: &PackageGraph, texts: [&str; 3], out: &mut Answer) {
+    let mut names = texts.into_iter();
+    let _refused = graph.workspace().members_by_names(&mut names);
+    out.put_number(names.len());
+    let mut names = texts.into_iter();
+    let _refused = graph.resolve_workspace_names(&mut names);
+    out.put_number(names.len());
+    let mut names = texts.into_iter();
+    let _refused = graph.query_workspace_names(&mut names);
+    out.put_number(names.len());
+    let [first, second, third] = texts;
+    let texts = [
+        Utf8Path::new(first),
+        Utf8Path::new(second),
+        Utf8Path::new(third),
+    ];
+    let mut paths = texts.into_iter();
+    let _refused = graph.workspace().members_by_paths(&mut paths);
+    out.put_number(paths.len());
+    let mut paths = texts.into_iter();
+    let _refused = graph.resolve_workspace_paths(&mut paths);
+    out.put_number(paths.len());
+    let mut paths = texts.into_iter();
+    let _refused = graph.query_workspace_paths(&mut paths);
+    out.put_number(paths.len());
+}
+
 // The member with the path, and the one with the name.
 fn put_member(graph: &PackageGraph, path: &str, name: &str, out: &mut Answer) -> Result<(), Error> {
     let by_path = graph.workspace().member_by_path(Utf8Path::new(path))?;
@@ -368,6 +396,7 @@ pub(super) fn ask_workspace(
             put_named(graph, question, [a, b, c], out)?;
         }
         ["at-paths", a, b] => put_at_paths(graph, [a, b], out)?,
+        ["unread", a, b, c] => put_unread(graph, [a, b, c], out),
         ["member", path, name] => put_member(graph, path, name, out)?,
         ["defaults"] => put_defaults(graph, out),
         [question @ ("has-path" | "metadata-table")] => {
@@ -402,6 +431,8 @@ unknown_members | no_member @a @b
     workspace at-paths a/. q = unknown workspace path: q
     workspace member q b = unknown workspace path: q
     workspace member a x = unknown workspace package name: x
+    workspace unread a x b = 1 1 1 1 1 1
+    workspace unread x a b = 2 2 2 2 2 2
 
 known_members | no_member @a @b
     workspace named b a b = 3

@@ -3,7 +3,7 @@ ghost use Rattle.std.specs.Prelude.{◌≡◌, ◌↔◌, ℕ, ◌<◌, Bool, Li
 ghost use Rattle.guppy_core.specs.IxSet.{IsIn};
 ghost use Rattle.guppy_core.specs.Reach.{LinkStep, ReachedFrom};
 ghost use Rattle.guppy_core.specs.Resolve.{JudgesResolve, AcceptsAll, Visits, IsCallableBelow};
-ghost use Rattle.guppy.specs.Visitors.{VisitsAt, CallsAt, MayCallAt};
+ghost use Rattle.guppy.specs.Visitors.{VisitsAt, MayVisitAt, CallsAt, MayCallAt};
 
 use crate::package_graph::{PackageLink, PackageLinkContext, PackageQuery, PackageSet};
 use crate::query::visitor::PackageLinkVisitor;
@@ -18,14 +18,15 @@ struct Asking<'v, 'a, 'g, V> {
 }
 
 impl<V: PackageLinkVisitor> LinkVisitor for Asking<'_, '_, '_, V> {
-    ghost use Rattle.std.specs.Prelude.{◌≡◌, ◌<◌, ◌∷◌, length};
-    ghost use Rattle.guppy.specs.Visitors.{VisitsAt};
+    ghost use Rattle.std.specs.Prelude.{◌≡◌, ℕ, ◌<◌, ◌∷◌, length};
+    ghost use Rattle.guppy.specs.Visitors.{VisitsAt, MayVisitAt};
 
-    ghost visits = { λ s n b t. VisitsAt V.visits s.context.now s.visitor.now n b t.visitor.now × (t.context ≡ s.context) };
+    ghost visits = { λ s n b t. VisitsAt V.visits s.context.now s.visitor.now n b t.visitor.now × (t.context ≡ s.context)
+        × ((m : ℕ) → (m ≡ n → ⊥) → MayVisitAt V.can_visit s.context.now s.visitor.now m → MayVisitAt V.can_visit s.context.now t.visitor.now m) };
 
     ghost place = { λ s. s.visitor.ghost_name ∷ V.place s.visitor.now };
 
-    ghost can_visit = { λ s n. n < length s.context.now.graph.links };
+    ghost can_visit = { λ s n. (n < length s.context.now.graph.links) × MayVisitAt V.can_visit s.context.now s.visitor.now n };
 
     fn visit(&mut self, link: usize) -> bool {
         let context = self.context;
@@ -44,15 +45,13 @@ struct AskingClosure<'f, 'a, 'g, F> {
 impl<'g, F: FnMut(&PackageLinkContext<'g>, PackageLink<'g>) -> bool> LinkVisitor
     for AskingClosure<'_, '_, 'g, F> {
     ghost use Rattle.std.specs.Prelude.{◌≡◌, ◌<◌, ◌∷◌, [], length};
-    ghost use Rattle.guppy_core.specs.Resolve.{IsCallableBelow};
     ghost use Rattle.guppy.specs.Visitors.{CallsAt, MayCallAt};
 
     ghost visits = { λ s n b t. CallsAt F.step s.context.now s.ask.now n b t.ask.now × (t.context ≡ s.context) };
 
     ghost place = { λ s. s.ask.ghost_name ∷ [] };
 
-    ghost can_visit = { λ s n. (n < length s.context.now.graph.links)
-        × IsCallableBelow (MayCallAt F.pre s.context.now) (CallsAt F.step s.context.now) (length s.context.now.graph.links) s.ask.now };
+    ghost can_visit = { λ s n. (n < length s.context.now.graph.links) × MayCallAt F.pre s.context.now s.ask.now n };
 
     fn visit(&mut self, link: usize) -> bool {
         let context = self.context;
@@ -81,6 +80,7 @@ impl<'g> PackageQuery<'g> {
     /// and a bit a package, and fails, with `OutOfMemory`, only where there is none.
     pub fn resolve(self) -> Result<PackageSet<'g>, Error>
         ensures graph { IfOk result (λ set. set.graph ≡ self.entry.graph) }
+        ensures count { IfOk result (λ set. length set.included ≡ length self.entry.graph.packages) }
         ensures judged { IfOk result (λ set. (trace : List (ℕ × Bool))
             × JudgesResolve self.entry.direction self.entry.graph.links self.entry.initials trace set.included × AcceptsAll trace) }
         ensures reached { IfOk result (λ set. (p : ℕ)
@@ -97,15 +97,18 @@ impl<'g> PackageQuery<'g> {
     /// exactly once, after that package was included, and no other link. Refusing a link doesn't
     /// keep out a package that is reached otherwise.
     ///
-    /// Time grows with the packages, and the links that leave the result. Takes memory for a number
-    /// and a bit a package, all of it before the first link is shown, and fails, with `OutOfMemory`,
-    /// only where there is none. What the visitor is like at the end is told by
+    /// The visitor may be shown each link of the graph; one whose `can_visit` is the default always
+    /// may. Time grows with the packages, and the links that leave the result. Takes memory for a number
+    /// and a bit a package, and fails, with `OutOfMemory`, only where there is none. What the visitor
+    /// is like at the end, also then, is told by
     /// [`resolve_with_mut`](PackageQuery::resolve_with_mut).
     pub fn resolve_with<V: PackageLinkVisitor + Drop>(
         self,
         mut visitor: V,
     ) -> Result<PackageSet<'g>, Error>
+        requires ready { (n : ℕ) → n < length self.graph.links → MayVisitAt V.can_visit self visitor n }
         ensures graph { IfOk result (λ set. set.graph ≡ self.entry.graph) }
+        ensures count { IfOk result (λ set. length set.included ≡ length self.entry.graph.packages) }
         ensures judged { IfOk result (λ set. (trace : List (ℕ × Bool)) × (last : V)
             × JudgesResolve self.entry.direction self.entry.graph.links self.entry.initials trace set.included
             × Visits (VisitsAt V.visits self.entry) visitor trace last) }
@@ -121,7 +124,9 @@ impl<'g> PackageQuery<'g> {
         self,
         visitor: &mut V,
     ) -> Result<PackageSet<'g>, Error>
+        requires ready { (n : ℕ) → n < length self.graph.links → MayVisitAt V.can_visit self visitor.old n }
         ensures graph { IfOk result (λ set. set.graph ≡ self.entry.graph) }
+        ensures count { IfOk result (λ set. length set.included ≡ length self.entry.graph.packages) }
         ensures judged { IfOk result (λ set. (trace : List (ℕ × Bool))
             × JudgesResolve self.entry.direction self.entry.graph.links self.entry.initials trace set.included
             × Visits (VisitsAt V.visits self.entry) visitor.old trace visitor.new) }
@@ -140,13 +145,14 @@ impl<'g> PackageQuery<'g> {
 
     /// As [`resolve_with`](PackageQuery::resolve_with), with a closure in the visitor's place. It is
     /// called with a context of this query and a link of its graph, and may be called with each such
-    /// link, also after any such calls.
+    /// link, also after calls with other links.
     pub fn resolve_with_fn<F: FnMut(&PackageLinkContext<'g>, PackageLink<'g>) -> bool>(
         self,
         mut ask: F,
     ) -> Result<PackageSet<'g>, Error>
         requires callable { IsCallableBelow (MayCallAt F.pre self) (CallsAt F.step self) (length self.graph.links) ask }
         ensures graph { IfOk result (λ set. set.graph ≡ self.entry.graph) }
+        ensures count { IfOk result (λ set. length set.included ≡ length self.entry.graph.packages) }
         ensures judged { IfOk result (λ set. (trace : List (ℕ × Bool)) × (last : F)
             × JudgesResolve self.entry.direction self.entry.graph.links self.entry.initials trace set.included
             × Visits (CallsAt F.step self.entry) ask trace last) }
@@ -164,6 +170,7 @@ impl<'g> PackageQuery<'g> {
     ) -> Result<PackageSet<'g>, Error>
         requires callable { IsCallableBelow (MayCallAt F.pre self) (CallsAt F.step self) (length self.graph.links) ask.old }
         ensures graph { IfOk result (λ set. set.graph ≡ self.entry.graph) }
+        ensures count { IfOk result (λ set. length set.included ≡ length self.entry.graph.packages) }
         ensures judged { IfOk result (λ set. (trace : List (ℕ × Bool))
             × JudgesResolve self.entry.direction self.entry.graph.links self.entry.initials trace set.included
             × Visits (CallsAt F.step self.entry) ask.old trace ask.new) }
@@ -186,8 +193,9 @@ fn resolve_by_number<'g, V: LinkVisitor>(
     context: &PackageLinkContext<'g>,
     visitor: &mut V,
 ) -> Result<PackageSet<'g>, Error>
-    requires ready { (n : ℕ) → n < length context.now.graph.links → V.can_visit visitor.old n }
+    requires ready { IsCallableBelow V.can_visit V.visits (length context.now.graph.links) visitor.old }
     ensures graph { IfOk result (λ set. set.graph ≡ context.now.graph) }
+    ensures count { IfOk result (λ set. length set.included ≡ length context.now.graph.packages) }
     ensures judged { IfOk result (λ set. (trace : List (ℕ × Bool))
         × JudgesResolve context.now.direction context.now.graph.links context.now.initials trace set.included
         × Visits V.visits visitor.old trace visitor.new) }

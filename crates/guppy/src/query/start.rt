@@ -4,7 +4,7 @@ ghost use Rattle.std.specs.Iterator.{IsFinite, Drains, Yields};
 ghost use Rattle.guppy_data.specs.Utf8Path.{path_text};
 ghost use Rattle.guppy.specs.Query.{IsNamedSet, IsSetNamed, IsSetWhere, initials_of};
 ghost use Rattle.guppy_graph.specs.Members.{HasPath, HasName, IsMember};
-ghost use Rattle.guppy_graph.specs.Refused.{NamesId, NamesPath, NamesName, IsFirstUnknown, IsFirstUnknownPath, IsFirstUnknownName};
+ghost use Rattle.guppy_graph.specs.Refused.{NamesId, NamesPath, NamesName, EndsInUnknown, EndsInUnknownPath, EndsInUnknownName};
 
 use crate::package_graph::{PackageGraph, PackageMetadata, PackageQuery, PackageSet};
 use guppy_core::DependencyDirection;
@@ -29,7 +29,7 @@ impl PackageGraph {
         ensures initials { IfOk result (λ q. (named : List _) × Drains I.next_gives ids named
             × IsNamedSet self.now.packages (map (λ id. id.now) named) q.initials) }
         ensures unknown { IfErr result (NamesId (λ id. (named : List _) × (rest : I) × Yields I.next_gives ids named rest
-            × IsFirstUnknown self.now.packages (map (λ id. id.now) named) id)) }
+            × EndsInUnknown self.now.packages (map (λ id. id.now) named) id)) }
     {
         let initials = self.resolve_ids(ids)?;
         Ok(PackageQuery {
@@ -55,7 +55,7 @@ impl PackageGraph {
         ensures initials { IfOk result (λ q. (named : List _) × Drains I.next_gives ids named
             × IsNamedSet self.now.packages (map (λ id. id.now) named) q.initials) }
         ensures unknown { IfErr result (NamesId (λ id. (named : List _) × (rest : I) × Yields I.next_gives ids named rest
-            × IsFirstUnknown self.now.packages (map (λ id. id.now) named) id)) }
+            × EndsInUnknown self.now.packages (map (λ id. id.now) named) id)) }
     {
         self.query_directed(ids, DependencyDirection::Forward)
     }
@@ -77,7 +77,7 @@ impl PackageGraph {
         ensures initials { IfOk result (λ q. (named : List _) × Drains I.next_gives ids named
             × IsNamedSet self.now.packages (map (λ id. id.now) named) q.initials) }
         ensures unknown { IfErr result (NamesId (λ id. (named : List _) × (rest : I) × Yields I.next_gives ids named rest
-            × IsFirstUnknown self.now.packages (map (λ id. id.now) named) id)) }
+            × EndsInUnknown self.now.packages (map (λ id. id.now) named) id)) }
     {
         self.query_directed(ids, DependencyDirection::Reverse)
     }
@@ -114,7 +114,7 @@ impl PackageGraph {
         ensures initials { IfOk result (λ q. (asked : List _) × Drains I.next_gives paths asked
             × IsSetNamed (HasPath self.now.packages) self.now.packages (map path_text asked) q.initials) }
         ensures unknown { IfErr result (NamesPath (λ path. (asked : List _) × (rest : I) × Yields I.next_gives paths asked rest
-            × IsFirstUnknownPath self.now.packages (map path_text asked) path)) }
+            × EndsInUnknownPath self.now.packages (map path_text asked) path)) }
     {
         let initials = self.resolve_workspace_paths(paths)?;
         Ok(forward_from(initials))
@@ -137,7 +137,7 @@ impl PackageGraph {
         ensures initials { IfOk result (λ q. (asked : List _) × Drains I.next_gives names asked
             × IsSetNamed (HasName self.now.packages) self.now.packages (map (λ name. name.now) asked) q.initials) }
         ensures unknown { IfErr result (NamesName (λ name. (asked : List _) × (rest : I) × Yields I.next_gives names asked rest
-            × IsFirstUnknownName self.now.packages (map (λ name. name.now) asked) name)) }
+            × EndsInUnknownName self.now.packages (map (λ name. name.now) asked) name)) }
     {
         let initials = self.resolve_workspace_names(names)?;
         Ok(forward_from(initials))

@@ -24,9 +24,9 @@ impl<'g> PackageSet<'g> {
     /// answers may change from call to call.
     ///
     /// The callback may be called with each of these packages, after such calls about those before it.
-    /// Time grows with the packages of the graph. Takes memory for a bit a package, all of it before
-    /// the first call, and fails, with `OutOfMemory`, only where there is none. What the callback is
-    /// like at the end is told by [`filter_mut`](PackageSet::filter_mut).
+    /// Time grows with the packages of the graph. Takes memory for a bit a package, and fails, with
+    /// `OutOfMemory`, only where there is none. What the callback is like at the end, also then, is
+    /// told by [`filter_mut`](PackageSet::filter_mut).
     pub fn filter<F: FnMut(PackageMetadata<'g>) -> bool>(
         &self,
         direction: DependencyDirection,
@@ -34,6 +34,7 @@ impl<'g> PackageSet<'g> {
     ) -> Result<PackageSet<'g>, Error>
         requires callable { IsAskable F.pre F.step self.now.graph (positions_listed direction self.now) callback }
         ensures graph { IfOk result (λ set. set.graph ≡ self.now.graph) }
+        ensures count { IfOk result (λ set. length set.included ≡ length self.now.graph.packages) }
         ensures asked { IfOk result (λ set. (answers : List (ℕ × Bool)) × (last : F)
             × (asked_about answers ≡ positions_listed direction self.now)
             × Answers F.step self.now.graph callback answers last
@@ -53,6 +54,7 @@ impl<'g> PackageSet<'g> {
     ) -> Result<PackageSet<'g>, Error>
         requires callable { IsAskable F.pre F.step self.now.graph (positions_listed direction self.now) callback.old }
         ensures graph { IfOk result (λ set. set.graph ≡ self.now.graph) }
+        ensures count { IfOk result (λ set. length set.included ≡ length self.now.graph.packages) }
         ensures asked { IfOk result (λ set. (answers : List (ℕ × Bool))
             × (asked_about answers ≡ positions_listed direction self.now)
             × Answers F.step self.now.graph callback.old answers callback.new
@@ -74,9 +76,9 @@ impl<'g> PackageSet<'g> {
     /// direction, and its answers may change from call to call.
     ///
     /// The callback may be called with each of these packages, after such calls about those before it.
-    /// Time grows with the packages of the graph. Takes memory for two bits a package, all of it
-    /// before the first call, and fails, with `OutOfMemory`, only where there is none. What the
-    /// callback is like at the end is told by [`partition_mut`](PackageSet::partition_mut).
+    /// Time grows with the packages of the graph. Takes memory for two bits a package, and fails, with
+    /// `OutOfMemory`, only where there is none. What the callback is like at the end, also then, is
+    /// told by [`partition_mut`](PackageSet::partition_mut).
     pub fn partition<F: FnMut(PackageMetadata<'g>) -> bool>(
         &self,
         direction: DependencyDirection,
@@ -85,6 +87,8 @@ impl<'g> PackageSet<'g> {
         requires callable { IsAskable F.pre F.step self.now.graph (positions_listed direction self.now) callback }
         ensures first_graph { IfOk result (λ halves. halves.0.graph ≡ self.now.graph) }
         ensures second_graph { IfOk result (λ halves. halves.1.graph ≡ self.now.graph) }
+        ensures first_count { IfOk result (λ halves. length halves.0.included ≡ length self.now.graph.packages) }
+        ensures second_count { IfOk result (λ halves. length halves.1.included ≡ length self.now.graph.packages) }
         ensures asked { IfOk result (λ halves. (answers : List (ℕ × Bool)) × (last : F)
             × (asked_about answers ≡ positions_listed direction self.now)
             × Answers F.step self.now.graph callback answers last
@@ -106,6 +110,8 @@ impl<'g> PackageSet<'g> {
         requires callable { IsAskable F.pre F.step self.now.graph (positions_listed direction self.now) callback.old }
         ensures first_graph { IfOk result (λ halves. halves.0.graph ≡ self.now.graph) }
         ensures second_graph { IfOk result (λ halves. halves.1.graph ≡ self.now.graph) }
+        ensures first_count { IfOk result (λ halves. length halves.0.included ≡ length self.now.graph.packages) }
+        ensures second_count { IfOk result (λ halves. length halves.1.included ≡ length self.now.graph.packages) }
         ensures asked { IfOk result (λ halves. (answers : List (ℕ × Bool))
             × (asked_about answers ≡ positions_listed direction self.now)
             × Answers F.step self.now.graph callback.old answers callback.new
@@ -131,10 +137,9 @@ impl<'g> PackageSet<'g> {
     /// `packages` lists them in that direction, and its answers may change from call to call.
     ///
     /// The callback may be called with each of these packages, after such calls about those before it.
-    /// Time grows with the packages of the graph. Takes memory for two bits a package, all of it
-    /// before the first call, and fails, with `OutOfMemory`, only where there is none. What the
-    /// callback is like at the end is told by
-    /// [`filter_partition_mut`](PackageSet::filter_partition_mut).
+    /// Time grows with the packages of the graph. Takes memory for two bits a package, and fails, with
+    /// `OutOfMemory`, only where there is none. What the callback is like at the end, also then, is
+    /// told by [`filter_partition_mut`](PackageSet::filter_partition_mut).
     pub fn filter_partition<F: FnMut(PackageMetadata<'g>) -> Option<bool>>(
         &self,
         direction: DependencyDirection,
@@ -143,6 +148,8 @@ impl<'g> PackageSet<'g> {
         requires callable { IsAskable F.pre F.step self.now.graph (positions_listed direction self.now) callback }
         ensures first_graph { IfOk result (λ halves. halves.0.graph ≡ self.now.graph) }
         ensures second_graph { IfOk result (λ halves. halves.1.graph ≡ self.now.graph) }
+        ensures first_count { IfOk result (λ halves. length halves.0.included ≡ length self.now.graph.packages) }
+        ensures second_count { IfOk result (λ halves. length halves.1.included ≡ length self.now.graph.packages) }
         ensures asked { IfOk result (λ halves. (answers : List (ℕ × Option Bool)) × (last : F)
             × (asked_about answers ≡ positions_listed direction self.now)
             × Answers F.step self.now.graph callback answers last
@@ -164,6 +171,8 @@ impl<'g> PackageSet<'g> {
         requires callable { IsAskable F.pre F.step self.now.graph (positions_listed direction self.now) callback.old }
         ensures first_graph { IfOk result (λ halves. halves.0.graph ≡ self.now.graph) }
         ensures second_graph { IfOk result (λ halves. halves.1.graph ≡ self.now.graph) }
+        ensures first_count { IfOk result (λ halves. length halves.0.included ≡ length self.now.graph.packages) }
+        ensures second_count { IfOk result (λ halves. length halves.1.included ≡ length self.now.graph.packages) }
         ensures asked { IfOk result (λ halves. (answers : List (ℕ × Option Bool))
             × (asked_about answers ≡ positions_listed direction self.now)
             × Answers F.step self.now.graph callback.old answers callback.new

@@ -1,6 +1,7 @@
 //! Laws on sets of packages, each stated by the contract of a function.
-ghost use Rattle.std.specs.Prelude.{List, Bool};
+ghost use Rattle.std.specs.Prelude.{◌≡◌, List, Bool, length};
 ghost use Rattle.guppy_search.specs.declared.ix.direction.DependencyDirection.{DependencyDirection};
+ghost use Rattle.guppy_core.specs.IxSet.{IsUnion};
 ghost use Rattle.guppy_core.specs.Reach.{IsPlainResolve};
 ghost use Rattle.guppy.specs.Query.{SetData};
 ghost use Rattle.guppy.specs.Walked.{IsWhole};
@@ -15,3 +16,8 @@ pub fn resolved_sets_are_whole()
 {
     plain_resolve_holds_components::<Packages>();
 }
+
+/// The union of two sets is one set from either side, since both are of as many packages.
+pub fn union_commutes()
+    ensures { (a b x y : List Bool) → IsUnion a b x → IsUnion b a y → length x ≡ length y → x ≡ y }
+{}

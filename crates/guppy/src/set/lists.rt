@@ -1,5 +1,6 @@
-ghost use Rattle.std.specs.Prelude.{◌≡◌, ◌<◌, All, length};
-ghost use Rattle.guppy_core.specs.IxSet.{member_count};
+ghost use Rattle.std.specs.Prelude.{◌≡◌, ◌↔◌, ℕ, ◌<◌, All, length};
+ghost use Rattle.guppy_core.specs.IxSet.{IsIn, member_count};
+ghost use Rattle.guppy_core.specs.Listing.{Stands, IsOnce};
 
 use crate::package_graph::{PackageGraph, PackageMetadata, PackageSet, Packages};
 use guppy_core::{DependencyDirection, IndexType, Topo};
@@ -20,8 +21,8 @@ impl<'g> PackageSet<'g> {
         }
     }
 
-    /// The packages of the set. The list of all packages, of which this one leaves out what is not
-    /// in the set, belongs to the graph and never changes:
+    /// The packages of the set, each once. The list of all packages, of which this one leaves out what
+    /// is not in the set, belongs to the graph and never changes:
     ///
     /// - packages that depend on each other stand together, in a topological order by the links that
     ///   aren't dev-only;
@@ -32,6 +33,8 @@ impl<'g> PackageSet<'g> {
     /// Reverse gives that list from its end. Takes no memory.
     pub fn packages(&self, direction: DependencyDirection) -> ListedPackages<'_, 'g>
         ensures left { packages_to_come result ≡ packages_listed direction self.now }
+        ensures members { (p : ℕ) → Stands (positions_listed direction self.now) p ↔ IsIn self.now.included p }
+        ensures once { IsOnce (positions_listed direction self.now) }
         ensures count { length (packages_to_come result) ≡ member_count self.now.included }
         ensures ordered { IsOrdered (length self.now.graph.packages) self.now.graph.links self.now.graph.index self.now.graph.components }
     {

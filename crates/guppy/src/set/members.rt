@@ -5,7 +5,7 @@ ghost use Rattle.guppy_data.specs.Utf8Path.{path_text};
 ghost use Rattle.guppy.specs.Query.{IsSetNamed, IsSetWhere};
 ghost use Rattle.guppy_graph.specs.Members.{HasPath, HasName, IsMember, AreMembersByPath};
 ghost use Rattle.guppy_graph.specs.Ids.{ix_position};
-ghost use Rattle.guppy_graph.specs.Refused.{NamesPath, NamesName, IsFirstUnknownPath, IsFirstUnknownName};
+ghost use Rattle.guppy_graph.specs.Refused.{NamesPath, NamesName, EndsInUnknownPath, EndsInUnknownName};
 
 use crate::package_graph::{PackageGraph, PackageSet};
 use guppy_core::{IndexType, PackageIx};
@@ -42,7 +42,7 @@ impl PackageGraph {
         ensures members { IfOk result (λ set. (asked : List _) × Drains I.next_gives paths asked
             × IsSetNamed (HasPath self.now.packages) self.now.packages (map path_text asked) set.included) }
         ensures unknown { IfErr result (NamesPath (λ path. (asked : List _) × (rest : I) × Yields I.next_gives paths asked rest
-            × IsFirstUnknownPath self.now.packages (map path_text asked) path)) }
+            × EndsInUnknownPath self.now.packages (map path_text asked) path)) }
     {
         let ixs = self.ixs_of_paths(paths)?;
         let set = self.set_of(ixs)?;
@@ -64,7 +64,7 @@ impl PackageGraph {
         ensures members { IfOk result (λ set. (asked : List _) × Drains I.next_gives names asked
             × IsSetNamed (HasName self.now.packages) self.now.packages (map (λ name. name.now) asked) set.included) }
         ensures unknown { IfErr result (NamesName (λ name. (asked : List _) × (rest : I) × Yields I.next_gives names asked rest
-            × IsFirstUnknownName self.now.packages (map (λ name. name.now) asked) name)) }
+            × EndsInUnknownName self.now.packages (map (λ name. name.now) asked) name)) }
     {
         let ixs = self.ixs_of_names(names)?;
         let set = self.set_of(ixs)?;

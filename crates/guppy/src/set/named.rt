@@ -7,7 +7,7 @@ ghost use Rattle.guppy.specs.Query.{AreNamed, IsNamedSet, IsSetWhere};
 ghost use Rattle.guppy_graph.specs.Ids.{ix_position};
 ghost use Rattle.guppy_graph.specs.Graph.{IsPackageGraph};
 ghost use Rattle.guppy.specs.PackageNames.{HasPackageName};
-ghost use Rattle.guppy_graph.specs.Refused.{NamesId, IsFirstUnknown};
+ghost use Rattle.guppy_graph.specs.Refused.{NamesId, EndsInUnknown};
 
 use crate::package_graph::{PackageGraph, PackageMetadata, PackageSet};
 use guppy_core::{IndexType, PackageIx, ResolveCore};
@@ -56,7 +56,7 @@ impl PackageGraph {
         ensures members { IfOk result (λ set. (named : List _) × Drains I.next_gives ids named
             × IsNamedSet self.now.packages (map (λ id. id.now) named) set.included) }
         ensures unknown { IfErr result (NamesId (λ id. (named : List _) × (rest : I) × Yields I.next_gives ids named rest
-            × IsFirstUnknown self.now.packages (map (λ id. id.now) named) id)) }
+            × EndsInUnknown self.now.packages (map (λ id. id.now) named) id)) }
     {
         let ixs = self.ixs_of(ids)?;
         let set = self.set_of(ixs)?;
@@ -87,7 +87,7 @@ impl PackageGraph {
         ensures named { IfOk result (λ ixs. (named : List _) × Drains I.next_gives ids named
             × AreNamed self.now.packages (map (λ id. id.now) named) (map ix_position ixs.items)) }
         ensures unknown { IfErr result (NamesId (λ id. (named : List _) × (rest : I) × Yields I.next_gives ids named rest
-            × IsFirstUnknown self.now.packages (map (λ id. id.now) named) id)) }
+            × EndsInUnknown self.now.packages (map (λ id. id.now) named) id)) }
     {
         let mut ixs = Vec::new(self.alloc());
         for id in ids {

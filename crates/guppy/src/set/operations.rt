@@ -1,5 +1,5 @@
 //! Sets made of two sets.
-ghost use Rattle.std.specs.Prelude.{◌≡◌, IfOk, IsOkUnless};
+ghost use Rattle.std.specs.Prelude.{◌≡◌, length, IfOk, IsOkUnless};
 ghost use Rattle.guppy_core.specs.IxSet.{IsUnion, IsIntersection, IsDifference, IsSymmetricDifference};
 ghost use Rattle.guppy_graph.specs.Ids.{ids_of};
 
@@ -17,6 +17,7 @@ impl<'g> PackageSet<'g> {
     pub fn union(&self, other: &PackageSet<'_>) -> Result<PackageSet<'g>, Error>
         requires same_packages { ids_of self.now.graph.packages ≡ ids_of other.now.graph.packages }
         ensures graph { IfOk result (λ set. set.graph ≡ self.now.graph) }
+        ensures count { IfOk result (λ set. length set.included ≡ length self.now.graph.packages) }
         ensures members { IfOk result (λ set. IsUnion self.now.included other.now.included set.included) }
         ensures error { IsOkUnless result Error.OutOfMemory }
     {
@@ -32,6 +33,7 @@ impl<'g> PackageSet<'g> {
     pub fn intersection(&self, other: &PackageSet<'_>) -> Result<PackageSet<'g>, Error>
         requires same_packages { ids_of self.now.graph.packages ≡ ids_of other.now.graph.packages }
         ensures graph { IfOk result (λ set. set.graph ≡ self.now.graph) }
+        ensures count { IfOk result (λ set. length set.included ≡ length self.now.graph.packages) }
         ensures members { IfOk result (λ set. IsIntersection self.now.included other.now.included set.included) }
         ensures error { IsOkUnless result Error.OutOfMemory }
     {
@@ -47,6 +49,7 @@ impl<'g> PackageSet<'g> {
     pub fn difference(&self, other: &PackageSet<'_>) -> Result<PackageSet<'g>, Error>
         requires same_packages { ids_of self.now.graph.packages ≡ ids_of other.now.graph.packages }
         ensures graph { IfOk result (λ set. set.graph ≡ self.now.graph) }
+        ensures count { IfOk result (λ set. length set.included ≡ length self.now.graph.packages) }
         ensures members { IfOk result (λ set. IsDifference self.now.included other.now.included set.included) }
         ensures error { IsOkUnless result Error.OutOfMemory }
     {
@@ -61,6 +64,7 @@ impl<'g> PackageSet<'g> {
     pub fn symmetric_difference(&self, other: &PackageSet<'_>) -> Result<PackageSet<'g>, Error>
         requires same_packages { ids_of self.now.graph.packages ≡ ids_of other.now.graph.packages }
         ensures graph { IfOk result (λ set. set.graph ≡ self.now.graph) }
+        ensures count { IfOk result (λ set. length set.included ≡ length self.now.graph.packages) }
         ensures members { IfOk result (λ set. IsSymmetricDifference self.now.included other.now.included set.included) }
         ensures error { IsOkUnless result Error.OutOfMemory }
     {

@@ -5,7 +5,7 @@ ghost use Rattle.std.specs.Iterator.{IsFinite, Drains, Yields};
 ghost use Rattle.guppy_data.specs.Utf8Path.{path_text};
 ghost use Rattle.guppy_graph.specs.Ids.{ix_position};
 ghost use Rattle.guppy_graph.specs.Members.{HasPath, HasName, IsMemberPath, IsMemberName};
-ghost use Rattle.guppy_graph.specs.Refused.{NamesPath, NamesName, IsFirstUnknownPath, IsFirstUnknownName};
+ghost use Rattle.guppy_graph.specs.Refused.{NamesPath, NamesName, IsFirstUnknownPath, IsFirstUnknownName, EndsInUnknownPath, EndsInUnknownName};
 
 use crate::package_graph::{PackageGraph, PackageMetadata, Workspace};
 use guppy_core::{IndexType, PackageIx};
@@ -59,7 +59,7 @@ impl<'g> Workspace<'g> {
         ensures found { IfOk result (λ members. (asked : List _) × Drains I.next_gives paths asked
             × AllZip (λ path m. (m.graph ≡ self.entry.graph) × HasPath self.entry.graph.now.packages path m.position) (map path_text asked) members.items) }
         ensures unknown { IfErr result (NamesPath (λ path. (asked : List _) × (rest : I) × Yields I.next_gives paths asked rest
-            × IsFirstUnknownPath self.entry.graph.now.packages (map path_text asked) path)) }
+            × EndsInUnknownPath self.entry.graph.now.packages (map path_text asked) path)) }
     {
         let ixs = self.graph.ixs_of_paths(paths)?;
         Ok(self.members_at(ixs.as_slice())?)
@@ -79,7 +79,7 @@ impl<'g> Workspace<'g> {
         ensures found { IfOk result (λ members. (asked : List _) × Drains I.next_gives names asked
             × AllZip (λ name m. (m.graph ≡ self.entry.graph) × HasName self.entry.graph.now.packages name m.position) (map (λ name. name.now) asked) members.items) }
         ensures unknown { IfErr result (NamesName (λ name. (asked : List _) × (rest : I) × Yields I.next_gives names asked rest
-            × IsFirstUnknownName self.entry.graph.now.packages (map (λ name. name.now) asked) name)) }
+            × EndsInUnknownName self.entry.graph.now.packages (map (λ name. name.now) asked) name)) }
     {
         let ixs = self.graph.ixs_of_names(names)?;
         Ok(self.members_at(ixs.as_slice())?)
@@ -142,7 +142,7 @@ impl PackageGraph {
         ensures found { IfOk result (λ ixs. (asked : List _) × Drains I.next_gives paths asked
             × AllZip (HasPath self.now.packages) (map path_text asked) (map ix_position ixs.items)) }
         ensures unknown { IfErr result (NamesPath (λ path. (asked : List _) × (rest : I) × Yields I.next_gives paths asked rest
-            × IsFirstUnknownPath self.now.packages (map path_text asked) path)) }
+            × EndsInUnknownPath self.now.packages (map path_text asked) path)) }
     {
         let mut ixs = Vec::new(self.alloc());
         for path in paths {
@@ -161,7 +161,7 @@ impl PackageGraph {
         ensures found { IfOk result (λ ixs. (asked : List _) × Drains I.next_gives names asked
             × AllZip (HasName self.now.packages) (map (λ name. name.now) asked) (map ix_position ixs.items)) }
         ensures unknown { IfErr result (NamesName (λ name. (asked : List _) × (rest : I) × Yields I.next_gives names asked rest
-            × IsFirstUnknownName self.now.packages (map (λ name. name.now) asked) name)) }
+            × EndsInUnknownName self.now.packages (map (λ name. name.now) asked) name)) }
     {
         let mut ixs = Vec::new(self.alloc());
         for name in names {

@@ -1,8 +1,8 @@
-ghost use Rattle.std.specs.Prelude.{◌≡◌, ◌<◌, All, length};
+ghost use Rattle.std.specs.Prelude.{◌≡◌, ◌↔◌, ℕ, ◌<◌, All, length};
 ghost use Rattle.std.specs.List.{concat, filter};
 ghost use Rattle.std.specs.Iterator.{YieldsFirstBy};
-ghost use Rattle.guppy_search.specs.IxSet.{has, member_count};
-ghost use Rattle.guppy_core.specs.Listing.{IsListing};
+ghost use Rattle.guppy_search.specs.IxSet.{has, IsIn, member_count};
+ghost use Rattle.guppy_core.specs.Listing.{Stands, IsOnce};
 ghost use Rattle.guppy_core.specs.Sccs.{listed};
 
 use crate::scc::{NodeIter, Sccs};
@@ -32,15 +32,17 @@ impl<'s, G: GraphSpec> Model for Topo<'s, G> {
 }
 
 impl<'s, G: GraphSpec> Topo<'s, G> {
-    /// The positions of the set: Forward in the order of the components, Reverse that list from its
-    /// end. The set is of as many positions as the components. Takes no memory.
+    /// The positions of the set, each once: Forward in the order of the components, Reverse that list
+    /// from its end. The components are of as many nodes as the set. Takes no memory.
     pub fn new(
         included: &'s IxSet<G>,
         sccs: &'s Sccs<G::Ix>,
         direction: DependencyDirection,
     ) -> Self
-        requires { IsListing (length included.now) (concat sccs.now) }
+        requires { length included.now ≡ length (concat sccs.now) }
         ensures left { result ≡ listed direction (filter (has included.now) (concat sccs.now)) }
+        ensures members { (p : ℕ) → Stands result p ↔ IsIn included.now p }
+        ensures once { IsOnce result }
         ensures count { length result ≡ member_count included.now }
         ensures below { All (λ p. p < length included.now) result }
     {

@@ -2,6 +2,7 @@ ghost use Rattle.std.specs.Prelude.{◌≡◌, ◌↔◌, ℕ, ◌+◌, ◌*◌,
 ghost use Rattle.std.specs.List.{concat};
 ghost use Rattle.guppy_search.specs.declared.ix.direction.DependencyDirection.TheVariants.{Forward};
 ghost use Rattle.guppy_search.specs.Reach.{LinkStep, Step, MutualReach};
+ghost use Rattle.guppy_core.specs.Listing.{IsListing};
 ghost use Rattle.guppy_core.specs.Topo.{LeadsOn};
 ghost use Rattle.guppy_core.specs.Sccs.{AreSccs, InOneBlock, InLargeBlock, listed};
 ghost use Rattle.guppy_core.specs.Order.{IsOrder};
@@ -28,8 +29,9 @@ pub struct Sccs<Ix: IndexType> {
 }
 
 impl<Ix: IndexType> Model for Sccs<Ix> {
-    ghost use Rattle.std.specs.Prelude.{List, ℕ, ◌≡◌, map};
+    ghost use Rattle.std.specs.Prelude.{List, ℕ, ◌≡◌, length, map};
     ghost use Rattle.std.specs.List.{concat};
+    ghost use Rattle.guppy_core.specs.Listing.{IsListing};
     ghost use Rattle.guppy_core.specs.Sccs.{parts, IsCut, AreNumbered};
 
     ghost Value = { List (List ℕ) };
@@ -38,7 +40,8 @@ impl<Ix: IndexType> Model for Sccs<Ix> {
 
     ghost invariant = { λ s. (concat (parts s.bounds.items (map Ix.index_of s.positions.items)) ≡ map Ix.index_of s.positions.items)
         × IsCut (map Ix.index_of s.positions.items) s.bounds.items
-        × AreNumbered (parts s.bounds.items (map Ix.index_of s.positions.items)) s.numbers.items };
+        × AreNumbered (parts s.bounds.items (map Ix.index_of s.positions.items)) s.numbers.items
+        × IsListing (length s.numbers.items) (map Ix.index_of s.positions.items) };
 }
 
 impl<Ix: IndexType> Sccs<Ix> {
@@ -129,6 +132,7 @@ impl<Ix: IndexType> Sccs<Ix> {
     pub fn node_iter(&self, direction: DependencyDirection) -> NodeIter<'_, Ix>
         ensures direction { result.direction ≡ direction }
         ensures left { result.left ≡ listed direction (concat self.now) }
+        ensures listing { IsListing (length (concat self.now)) (concat self.now) }
     {
         NodeIter {
             left: self.positions.as_slice(),

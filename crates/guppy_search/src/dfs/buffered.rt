@@ -2,8 +2,8 @@ ghost use Rattle.std.specs.Prelude.{◌≡◌, ◌⊎◌, ℕ, ◌+◌, ◌<◌,
 ghost use Rattle.guppy_search.specs.Graph.{IsGraph};
 ghost use Rattle.guppy_search.specs.IxSet.{member_count, positions_in};
 ghost use Rattle.guppy_search.specs.Links.{links_at};
-ghost use Rattle.guppy_search.specs.Buffered.{Question, Adds, Answers, Asks, EndsInError, JudgesBuffered};
-ghost use Rattle.guppy_search.specs.Buffering.{Takes, Stops};
+ghost use Rattle.guppy_search.specs.Buffered.{Question, Adds, Answers, Asks, IsAskable, EndsInError, JudgesBuffered};
+ghost use Rattle.guppy_search.specs.Buffering.{Takes, Stops, MayAskOn};
 
 use crate::dfs::filter::BufferedEdgeFilter;
 use crate::dfs::search::include;
@@ -19,10 +19,11 @@ use std::alloc::AllocError;
 /// end in the direction, whatever its other end is, and may be handed back any number of times. An
 /// error that it answers ends the search at once.
 ///
-/// The initial ones are a set of the graph's positions, and the filter may be asked about the graph.
-/// Time grows with the nodes, the links that leave the result, and the links handed back. Takes
-/// memory for the set and a number a node, all of it before the first question; `AllocError` comes
-/// where there is none, and where the filter answers it.
+/// The initial ones are a set of the graph's positions, and the filter may be asked about each of the
+/// graph's positions and links, also after other questions. Time grows with the nodes, the links that
+/// leave the result, and the links handed back. Takes memory for the set and a number a node.
+/// `AllocError` comes where there is none, and where the filter answers it; what the filter is like
+/// then is told by [`reachable_buffered_mut`].
 pub fn reachable_buffered<G: GraphSpec, T: BufferedEdgeFilter<G> + Drop>(
     graph: &Graph<G>,
     initials: &IxSet<G>,
@@ -30,7 +31,7 @@ pub fn reachable_buffered<G: GraphSpec, T: BufferedEdgeFilter<G> + Drop>(
     mut filter: T,
 ) -> Result<IxSet<G>, AllocError>
     requires count { length initials.now ≡ length graph.now.nodes }
-    requires ready { T.can_ask graph.now filter }
+    requires ready { IsAskable (T.can_discover graph.now) (T.can_filter graph.now) (Answers (T.discovers graph.now) (T.filters graph.now)) (length graph.now.nodes) (length graph.now.links) filter }
     ensures count { IfOk result (λ set. length set ≡ length graph.now.nodes) }
     ensures judged { IfOk result (λ set. (trace : List (Question × List ℕ)) × (last : T)
         × JudgesBuffered direction graph.now.links initials.now trace set
@@ -51,14 +52,13 @@ pub fn reachable_buffered_mut<G: GraphSpec, T: BufferedEdgeFilter<G>>(
     filter: &mut T,
 ) -> Result<IxSet<G>, AllocError>
     requires count { length initials.now ≡ length graph.now.nodes }
-    requires ready { T.can_ask graph.now filter.old }
+    requires ready { IsAskable (T.can_discover graph.now) (T.can_filter graph.now) (Answers (T.discovers graph.now) (T.filters graph.now)) (length graph.now.nodes) (length graph.now.links) filter.old }
     ensures count { IfOk result (λ set. length set ≡ length graph.now.nodes) }
     ensures judged { IfOk result (λ set. (trace : List (Question × List ℕ))
         × JudgesBuffered direction graph.now.links initials.now trace set
         × Asks (Answers (T.discovers graph.now) (T.filters graph.now)) filter.old trace filter.new) }
     ensures refused { OnErr result ((filter.new ≡ filter.old)
         ⊎ EndsInError (Answers (T.discovers graph.now) (T.filters graph.now)) direction graph.now.links initials.now filter.old filter.new) }
-    ensures ready { OnOk result (T.can_ask graph.now filter.new) }
     ensures same_place { T.place filter.new ≡ T.place filter.old }
 {
     let mut set = initials.clone()?;
@@ -81,7 +81,7 @@ fn search<G: GraphSpec, T: BufferedEdgeFilter<G>>(
 ) -> Result<(), AllocError>
     requires graph { IsGraph graph.now }
     requires count { length set.old ≡ length graph.now.nodes }
-    requires ready { T.can_ask graph.now filter.old }
+    requires ready { IsAskable (T.can_discover graph.now) (T.can_filter graph.now) (Answers (T.discovers graph.now) (T.filters graph.now)) (length graph.now.nodes) (length graph.now.links) filter.old }
     requires waiting { waiting.old.items ≡ positions_in set.old }
     requires room { length graph.now.nodes ≤ vec_capacity waiting.old }
     ensures count { length set.new ≡ length graph.now.nodes }
@@ -89,7 +89,6 @@ fn search<G: GraphSpec, T: BufferedEdgeFilter<G>>(
         × JudgesBuffered direction graph.now.links set.old trace set.new
         × Asks (Answers (T.discovers graph.now) (T.filters graph.now)) filter.old trace filter.new) }
     ensures refused { OnErr result (EndsInError (Answers (T.discovers graph.now) (T.filters graph.now)) direction graph.now.links set.old filter.old filter.new) }
-    ensures ready { OnOk result (T.can_ask graph.now filter.new) }
     ensures same_place { T.place filter.new ≡ T.place filter.old }
 {
     'positions: while let Some(position) = waiting.pop() {
@@ -111,14 +110,13 @@ fn ask_links<G: GraphSpec, T: BufferedEdgeFilter<G>>(
 ) -> Result<(), AllocError>
     requires position { position < length graph.now.nodes }
     requires count { length set.old ≡ length graph.now.nodes }
-    requires ready { T.can_ask graph.now filter.old }
+    requires ready { MayAskOn (T.can_filter graph.now) (Answers (T.discovers graph.now) (T.filters graph.now)) direction graph.now.links set.old waiting.old.items (links_at direction graph.now.links position) filter.old }
     requires room { length waiting.old.items + length set.old ≤ vec_capacity waiting.old + member_count set.old }
     ensures count { length set.new ≡ length graph.now.nodes }
     ensures asked { OnOk result ((asked : List (Question × List ℕ))
         × Asks (Answers (T.discovers graph.now) (T.filters graph.now)) filter.old asked filter.new
         × Takes direction graph.now.links asked set.old waiting.old.items (links_at direction graph.now.links position) set.new waiting.new.items []) }
     ensures refused { OnErr result (Stops (Answers (T.discovers graph.now) (T.filters graph.now)) direction graph.now.links set.old waiting.old.items (links_at direction graph.now.links position) filter.old filter.new) }
-    ensures ready { OnOk result (T.can_ask graph.now filter.new) }
     ensures same_place { T.place filter.new ≡ T.place filter.old }
     ensures balance { length waiting.new.items + member_count set.old ≡ length waiting.old.items + member_count set.new }
     ensures capacity { vec_capacity waiting.new ≡ vec_capacity waiting.old }

@@ -1,4 +1,4 @@
-ghost use Rattle.std.specs.Prelude.{◌≡◌, ⊤, ℕ, ◌<◌, Bool, List, [], ◌∷◌, length, Option, Some, None, All, IfOk, OnOk, OnErr};
+ghost use Rattle.std.specs.Prelude.{◌≡◌, ⊤, ℕ, ◌<◌, Bool, List, [], ◌∷◌, length, Option, Some, None, All, IfOk, OnErr};
 ghost use Rattle.guppy_search.specs.Graph.{GraphValue};
 
 use crate::graph_core::Graph;
@@ -21,29 +21,30 @@ pub trait BufferedEdgeFilter<G: GraphSpec> {
     // Which references the filter is, from the outside in; none for a value.
     ghost place: { Self → List ℕ } = { λ _. [] };
 
-    // Holds of a graph and a state that may be asked about it; by default each may.
-    ghost can_ask: { GraphValue G.Node G.Edge → Self → Type 0 } = { λ _ _. ⊤ };
+    // Holds of a graph, a state and a link that may be asked about there; by default each may.
+    ghost can_filter: { GraphValue G.Node G.Edge → Self → ℕ → Type 0 } = { λ _ _ _. ⊤ };
+
+    // The same of a position.
+    ghost can_discover: { GraphValue G.Node G.Edge → Self → ℕ → Type 0 } = { λ _ _ _. ⊤ };
 
     /// The links to follow, each below the link count, when the search comes to the link, which is
     /// below the link count too.
     fn filter(&mut self, graph: &Graph<G>, link: usize) -> Result<Vec<usize>, AllocError>
         requires link { link < length graph.now.links }
-        requires ready { can_ask graph.now self.old }
+        requires ready { can_filter graph.now self.old link }
         ensures filters { IfOk result (λ handed. filters graph.now self.old link (Some handed.items) self.new) }
         ensures error { OnErr result (filters graph.now self.old link None self.new) }
         ensures links { IfOk result (λ handed. All (λ n. n < length graph.now.links) handed.items) }
-        ensures again { OnOk result (can_ask graph.now self.new) }
         ensures same_place { place self.new ≡ place self.old };
 
     /// The links to follow, each below the link count, when the search comes to the position, which
     /// is below the node count.
     fn discover(&mut self, graph: &Graph<G>, node: G::Ix) -> Result<Vec<usize>, AllocError>
         requires node { G.Ix.index_of node < length graph.now.nodes }
-        requires ready { can_ask graph.now self.old }
+        requires ready { can_discover graph.now self.old (G.Ix.index_of node) }
         ensures discovers { IfOk result (λ handed. discovers graph.now self.old (G.Ix.index_of node) (Some handed.items) self.new) }
         ensures error { OnErr result (discovers graph.now self.old (G.Ix.index_of node) None self.new) }
         ensures links { IfOk result (λ handed. All (λ n. n < length graph.now.links) handed.items) }
-        ensures again { OnOk result (can_ask graph.now self.new) }
         ensures same_place { place self.new ≡ place self.old };
 }
 
@@ -54,7 +55,9 @@ impl<G: GraphSpec, T: BufferedEdgeFilter<G>> BufferedEdgeFilter<G> for &mut T {
 
     ghost place = { λ s. s.ghost_name ∷ T.place s.now };
 
-    ghost can_ask = { λ g s. T.can_ask g s.now };
+    ghost can_filter = { λ g s n. T.can_filter g s.now n };
+
+    ghost can_discover = { λ g s p. T.can_discover g s.now p };
 
     fn filter(&mut self, graph: &Graph<G>, link: usize) -> Result<Vec<usize>, AllocError> {
         (**self).filter(graph, link)
@@ -95,21 +98,20 @@ impl<H, F: FnMut(&H, usize) -> bool> EdgeFilterFn<H> for F {
 
 /// A filter that follows the links for which the closure answers true, and hands back no other.
 ///
-/// The closure is called with the graph and the number of a link. It takes every link number of the
-/// graph, also after earlier calls. A link that is handed back takes memory for a list of one number.
+/// The closure is called with the graph and the number of a link. A link that is handed back takes
+/// memory for a list of one number.
 #[derive(Drop)]
 pub struct SimpleEdgeFilterFn<F>(pub F);
 
 impl<G: GraphSpec, F: EdgeFilterFn<Graph<G>>> BufferedEdgeFilter<G> for SimpleEdgeFilterFn<F> {
-    ghost use Rattle.std.specs.Prelude.{◌≡◌, [], length, Some};
-    ghost use Rattle.guppy_search.specs.Resolve.{IsCallableBelow};
+    ghost use Rattle.std.specs.Prelude.{◌≡◌, [], Some};
     ghost use Rattle.guppy_search.specs.Buffered.{HandsBackIf};
 
     ghost filters = { λ g s n answer t. HandsBackIf (F.answers g) s.0 n answer t.0 };
 
     ghost discovers = { λ _ s _ answer t. (answer ≡ Some []) × (t ≡ s) };
 
-    ghost can_ask = { λ g s. IsCallableBelow (F.can_answer g) (F.answers g) (length g.links) s.0 };
+    ghost can_filter = { λ g s n. F.can_answer g s.0 n };
 
     fn filter(&mut self, graph: &Graph<G>, link: usize) -> Result<Vec<usize>, AllocError> {
         let mut links = Vec::new(graph.alloc());

@@ -7,22 +7,20 @@ use crate::graph_core::Graph;
 use crate::ix::{DependencyDirection, GraphSpec, IxSet};
 use std::alloc::AllocError;
 
-// A closure as a visitor, which may be asked about the numbers below the link count.
+// A closure as a visitor.
 #[derive(Drop)]
 struct Asking<'f, F> {
     filter: &'f mut F,
-    link_count: usize,
 }
 
 impl<F: FnMut(usize) -> bool> LinkVisitor for Asking<'_, F> {
-    ghost use Rattle.std.specs.Prelude.{◌≡◌, ◌<◌, ◌∷◌, []};
-    ghost use Rattle.guppy_search.specs.Resolve.{IsCallableBelow};
+    ghost use Rattle.std.specs.Prelude.{◌∷◌, []};
 
-    ghost visits = { λ s n b t. F.step s.filter.now n b t.filter.now × (t.link_count ≡ s.link_count) };
+    ghost visits = { λ s n b t. F.step s.filter.now n b t.filter.now };
 
     ghost place = { λ s. s.filter.ghost_name ∷ [] };
 
-    ghost can_visit = { λ s n. (n < s.link_count) × IsCallableBelow F.pre F.step s.link_count s.filter.now };
+    ghost can_visit = { λ s n. F.pre s.filter.now n };
 
     fn visit(&mut self, link: usize) -> bool {
         (self.filter)(link)
@@ -34,9 +32,9 @@ impl<F: FnMut(usize) -> bool> LinkVisitor for Asking<'_, F> {
 /// these positions, after that position was included, and for no other link.
 ///
 /// The initial ones are a set of the graph's positions, and the filter takes every link number, also
-/// after earlier calls. Time grows with the nodes and the links that leave the result. Takes memory
-/// for the set and a number a node, all of it before the first call: where there is none, the filter
-/// was not called.
+/// after calls with other numbers. Time grows with the nodes and the links that leave the result.
+/// Takes memory for the set and a number a node, and fails only where there is none. What the filter
+/// is like then is told by [`reachable_with_fn`].
 pub fn reachable_filtered<G: GraphSpec, F: FnMut(usize) -> bool>(
     graph: &Graph<G>,
     initials: &IxSet<G>,
@@ -70,10 +68,7 @@ pub fn reachable_with_fn<G: GraphSpec, F: FnMut(usize) -> bool>(
         × Visits F.step filter.old trace filter.new) }
     ensures not_called { OnErr result (filter.new ≡ filter.old) }
 {
-    let mut asking = Asking {
-        filter,
-        link_count: graph.link_count(),
-    };
+    let mut asking = Asking { filter };
     let set = reachable_with(graph, initials, direction, &mut asking)?;
     Ok(set)
 }

@@ -1,5 +1,5 @@
 ghost use Rattle.std.specs.Prelude.{◌≡◌, ℕ, ◌<◌, ◌≤◌, [], length, IfOk, vec_capacity};
-ghost use Rattle.guppy_search.specs.Resolve.{JudgesResolve, Visits};
+ghost use Rattle.guppy_search.specs.Resolve.{JudgesResolve, Visits, IsCallableBelow};
 
 use crate::dfs::search::reachable_with;
 use crate::dfs::visitor::LinkVisitor;
@@ -32,11 +32,12 @@ impl<V: Drop> Recorder<V> {
 }
 
 impl<V: LinkVisitor> LinkVisitor for Recorder<V> {
-    ghost use Rattle.std.specs.Prelude.{◌≡◌, ◌<◌, ◌++◌, ◌∷◌, [], length, vec_capacity};
+    ghost use Rattle.std.specs.Prelude.{◌≡◌, ◌<◌, ◌≤◌, ◌++◌, ◌∷◌, [], length, vec_capacity};
 
     ghost visits = { λ s n b t. V.visits s.visitor n b t.visitor
         × (vec_capacity t.entries ≡ vec_capacity s.entries)
-        × (length s.entries.items < vec_capacity s.entries → t.entries.items ≡ s.entries.items ++ (n, b) ∷ []) };
+        × (length s.entries.items < vec_capacity s.entries → t.entries.items ≡ s.entries.items ++ (n, b) ∷ [])
+        × (vec_capacity s.entries ≤ length s.entries.items → t.entries.items ≡ s.entries.items) };
 
     ghost place = { λ s. V.place s.visitor };
 
@@ -55,7 +56,8 @@ impl<V: LinkVisitor> LinkVisitor for Recorder<V> {
 /// with the visitor's answer, in the order in which they were shown.
 ///
 /// Time grows with the nodes and the links that leave the result. Takes memory for the set, a
-/// number a node and an entry a link, all of it before the first link is shown.
+/// number a node and an entry a link, and fails only where there is none. A [`Recorder`] that is lent
+/// to `reachable_with` is as it was then.
 pub fn reachable_recorded<G: GraphSpec, V: LinkVisitor + Drop>(
     graph: &Graph<G>,
     initials: &IxSet<G>,
@@ -63,7 +65,7 @@ pub fn reachable_recorded<G: GraphSpec, V: LinkVisitor + Drop>(
     visitor: V,
 ) -> Result<(IxSet<G>, Recorder<V>), AllocError>
     requires count { length initials.now ≡ length graph.now.nodes }
-    requires ready { (n : ℕ) → n < length graph.now.links → V.can_visit visitor n }
+    requires ready { IsCallableBelow V.can_visit V.visits (length graph.now.links) visitor }
     ensures count { IfOk result (λ r. length r.0 ≡ length graph.now.nodes) }
     ensures judged { IfOk result (λ r. JudgesResolve direction graph.now.links initials.now r.1.entries.items r.0) }
     ensures visits { IfOk result (λ r. Visits V.visits visitor r.1.entries.items r.1.visitor) }

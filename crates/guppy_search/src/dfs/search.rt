@@ -2,8 +2,8 @@ ghost use Rattle.std.specs.Prelude.{◌≡◌, ◌⊎◌, ℕ, ◌+◌, ◌<◌,
 ghost use Rattle.guppy_search.specs.IxSet.{IsIn, member_count};
 ghost use Rattle.guppy_search.specs.Links.{links_at};
 ghost use Rattle.guppy_search.specs.Reach.{IsPlainResolve};
-ghost use Rattle.guppy_search.specs.Resolve.{JudgesResolve, AcceptsAll, Visits};
-ghost use Rattle.guppy_search.specs.Searching.{Seeded, Shows};
+ghost use Rattle.guppy_search.specs.Resolve.{JudgesResolve, AcceptsAll, Visits, IsCallableBelow};
+ghost use Rattle.guppy_search.specs.Searching.{Seeded, Shows, MayGoOn};
 
 use crate::dfs::visitor::{AcceptAll, LinkVisitor};
 use crate::graph_core::Graph;
@@ -45,12 +45,11 @@ pub fn reachable_with<G: GraphSpec, V: LinkVisitor>(
     visitor: &mut V,
 ) -> Result<IxSet<G>, AllocError>
     requires count { length initials.now ≡ length graph.now.nodes }
-    requires ready { (n : ℕ) → n < length graph.now.links → V.can_visit visitor.old n }
+    requires ready { IsCallableBelow V.can_visit V.visits (length graph.now.links) visitor.old }
     ensures count { IfOk result (λ set. length set ≡ length graph.now.nodes) }
     ensures judged { IfOk result (λ set. (trace : List (ℕ × Bool))
         × JudgesResolve direction graph.now.links initials.now trace set
         × Visits V.visits visitor.old trace visitor.new) }
-    ensures ready { (n : ℕ) → n < length graph.now.links → V.can_visit visitor.new n }
     ensures same_place { V.place visitor.new ≡ V.place visitor.old }
     ensures not_begun { OnErr result (visitor.new ≡ visitor.old) }
 {
@@ -71,7 +70,7 @@ pub(crate) fn search<G: GraphSpec, V: LinkVisitor>(
     visitor: &mut V,
 )
     requires count { length initials.now ≡ length graph.now.nodes }
-    requires ready { (n : ℕ) → n < length graph.now.links → V.can_visit visitor.old n }
+    requires ready { IsCallableBelow V.can_visit V.visits (length graph.now.links) visitor.old }
     requires set { set.old ≡ replicate (length graph.now.nodes) false }
     requires waiting { waiting.old.items ≡ [] }
     requires room { length graph.now.nodes ≤ vec_capacity waiting.old }
@@ -79,7 +78,6 @@ pub(crate) fn search<G: GraphSpec, V: LinkVisitor>(
     ensures judged { (trace : List (ℕ × Bool))
         × JudgesResolve direction graph.now.links initials.now trace set.new
         × Visits V.visits visitor.old trace visitor.new }
-    ensures ready { (n : ℕ) → n < length graph.now.links → V.can_visit visitor.new n }
     ensures same_place { V.place visitor.new ≡ V.place visitor.old }
     ensures waiting { waiting.new.items ≡ [] }
     ensures room { length graph.now.nodes ≤ vec_capacity waiting.new }
@@ -115,10 +113,9 @@ fn show_links<G: GraphSpec, V: LinkVisitor>(
 )
     requires position { position < length graph.now.nodes }
     requires count { length set.old ≡ length graph.now.nodes }
-    requires ready { (n : ℕ) → n < length graph.now.links → V.can_visit visitor.old n }
+    requires ready { MayGoOn V.can_visit V.visits direction graph.now.links set.old waiting.old.items (links_at direction graph.now.links position) visitor.old }
     requires room { length waiting.old.items + length set.old ≤ vec_capacity waiting.old + member_count set.old }
     ensures count { length set.new ≡ length graph.now.nodes }
-    ensures ready { (n : ℕ) → n < length graph.now.links → V.can_visit visitor.new n }
     ensures same_place { V.place visitor.new ≡ V.place visitor.old }
     ensures shown { (shown : List (ℕ × Bool)) × Visits V.visits visitor.old shown visitor.new
         × Shows direction graph.now.links shown set.old waiting.old.items (links_at direction graph.now.links position) set.new waiting.new.items [] }

@@ -15,7 +15,6 @@ pub trait LinkVisitor {
     fn visit(&mut self, link: usize) -> bool
         requires { can_visit self.old link }
         ensures visits { visits self.old link result self.new }
-        ensures again { (n : ℕ) → can_visit self.old n → can_visit self.new n }
         ensures same_place { place self.new ≡ place self.old };
 }
 

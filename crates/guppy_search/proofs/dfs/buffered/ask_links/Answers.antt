@@ -1,10 +1,11 @@
-use Rattle.std.proofs.Common.{◌≡◌, ℕ, ◌+◌, List, [], ◌∷◌, ◌++◌, length, get_or, refl, ap, ◌∙◌, arith}
+use Rattle.std.proofs.Common.{◌≡◌, ℕ, ◌+◌, List, [], ◌∷◌, ◌++◌, length, drop, get_or, refl, ap, ◌∙◌, arith}
+use Rattle.std.specs.List.{Contains}
 use Rattle.std.proofs.lemmas.Fn.{FoldsTo-push}
 use Rattle.std.proofs.lemmas.List.{drop_all}
 use Rattle.guppy_search.specs.IxSet.{member_count}
 use Rattle.guppy_search.specs.Buffered.Question.{filter}
 use Rattle.guppy_search.proofs.Exits.{on_err}
-use Rattle.guppy_search.proofs.Lists.{drop_next}
+use Rattle.guppy_search.proofs.Lists.{Contains-first, drop_next}
 use Rattle.guppy_search.proofs.Rows.{row_within}
 use Rattle.guppy_search.proofs.Buffering.{Takes-none, Takes-filtered, Stops-filter}
 use Rattle.guppy_search.proofs.dfs.buffered.ask_links.Goals as goal
@@ -12,7 +13,6 @@ use Rattle.guppy_search.proofs.dfs.buffered.ask_links.Goals as goal
 pub links-init : goal.links-init
 links-init g c = record {
   size = c.requires.count;
-  ready = c.requires.ready;
   same_place = refl;
   balance = refl;
   capacity = refl;
@@ -23,6 +23,16 @@ pub filter-requires-clause-link : goal.filter-requires-clause-link
 filter-requires-clause-link g c =
     let row = c.links_at-number-items in
     row_within _ _ _ row.result.now row.ensures.links c.links.number-index 0 c.links-test.true
+
+pub filter-requires-clause-ready : goal.filter-requires-clause-ready
+filter-requires-clause-ready g c =
+    let row = c.links_at-number-items in
+    let s = c.links.invariant.asked in
+    let ready = rw (← row.ensures.links) at c.requires.ready in
+    let numbers = row.result.now in
+    let n = get_or numbers c.links.number-index 0 in
+    let left : Contains (drop c.links.number-index numbers) n = rw (drop_next numbers c.links.number-index c.links-test.true) (Contains-first n _) in
+    ready.at s.0 _ _ _ _ _ s.2 left s.1
 
 pub returns-in_err-handed-clause-refused : goal.returns-in_err-handed-clause-refused
 returns-in_err-handed-clause-refused g c =
@@ -54,7 +64,6 @@ links-preserved g c =
     omega (arith, c.links.waiting.ok.0, c.follow_all.new.waiting.ok.0) in
     record {
       size = c.follow_all.ensures.count ∙ s.size;
-      ready = c.in_ok-handed.ensures.again;
       same_place = c.in_ok-handed.ensures.same_place ∙ s.same_place;
       balance = let before = s.balance in let b = c.follow_all.ensures.balance in omega (arith, c.links.waiting.ok.0, c.follow_all.new.waiting.ok.0);
       capacity = c.follow_all.ensures.capacity ∙ s.capacity;

@@ -7,7 +7,6 @@ use Rattle.guppy_search.proofs.dfs.buffered.ask_links.Given as goal
 abbrev pub invariant-links : goal.invariant-links
 invariant-links g l = record {
   size : length l.set ≡ length l.graph.nodes;
-  ready : g.T.BufferedEdgeFilter.can_ask l.graph l.filter;
   same_place : g.T.BufferedEdgeFilter.place l.filter ≡ g.T.BufferedEdgeFilter.place l.fn.filter;
   balance : length l.waiting.items + member_count l.fn.set ≡ length l.fn.waiting.items + member_count l.set;
   capacity : vec_capacity l.waiting ≡ vec_capacity l.fn.waiting;

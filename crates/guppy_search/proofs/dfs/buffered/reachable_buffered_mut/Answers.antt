@@ -1,6 +1,6 @@
 use Rattle.std.proofs.Common.{◌≡◌, ℕ, List, ◌∷◌, ◌++◌, length, refl, sym, ap, inl, ◌∙◌, length-append, arith}
 use Rattle.guppy_search.specs.IxSet.{positions_in}
-use Rattle.guppy_search.proofs.Exits.{if_ok, on_ok, on_err}
+use Rattle.guppy_search.proofs.Exits.{if_ok, on_err}
 use Rattle.guppy_search.proofs.Members.{member_count-le-length}
 use Rattle.guppy_search.proofs.Positions.{length-positions_from}
 use Rattle.guppy_search.proofs.dfs.buffered.reachable_buffered_mut.Goals as goal
@@ -8,12 +8,12 @@ use Rattle.guppy_search.proofs.dfs.buffered.reachable_buffered_mut.Goals as goal
 pub returns-in_err-set : goal.returns-in_err-set
 returns-in_err-set g c =
     let failed = c.from_residual.ensures.0 in
-    record { count = if_ok _ _ failed; judged = if_ok _ _ failed; refused = on_err _ (inl refl); ready = on_ok _ _ failed; same_place = refl }
+    record { count = if_ok _ _ failed; judged = if_ok _ _ failed; refused = on_err _ (inl refl); same_place = refl }
 
 pub returns-in_err-waiting : goal.returns-in_err-waiting
 returns-in_err-waiting g c =
     let failed = c.from_residual-in_err-waiting.ensures.0 in
-    record { count = if_ok _ _ failed; judged = if_ok _ _ failed; refused = on_err _ (inl refl); ready = on_ok _ _ failed; same_place = refl }
+    record { count = if_ok _ _ failed; judged = if_ok _ _ failed; refused = on_err _ (inl refl); same_place = refl }
 
 pub push_reserved-requires : goal.push_reserved-requires
 push_reserved-requires g c =

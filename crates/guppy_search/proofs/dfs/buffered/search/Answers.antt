@@ -1,19 +1,19 @@
 use Rattle.std.proofs.Common.{◌≡◌, ℕ, ◌+◌, List, [], ◌∷◌, ◌++◌, length, refl, sym, ap, ◌∙◌, arith}
 use Rattle.std.proofs.lemmas.Fn.{FoldsTo-push}
+use Rattle.std.proofs.lemmas.List.Elements.{Contains-push}
 use Rattle.guppy_search.specs.IxSet.{member_count}
 use Rattle.guppy_search.specs.Buffered.Question.{discover}
 use Rattle.guppy_search.proofs.Exits.{on_err}
 use Rattle.guppy_search.proofs.Lists.{no_items, FoldsTo-append}
 use Rattle.guppy_search.proofs.Members.{IsIn-below, member_count-le-length}
 use Rattle.guppy_search.proofs.Searching.{Waits-pop}
-use Rattle.guppy_search.proofs.Buffering.{Buffering-begin, Buffering-discovered, Buffering-discover_error, Buffering-end}
+use Rattle.guppy_search.proofs.Buffering.{Buffering-begin, Buffering-discovered, Buffering-discover_error, Buffering-end, Buffering-asked, MayAskOn-along}
 use Rattle.guppy_search.proofs.dfs.buffered.search.Goals as goal
 
 pub positions-init : goal.positions-init
 positions-init g c = record {
   size = c.requires.count;
   room = c.requires.room;
-  ready = c.requires.ready;
   same_place = refl;
   searched = ([], rw c.requires.waiting (Buffering-begin _ _ _), refl);
 }
@@ -34,6 +34,33 @@ discover-requires-clause-node g c =
     let e : c.positions.waiting.items ≡ c.pop.new.self.items ++ c.in-Some.position ∷ [] = c.in-Some.ensures.items in
     let waits = s.searched.1.waits in
     rw (c.new.ensures, ← s.size) (IsIn-below c.positions.set c.in-Some.position (Waits-pop _ _ _ (rw e at waits)).1)
+
+pub discover-requires-clause-ready : goal.discover-requires-clause-ready
+discover-requires-clause-ready g c =
+    let s = c.positions.invariant in
+    let e : c.positions.waiting.items ≡ c.pop.new.self.items ++ c.in-Some.position ∷ [] = c.in-Some.ensures.items in
+    let b = rw e at s.searched.1 in
+    let ends = rw (← c.requires.count) at c.requires.graph.ends in
+    let below = IsIn-below c.positions.set c.in-Some.position (Waits-pop _ _ _ b.waits).1 in
+    let all = Buffering-asked c.args.direction c.args.graph.now.links c.args.set.now ends s.searched.0 c.positions.set c.positions.waiting.items [] s.searched.1 in
+    let asked = rw c.requires.count at all in
+    rw c.new.ensures (c.requires.ready.at_position s.searched.0 _ c.in-Some.position asked (b.undiscovered _ (Contains-push _ _)) s.searched.2 (rw (← s.size) below))
+
+pub ask_links-requires-clause-ready : goal.ask_links-requires-clause-ready
+ask_links-requires-clause-ready g c =
+    let s = c.positions.invariant in
+    let e : c.positions.waiting.items ≡ c.pop.new.self.items ++ c.in-Some.position ∷ [] = c.in-Some.ensures.items in
+    let k = c.follow_all.ensures.added in
+    let balance : length (c.pop.new.self.items ++ k.0) + member_count c.positions.set ≡ length c.pop.new.self.items + member_count c.follow_all.new.set =
+    let same = ap (λ (ps : List ℕ). length ps) k.1 in
+    let b = c.follow_all.ensures.balance in
+    omega (arith, c.pop.new.self.ok.0, c.follow_all.new.waiting.ok.0) in
+    let answered = rw c.new.ensures at c.in_ok-handed.ensures.discovers in
+    let ends = rw (← c.requires.count) at c.requires.graph.ends in
+    let ready = rw (← c.requires.count) at c.requires.ready in
+    MayAskOn-along _ _ _ ends _ _ _ (s.searched.0 ++ (discover c.in-Some.position, c.in_ok-handed.handed.items) ∷ []) _ _ _ _ _ ready
+    (rw k.1 (Buffering-discovered _ _ _ s.searched.0 _ _ _ _ k.2 c.pop.new.self.items balance c.in-Some.position (rw e at s.searched.1)))
+    (FoldsTo-push _ _ s.searched.0 _ (discover c.in-Some.position, c.in_ok-handed.handed.items) _ s.searched.2 answered)
 
 pub returns-in_err-handed-clause-refused : goal.returns-in_err-handed-clause-refused
 returns-in_err-handed-clause-refused g c =
@@ -106,7 +133,6 @@ positions-preserved g c =
     record {
       size = c.ask_links.ensures.count;
       room = rw (c.ask_links.ensures.capacity, c.follow_all.ensures.capacity, c.pop.ensures.capacity) s.room;
-      ready = c.in_ok-ask_links.ensures.ready;
       same_place = c.ask_links.ensures.same_place ∙ (c.in_ok-handed.ensures.same_place ∙ s.same_place);
       searched = (
         before ++ asked.0,

@@ -8,7 +8,6 @@ abbrev pub invariant-positions : goal.invariant-positions
 invariant-positions g l = record {
   size : length l.set ≡ length l.graph.nodes;
   room : length l.graph.nodes ≤ vec_capacity l.waiting;
-  ready : g.T.BufferedEdgeFilter.can_ask l.graph l.filter;
   same_place : g.T.BufferedEdgeFilter.place l.filter ≡ g.T.BufferedEdgeFilter.place l.fn.filter;
   searched : (trace : List (Question × List ℕ))
       × Buffering l.direction l.graph.links l.fn.set trace l.set l.waiting.items []

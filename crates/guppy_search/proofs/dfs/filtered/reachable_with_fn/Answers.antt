@@ -1,7 +1,7 @@
 use Rattle.std.proofs.Common.{◌≡◌, ℕ, Bool, List, rules}
 use Rattle.guppy_search.proofs.Exits.{if_ok}
 use Rattle.guppy_search.specs.Resolve.{Visits}
-use Rattle.guppy_search.proofs.Traces.{FoldsTo-along}
+use Rattle.guppy_search.proofs.Traces.{FoldsTo-along, IsCallableBelow-along}
 use Rattle.guppy_search.proofs.dfs.filtered.reachable_with_fn.Goals as goal
 
 -- the state at the end, under another name
@@ -9,12 +9,12 @@ ends_at : {V : Type 0} (visits : V → ℕ → Bool → V → Type 0) (s : V) (t
 ends_at visits s trace t u h e = rw e h
 
 pub reachable_with-requires-clause-ready : goal.reachable_with-requires-clause-ready
-reachable_with-requires-clause-ready g c = λ n h. rw c.link_count.ensures (h, c.requires.callable)
+reachable_with-requires-clause-ready g c = IsCallableBelow-along _ _ _ _ (λ a. a.filter.now) _ _ (λ a n h. h) (λ a n b t k. k) c.requires.callable
 
 pub returns-clause-judged : goal.returns-clause-judged
 returns-clause-judged g c =
     let s = c.in_ok-set.ensures.judged in
-    (s.0, s.1, ends_at _ _ s.0 c.reachable_with.new.visitor.filter.now _ (FoldsTo-along (λ a. a.filter.now) _ _ (λ a e b k. k.0) s.0 _ _ s.2) (search rules))
+    (s.0, s.1, ends_at _ _ s.0 c.reachable_with.new.visitor.filter.now _ (FoldsTo-along (λ a. a.filter.now) _ _ (λ a e b k. k) s.0 _ _ s.2) (search rules))
 
 pub returns-in_err-set-clause-count : goal.returns-in_err-set-clause-count
 returns-in_err-set-clause-count g c = if_ok _ _ c.from_residual.ensures.0

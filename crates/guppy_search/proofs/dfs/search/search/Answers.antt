@@ -1,7 +1,7 @@
 use Rattle.std.proofs.Common.{◌≡◌, [], ◌∷◌, ◌++◌, refl, ◌∙◌, arith}
 use Rattle.guppy_search.proofs.Lists.{no_items, FoldsTo-append}
 use Rattle.guppy_search.proofs.Members.{IsIn-below, member_count-le-length}
-use Rattle.guppy_search.proofs.Searching.{Searching-begin, Searching-pop, Searching-end, Waits-pop}
+use Rattle.guppy_search.proofs.Searching.{Searching-begin, Searching-pop, Searching-end, Waits-pop, MayGoOn-along}
 use Rattle.guppy_search.proofs.dfs.search.search.Goals as goal
 
 pub positions-init : goal.positions-init
@@ -11,7 +11,6 @@ positions-init g c =
     record {
       size = s.count ∙ c.requires.count;
       room = rw s.capacity room;
-      ready = c.requires.ready;
       same_place = refl;
       searched = ([], Searching-begin _ _ _ _ _ s.seeded, refl);
     }
@@ -34,6 +33,13 @@ show_links-requires-clause-room g c =
     let capacity = c.pop.ensures.capacity in
     omega arith
 
+pub show_links-requires-clause-ready : goal.show_links-requires-clause-ready
+show_links-requires-clause-ready g c =
+    let s = c.positions.invariant.searched in
+    let e : c.positions.waiting.items ≡ c.pop.new.self.items ++ c.in-Some.position ∷ [] = c.in-Some.ensures.items in
+    MayGoOn-along _ _ _ _ _ s.0 _ _ _ _ _ c.requires.ready
+    (Searching-pop c.args.direction c.args.graph.now.links c.args.initials.now s.0 c.positions.set c.pop.new.self.items c.in-Some.position (rw e at s.1)) s.2
+
 pub positions-preserved : goal.positions-preserved
 positions-preserved g c =
     let s = c.positions.invariant in
@@ -42,7 +48,6 @@ positions-preserved g c =
     record {
       size = c.show_links.ensures.count;
       room = rw (c.show_links.ensures.capacity, c.pop.ensures.capacity) s.room;
-      ready = c.show_links.ensures.ready;
       same_place = c.show_links.ensures.same_place ∙ s.same_place;
       searched = (
         s.searched.0 ++ shows.0,

@@ -1,4 +1,4 @@
-use Rattle.std.proofs.Common.{◌≡◌, ℕ, ◌+◌, ◌-◌, ◌<◌, ◌≤◌, Bool, List, [], length, vec_capacity}
+use Rattle.std.proofs.Common.{◌≡◌, ℕ, ◌+◌, ◌-◌, ◌≤◌, Bool, List, [], length, vec_capacity}
 use Rattle.guppy_search.specs.IxSet.{member_count}
 use Rattle.guppy_search.specs.Resolve.{Visits}
 use Rattle.guppy_search.specs.Searching.{Searching}
@@ -8,7 +8,6 @@ abbrev pub invariant-positions : goal.invariant-positions
 invariant-positions g l = record {
   size : length l.set ≡ length l.graph.nodes;
   room : length l.graph.nodes ≤ vec_capacity l.waiting;
-  ready : (n : ℕ) → n < length l.graph.links → g.V.LinkVisitor.can_visit l.visitor n;
   same_place : g.V.LinkVisitor.place l.visitor ≡ g.V.LinkVisitor.place l.fn.visitor;
   searched : (trace : List (ℕ × Bool))
       × Searching l.direction l.graph.links l.initials trace l.set l.waiting.items []

@@ -1,11 +1,12 @@
-use Rattle.std.proofs.Common.{ℕ, ◌<◌, true, false, inl, inr, [], ◌∷◌, ◌++◌, length, refl, ◌∙◌, get_or, arith}
+use Rattle.std.proofs.Common.{◌<◌, true, false, inl, inr, [], ◌∷◌, ◌++◌, length, drop, refl, ◌∙◌, get_or, arith}
 use Rattle.std.proofs.Math.ListN.{length-set}
 use Rattle.std.proofs.lemmas.Bool.{false_from_ne_true}
+use Rattle.std.specs.List.{Contains}
 use Rattle.std.proofs.lemmas.Fn.{FoldsTo-push}
 use Rattle.std.proofs.lemmas.List.{drop_all}
 use Rattle.guppy_search.specs.Links.{far_end}
 use Rattle.guppy_search.specs.IxSet.{has}
-use Rattle.guppy_search.proofs.Lists.{drop_next}
+use Rattle.guppy_search.proofs.Lists.{Contains-first, drop_next}
 use Rattle.guppy_search.proofs.Members.{member_count-lt-length}
 use Rattle.guppy_search.proofs.Rows.{row_within}
 use Rattle.guppy_search.proofs.Searching.{Shows-none, Shows-refused, Shows-known, Shows-new, balance-added, far_end_below}
@@ -14,7 +15,6 @@ use Rattle.guppy_search.proofs.dfs.search.show_links.Goals as goal
 pub links-init : goal.links-init
 links-init g c = record {
   size = c.requires.count;
-  ready = c.requires.ready;
   same_place = refl;
   balance = refl;
   capacity = refl;
@@ -24,7 +24,12 @@ links-init g c = record {
 pub visit-requires : goal.visit-requires
 visit-requires g c =
     let row = c.links_at-number-items in
-    c.links.invariant.ready _ (row_within _ _ _ row.result.now row.ensures.links c.links.number-index 0 c.links-test.true)
+    let s = c.links.invariant in
+    let ready = rw (← row.ensures.links) at c.requires.ready in
+    let numbers = row.result.now in
+    let n = get_or numbers c.links.number-index 0 in
+    let left : Contains (drop c.links.number-index numbers) n = rw (drop_next numbers c.links.number-index c.links-test.true) (Contains-first n _) in
+    ready.at s.shown.0 _ _ _ _ _ s.shown.2 left s.shown.1
 
 pub links-preserved-then-not-visit : goal.links-preserved-then-not-visit
 links-preserved-then-not-visit g c =
@@ -34,7 +39,6 @@ links-preserved-then-not-visit g c =
     let e = drop_next row c.links.number-index c.links-test.true in
     record {
       size = s.size;
-      ready = λ m h. c.if-not-visit.ensures.again m (s.ready m h);
       same_place = c.if-not-visit.ensures.same_place ∙ s.same_place;
       balance = s.balance;
       capacity = s.capacity;
@@ -82,14 +86,12 @@ links-preserved g c =
     let e = drop_next row c.links.number-index c.links-test.true in
     let shows = rw e at s.shown.2 in
     let k = rw c.far_end-far_end.ensures at c.include.ensures.cases in
-    let ready = λ (m : ℕ) (h : m < length c.args.graph.now.links). c.if-not-visit.ensures.again m (s.ready m h) in
     let same_place = c.if-not-visit.ensures.same_place ∙ s.same_place in
     let capacity = c.include.ensures.capacity ∙ s.capacity in
     let steps = FoldsTo-push _ _ s.shown.0 _ (n, true) _ s.shown.1 c.if-not-visit.ensures.visits in
     elim k [
       | inl q ↦ record {
         size = rw q.1 s.size;
-        ready = ready;
         same_place = same_place;
         balance = rw (q.1, q.2) s.balance;
         capacity = capacity;
@@ -99,7 +101,6 @@ links-preserved g c =
           let below : far < length c.links.set = rw s.size (far_end_below c.args.direction c.args.graph.now.links _ _ link c.link.ensures.link c.link.ensures.graph.ends) in
           record {
             size = rw q.1 (length-set c.links.set far true ∙ s.size);
-            ready = ready;
             same_place = same_place;
             balance = rw (q.1, q.2) (balance-added c.links.set c.links.waiting.items far _ _ below q.0 s.balance);
             capacity = capacity;
@@ -114,7 +115,6 @@ returns g c =
     let e = drop_all c.links.number-index row.result.now c.links-test.false in
     record {
       count = s.size;
-      ready = s.ready;
       same_place = s.same_place;
       shown = (s.shown.0, s.shown.1, rw (← row.ensures.links) (rw e at s.shown.2));
       balance = s.balance;

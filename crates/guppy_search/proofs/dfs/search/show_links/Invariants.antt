@@ -1,4 +1,4 @@
-use Rattle.std.proofs.Common.{◌≡◌, ℕ, ◌+◌, ◌<◌, Bool, List, drop, length, vec_capacity}
+use Rattle.std.proofs.Common.{◌≡◌, ℕ, ◌+◌, Bool, List, drop, length, vec_capacity}
 use Rattle.guppy_search.specs.IxSet.{member_count}
 use Rattle.guppy_search.specs.Resolve.{Visits}
 use Rattle.guppy_search.specs.Searching.{Shows}
@@ -7,7 +7,6 @@ use Rattle.guppy_search.proofs.dfs.search.show_links.Given as goal
 abbrev pub invariant-links : goal.invariant-links
 invariant-links g l = record {
   size : length l.set ≡ length l.graph.nodes;
-  ready : (n : ℕ) → n < length l.graph.links → g.V.LinkVisitor.can_visit l.visitor n;
   same_place : g.V.LinkVisitor.place l.visitor ≡ g.V.LinkVisitor.place l.fn.visitor;
   balance : length l.waiting.items + member_count l.fn.set ≡ length l.fn.waiting.items + member_count l.set;
   capacity : vec_capacity l.waiting ≡ vec_capacity l.fn.waiting;

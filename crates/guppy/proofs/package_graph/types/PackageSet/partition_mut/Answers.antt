@@ -1,7 +1,5 @@
-use Rattle.std.proofs.Common.{◌≡◌, ◌∙◌, sym, ap, subst, refl, true, false, [], ◌∷◌, ◌++◌, length, length-set, slice_set}
+use Rattle.std.proofs.Common.{◌∙◌, sym, ap, subst, refl, true, false, [], ◌∷◌, ◌++◌, length, length-set, slice_set}
 use Rattle.std.proofs.lemmas.List.{length-replicate}
-use Rattle.std.specs.List.{concat}
-use Rattle.guppy_core.specs.Listing.{IsListing}
 use Rattle.guppy.specs.Listed.{packages_to_come}
 use Rattle.guppy.specs.Asked.{AreAnswered}
 use Rattle.guppy.proofs.Asked.{asked_none, asked_all, may_ask, asked_more, fits, answered_none, answered_more, answered_otherwise}
@@ -65,7 +63,5 @@ returns-clause-asked g c =
 pub returns-clause-halves : goal.returns-clause-halves
 returns-clause-halves g c =
     let i = c.loop-package.invariant in
-    let count : length c.args.self.now.included ≡ length c.args.self.now.graph.packages = subst (λ s. length s.included ≡ length s.graph.packages) c.self.view_is c.self.invariant in
-    let listing = subst (λ n. IsListing n (concat c.args.self.now.graph.components)) (sym count) c.packages-package-items.ensures.ordered.order_is.listing in
     rw (c.part.ensures.included, c.part-2.ensures.included)
-    (halves_of c.args.direction c.args.self.now listing i.answers (asked_all _ _ _ _ _ _ _ c.loop-package.invariant.so_far c.in-None.ensures.steps.0) _ _ i.accepted i.refused)
+    (halves_of c.args.direction c.args.self.now c.packages-package-items.ensures.members c.packages-package-items.ensures.once i.answers (asked_all _ _ _ _ _ _ _ c.loop-package.invariant.so_far c.in-None.ensures.steps.0) _ _ i.accepted i.refused)

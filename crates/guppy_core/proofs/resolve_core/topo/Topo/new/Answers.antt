@@ -1,18 +1,20 @@
-use Rattle.std.proofs.Common.{◌<◌, length, sym, ap, ◌∙◌, subst}
+use Rattle.std.proofs.Common.{◌↔◌, ◌<◌, length, sym, ap, ◌∙◌, subst}
 use Rattle.std.specs.Prelude.{All}
 use Rattle.std.specs.List.{concat, filter}
 use Rattle.std.proofs.lemmas.List.Elements.{All-filter}
-use Rattle.guppy_search.specs.IxSet.{has}
-use Rattle.guppy_core.proofs.Included.{filter-listed, below_listed, count_listed}
+use Rattle.guppy_search.specs.IxSet.{has, IsIn}
+use Rattle.guppy_core.specs.Listing.{Stands, IsOnce, IsListing}
+use Rattle.guppy_core.proofs.Included.{filter-listed, below_listed, count_listed, listed_members, listed_once}
 use Rattle.guppy_core.proofs.resolve_core.topo.Topo.new.Goals as goal
 
 pub invariant_of-result : goal.invariant_of-result
 invariant_of-result g c =
     let set = c.args.included.now in
     let list = concat c.args.sccs.now in
-    let left = c.node_iter.ensures.left in (
-      subst (All (λ p. p < length set)) (sym left) (below_listed c.args.direction (length set) list c.requires),
-      c.len.ensures ∙ sym (ap (λ xs. length (filter (has set) xs)) left ∙ count_listed c.args.direction set list c.requires),
+    let left = c.node_iter.ensures.left in
+    let listing : IsListing (length set) list = subst (λ n. IsListing n list) (sym c.requires) c.node_iter.ensures.listing in (
+      subst (All (λ p. p < length set)) (sym left) (below_listed c.args.direction (length set) list listing),
+      c.len.ensures ∙ sym (ap (λ xs. length (filter (has set) xs)) left ∙ count_listed c.args.direction set list listing),
     )
 
 pub returns-clause-left : goal.returns-clause-left
@@ -20,13 +22,33 @@ returns-clause-left g c =
     let set = c.args.included.now in
     ap (filter (has set)) c.node_iter.ensures.left ∙ filter-listed c.args.direction (has set) (concat c.args.sccs.now)
 
+pub returns-clause-members : goal.returns-clause-members
+returns-clause-members g c =
+    let set = c.args.included.now in
+    let list = concat c.args.sccs.now in
+    let listing : IsListing (length set) list = subst (λ n. IsListing n list) (sym c.requires) c.node_iter.ensures.listing in
+    let left = ap (filter (has set)) c.node_iter.ensures.left ∙ filter-listed c.args.direction (has set) list in
+    λ p. subst (λ xs. Stands xs p ↔ IsIn set p) (sym left) (listed_members c.args.direction set list listing p)
+
+pub returns-clause-once : goal.returns-clause-once
+returns-clause-once g c =
+    let set = c.args.included.now in
+    let list = concat c.args.sccs.now in
+    let listing : IsListing (length set) list = subst (λ n. IsListing n list) (sym c.requires) c.node_iter.ensures.listing in
+    let left = ap (filter (has set)) c.node_iter.ensures.left ∙ filter-listed c.args.direction (has set) list in
+    subst IsOnce (sym left) (listed_once c.args.direction set list listing)
+
 pub returns-clause-count : goal.returns-clause-count
 returns-clause-count g c =
     let set = c.args.included.now in
-    ap (λ xs. length (filter (has set) xs)) c.node_iter.ensures.left ∙ count_listed c.args.direction set (concat c.args.sccs.now) c.requires
+    let list = concat c.args.sccs.now in
+    let listing : IsListing (length set) list = subst (λ n. IsListing n list) (sym c.requires) c.node_iter.ensures.listing in
+    ap (λ xs. length (filter (has set) xs)) c.node_iter.ensures.left ∙ count_listed c.args.direction set list listing
 
 pub returns-clause-below : goal.returns-clause-below
 returns-clause-below g c =
     let set = c.args.included.now in
-    let all = below_listed c.args.direction (length set) (concat c.args.sccs.now) c.requires in
+    let list = concat c.args.sccs.now in
+    let listing : IsListing (length set) list = subst (λ n. IsListing n list) (sym c.requires) c.node_iter.ensures.listing in
+    let all = below_listed c.args.direction (length set) list listing in
     All-filter (has set) (λ p. p < length set) _ (subst (All (λ p. p < length set)) (sym c.node_iter.ensures.left) all)

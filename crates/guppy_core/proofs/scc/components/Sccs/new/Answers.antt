@@ -39,7 +39,10 @@ invariant_of-result g c =
     let groups = rw (c.order-2.ensures.order, c.as_slice.ensures.value) at c.in_ok-blocks.ensures in
     let blocks = map items_of c.in_ok-blocks.blocks.items in
     let laid = rw c.as_slice-2.ensures.value at c.in_ok-positions.ensures in
-    rw laid.parts (laid.joined, laid.cut, numbered_from R (length graph.nodes) c.args.topo.now c.in_ok-numbered.numbered.numbers.items c.in_ok-numbered.numbered.count blocks t c.in_ok-numbered.ensures.numbers groups)
+    let numbers = c.in_ok-numbered.ensures.numbers in
+    let sccs = sccs_from R (length graph.nodes) c.args.topo.now c.in_ok-numbered.numbered.numbers.items c.in_ok-numbered.numbered.count blocks t numbers groups in
+    let listing = rw (laid.joined, ← numbers.length_is) at (sccs_order R (length graph.nodes) c.args.topo.now blocks sccs).listing in
+    rw laid.parts (laid.joined, laid.cut, numbered_from R (length graph.nodes) c.args.topo.now c.in_ok-numbered.numbered.numbers.items c.in_ok-numbered.numbered.count blocks t numbers groups, listing)
 
 pub returns-clause-sccs : goal.returns-clause-sccs
 returns-clause-sccs g c =
