@@ -1,7 +1,8 @@
 #!/usr/bin/env python3
 """Runs each command of guppy-run on large inputs of three sizes, n, 2n and 4n.
 
-Prints time, peak memory and the exponent of growth between two sizes: 1 is linear.
+Prints time, peak memory and the exponent of growth between two sizes: 1 is linear. Then the same for IDs made
+against the look-up, beside friendly ones.
 usage: bench.py [PACKAGES]     4n packages, 200000 if left out
 """
 
@@ -39,6 +40,13 @@ def star(count):
 
 GRAPHS = [("chain", chain), ("scattered", scattered), ("star", star)]
 
+# The ID of package i of n, by kind: those that a look-up likes come first.
+IDS = {
+    "friendly": lambda i, count: f"p{i}",
+    "descending": lambda i, count: f"p{count - i:09}",
+    "60 shared bytes": lambda i, count: f"{'registry+https://example.invalid/index#':-<60}{i}",
+}
+
 
 def commands(count):
     """What is measured, with its label."""
@@ -56,18 +64,19 @@ def commands(count):
     }
 
 
-def write_input(path, graph):
+def write_input(path, graph, kind):
     count, links = graph
+    ids = [IDS[kind](i, count) for i in range(count)]
     sections = ["normal", "build", "dev"]
     with open(path, "w", encoding="ascii") as file:
-        file.writelines(f"package p{i}\n" for i in range(count))
-        file.writelines(f"link p{a} p{b} {sections[k % 3]}\n" for k, (a, b) in enumerate(links))
+        file.writelines(f"package {id}\n" for id in ids)
+        file.writelines(f"link {ids[a]} {ids[b]} {sections[k % 3]}\n" for k, (a, b) in enumerate(links))
 
 
-def make_input(name, count, path):
+def make_input(name, count, path, kind="friendly"):
     """The number of links of the graph that another process wrote: this one stays small, so that the
     peak memory that the system tells of a run is the run's own."""
-    done = subprocess.run([sys.executable, os.path.abspath(__file__), "--write", name, str(count), path],
+    done = subprocess.run([sys.executable, os.path.abspath(__file__), "--write", name, str(count), path, kind],
                           stdout=subprocess.PIPE, check=True)
     return int(done.stdout)
 
@@ -85,26 +94,42 @@ def measure(words, path):
     return seconds, usage.ru_maxrss / 1024
 
 
+def measure_growth(largest, path):
+    print(f"{'graph':10} {'command':16} {'packages':>9} {'links':>9} {'seconds':>8} {'MiB':>7} {'growth':>7}")
+    for name, _ in GRAPHS:
+        before = {}
+        for count in (largest // 4, largest // 2, largest):
+            links = make_input(name, count, path)
+            for label, words in commands(count).items():
+                seconds, memory = min(measure(words, path) for _ in range(3))
+                growth = f"{math.log2(seconds / before[label]):7.2f}" if label in before else ""
+                before[label] = seconds
+                print(f"{name:10} {label:16} {count:9} {links:9} {seconds:8.3f} {memory:7.1f} {growth:>7}", flush=True)
+
+
+def measure_ids(largest, path):
+    """`order` on one graph under IDs of each kind: none should take more than twice what friendly ones take."""
+    print(f"{'IDs':16} {'packages':>9} {'seconds':>8} {'MiB':>7} {'x friendly':>10}")
+    friendly = None
+    for kind in IDS:
+        make_input("scattered", largest, path, kind)
+        seconds, memory = min(measure(["order"], path) for _ in range(3))
+        friendly = friendly or seconds
+        print(f"{kind:16} {largest:9} {seconds:8.3f} {memory:7.1f} {seconds / friendly:10.2f}", flush=True)
+
+
 def main():
     if sys.argv[1:2] == ["--write"]:
         graph = dict(GRAPHS)[sys.argv[2]](int(sys.argv[3]))
-        write_input(sys.argv[4], graph)
+        write_input(sys.argv[4], graph, sys.argv[5])
         print(len(graph[1]))
         return
     largest = int(sys.argv[1]) if len(sys.argv) > 1 else 200_000
     subprocess.run([WRAPPER, "depends", "a", "a"], input=b"package a\n", stdout=subprocess.DEVNULL, check=True)
-    print(f"{'graph':10} {'command':16} {'packages':>9} {'links':>9} {'seconds':>8} {'MiB':>7} {'growth':>7}")
     with tempfile.TemporaryDirectory() as folder:
         path = os.path.join(folder, "input")
-        for name, _ in GRAPHS:
-            before = {}
-            for count in (largest // 4, largest // 2, largest):
-                links = make_input(name, count, path)
-                for label, words in commands(count).items():
-                    seconds, memory = min(measure(words, path) for _ in range(3))
-                    growth = f"{math.log2(seconds / before[label]):7.2f}" if label in before else ""
-                    before[label] = seconds
-                    print(f"{name:10} {label:16} {count:9} {links:9} {seconds:8.3f} {memory:7.1f} {growth:>7}", flush=True)
+        measure_growth(largest, path)
+        measure_ids(largest, path)
 
 
 if __name__ == "__main__":

@@ -217,3 +217,35 @@ fn a_wide_star(rt: HostRuntime) {
     let fault = Graph::<Letters>::from_parts(nodes, links).err();
     assert!(rt; fault == Some(GraphFault::RepeatedLink(count)));
 }
+
+fn thousand_by_sevens_holds(rt: &impl Abort, graph: &Graph<Letters>)
+    requires nodes { length graph.now.nodes ≡ 1000 }
+{
+    let (first, far) = (PackageIx::new(0), PackageIx::new(571));
+    let (forward, reverse) = (DependencyDirection::Forward, DependencyDirection::Reverse);
+    for position in 0..1000 {
+        let ix = PackageIx::new(position);
+        assert!(rt; graph.links_of(ix, forward).len() == 2, "{position}");
+        assert!(rt; graph.links_of(ix, reverse).len() == 2, "{position}");
+    }
+    assert!(rt; graph.links_of(first, forward) == [0, 1].as_slice());
+    assert!(rt; graph.links_of(first, reverse) == [1091, 1142].as_slice());
+    assert!(rt; graph.find_link(far, first) == Some(1142));
+    assert!(rt; graph.find_link(first, first).is_none());
+}
+
+// From each i, links to 7 i + 3 and to 11 i + 5, in a ring of a thousand.
+#[test]
+fn thousand_by_sevens(rt: HostRuntime) {
+    let mut links = Vec::new(rt.alloc());
+    for i in 0..1000 {
+        links
+            .push((i, (7 * i + 3) % 1000, 'a'))
+            .expect(&rt, "links");
+        links
+            .push((i, (11 * i + 5) % 1000, 'b'))
+            .expect(&rt, "links");
+    }
+    let graph = graph_of(&rt, rt.alloc(), &[0; 1000], links.as_slice());
+    thousand_by_sevens_holds(&rt, &graph.expect(&rt, "thousand_by_sevens"));
+}
