@@ -18,7 +18,7 @@ use Rattle.guppy_graph.specs.Graph.{GraphData, IsPackageGraph}
 use Rattle.guppy_graph.specs.Ids.{HasId, id_at, ix_position}
 use Rattle.guppy.specs.declared.cycles.CycleIds.{CycleIds}
 use Rattle.guppy.specs.Listed.{ids_at}
-use Rattle.guppy.specs.ListedCycles.{cycles_of, cycle_to_come}
+use Rattle.guppy.specs.ListedCycles.{cycles_of, cycle_left}
 use Rattle.guppy.proofs.Listed.{ids_at-count}
 use Rattle.guppy_graph.proofs.OnCycles.{IsCyclicBlock, block_of_cycle, cycle_of_block, near_below}
 
@@ -145,8 +145,8 @@ has_within (r ∷ packages) zero id h = omega arith
 has_within (r ∷ packages) (suc p) id h = let l = has_within packages p id h in omega arith
 
 -- each package of a cycle has an ID
-pub cycle_to_come-count : (s : CycleIds) → length (cycle_to_come s) ≡ length (iter_rest s.rest)
-cycle_to_come-count s = ids_at-count s.graph.now.packages (map ix_position (iter_rest s.rest)) s.in_graph ∙ length-map (iter_rest s.rest) ix_position
+pub cycle_left-count : (s : CycleIds) → length (cycle_left s) ≡ length (iter_rest s.rest)
+cycle_left-count s = ids_at-count s.graph.now.packages (map ix_position (iter_rest s.rest)) s.in_graph ∙ length-map (iter_rest s.rest) ix_position
 
 module _ (g : GraphData) (is : IsPackageGraph g) where
   -- packages whose IDs are on one of the listed cycles are cyclic

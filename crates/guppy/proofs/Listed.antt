@@ -9,8 +9,8 @@ use Rattle.guppy.specs.declared.set.lists.ListedPackageIds.{ListedPackageIds}
 use Rattle.guppy.specs.declared.set.roots.RootIds.{RootIds}
 use Rattle.guppy_graph.specs.Graph.{GraphData}
 use Rattle.guppy_graph.specs.Ids.{id_at, ix_position}
-use Rattle.guppy.specs.Listed.{id_of, ids_at, ids_to_come, packages_to_come}
-use Rattle.guppy.specs.Rooted.{roots_to_come, root_ids_to_come}
+use Rattle.guppy.specs.Listed.{id_of, ids_at, listed_ids_left, listed_left}
+use Rattle.guppy.specs.Rooted.{roots_left, root_ids_left}
 
 pub id_found : (o : Option PackageRecord) (id : List ℕ) → IsSomeAnd o (λ r. id ≡ r.id) → option_map (λ r. r.id) o ≡ Some id
 id_found None id h = absurd h
@@ -42,8 +42,8 @@ pub ids_of_seen : (g : GraphData) (ps : List ℕ) → filter_map id_of (map (λ 
 ids_of_seen g [] = refl
 ids_of_seen g (p ∷ ps) = ap (cons_option (id_at g.packages p)) (ids_of_seen g ps)
 
-pub ids_to_come-count : (s : ListedPackageIds) → length (ids_to_come s) ≡ length (packages_to_come s.packages)
-ids_to_come-count s = ids_count (λ p. p) s.packages.graph.now s.packages.rest s.packages.in_graph
+pub listed_ids_left-count : (s : ListedPackageIds) → length (listed_ids_left s) ≡ length (listed_left s.packages)
+listed_ids_left-count s = ids_count (λ p. p) s.packages.graph.now s.packages.rest s.packages.in_graph
 
-pub root_ids_to_come-count : (s : RootIds) → length (root_ids_to_come s) ≡ length (roots_to_come s.packages)
-root_ids_to_come-count s = ids_count ix_position s.packages.graph.now (into_iter_items s.packages.rest) s.packages.in_graph
+pub root_ids_left-count : (s : RootIds) → length (root_ids_left s) ≡ length (roots_left s.packages)
+root_ids_left-count s = ids_count ix_position s.packages.graph.now (into_iter_items s.packages.rest) s.packages.in_graph

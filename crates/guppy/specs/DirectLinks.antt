@@ -5,16 +5,13 @@ use Rattle.guppy_search.specs.declared.ix.direction.DependencyDirection.{Depende
 use Rattle.guppy_core.specs.Links.{near_end, far_end, links_at}
 use Rattle.guppy.specs.declared.package_graph.types.PackageMetadata.{PackageMetadata}
 use Rattle.guppy.specs.declared.package_graph.types.PackageLink.{PackageLink}
+use Rattle.guppy.specs.Views.{graph_of, package_position, link_graph, link_number}
 use Rattle.guppy_graph.specs.Ids.{HasId}
 use Rattle.guppy_graph.specs.Graph.{GraphData}
 
--- a link is seen as its graph and its number
-abbrev pub link_seen : PackageLink → Bor GraphData × ℕ
-link_seen l = (l.graph, l.number)
-
 -- the links that leave the package in the direction, ascending by number
 abbrev pub links_leaving : PackageMetadata → DependencyDirection → List (Bor GraphData × ℕ)
-links_leaving m d = map (λ n. (m.graph, n)) (links_at d m.graph.now.links m.position)
+links_leaving m d = map (λ n. (graph_of m, n)) (links_at d (graph_of m).now.links (package_position m))
 
 -- the link leaves the one position in the direction, and leads to the other
 abbrev pub IsLinkFrom : GraphData → DependencyDirection → ℕ → ℕ → ℕ → Type 0
@@ -27,5 +24,5 @@ IsLinkTo g d p id n = IsSomeAnd (slice_get g.links n) (λ l. (near_end d l ≡ p
 -- the link that leaves the package in the direction and leads to the one with the ID, if there is one
 abbrev pub IsLinkBetween : PackageMetadata → DependencyDirection → List ℕ → Option PackageLink → Type 0
 IsLinkBetween m d id found = MatchOption found
-    ((n : ℕ) → IsLinkTo m.graph.now d m.position id n → ⊥)
-    (λ l. (l.graph ≡ m.graph) × IsLinkTo m.graph.now d m.position id l.number)
+    ((n : ℕ) → ¬ IsLinkTo (graph_of m).now d (package_position m) id n)
+    (λ l. (link_graph l ≡ graph_of m) × IsLinkTo (graph_of m).now d (package_position m) id (link_number l))

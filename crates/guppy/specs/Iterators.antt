@@ -5,16 +5,11 @@ use Rattle.std.specs.Borrow.{Bor}
 use Rattle.std.specs.Slice.Iter.{iter_rest}
 use Rattle.guppy.specs.declared.package_graph.graph.PackageIds.{PackageIds}
 use Rattle.guppy.specs.declared.package_graph.graph.AllPackages.{AllPackages}
-use Rattle.guppy.specs.declared.package_graph.types.PackageMetadata.{PackageMetadata}
 use Rattle.guppy_graph.specs.Ids.{ids_of}
 use Rattle.guppy_graph.specs.Graph.{GraphData}
 
 abbrev pub ids_left : PackageIds → List (List ℕ)
 ids_left s = ids_of (iter_rest s.rest)
-
--- a package is seen as its graph and its position
-abbrev pub package_seen : PackageMetadata → Bor GraphData × ℕ
-package_seen m = (m.graph, m.position)
 
 -- the packages of the graph, by position
 abbrev pub packages_of : Bor GraphData → List (Bor GraphData × ℕ)

@@ -6,6 +6,7 @@ use Rattle.guppy_core.specs.IxSet.{has}
 use Rattle.guppy_core.specs.Sccs.{listed}
 use Rattle.guppy_data.specs.declared.records.PackageRecord.{PackageRecord}
 use Rattle.guppy.specs.declared.package_graph.types.PackageMetadata.{PackageMetadata}
+use Rattle.guppy.specs.Views.{graph_of, package_position}
 use Rattle.guppy.specs.declared.set.lists.ListedPackages.{ListedPackages}
 use Rattle.guppy.specs.declared.set.lists.ListedPackageIds.{ListedPackageIds}
 use Rattle.guppy_graph.specs.Ids.{id_at}
@@ -18,7 +19,7 @@ positions_listed d s = listed d (filter (has s.included) (concat s.graph.compone
 
 -- a package is seen as what its graph is and its position
 abbrev pub package_in : PackageMetadata → GraphData × ℕ
-package_in m = (m.graph.now, m.position)
+package_in m = ((graph_of m).now, package_position m)
 
 -- the packages of the set as they are listed
 abbrev pub packages_listed : DependencyDirection → SetData → List (GraphData × ℕ)
@@ -32,8 +33,8 @@ id_of seen = id_at seen.0.packages seen.1
 abbrev pub ids_at : List PackageRecord → List ℕ → List (List ℕ)
 ids_at packages positions = filter_map (id_at packages) positions
 
-abbrev pub packages_to_come : ListedPackages → List (GraphData × ℕ)
-packages_to_come s = map (λ p. (s.graph.now, p)) s.rest
+abbrev pub listed_left : ListedPackages → List (GraphData × ℕ)
+listed_left s = map (λ p. (s.graph.now, p)) s.rest
 
-abbrev pub ids_to_come : ListedPackageIds → List (List ℕ)
-ids_to_come s = filter_map id_of (packages_to_come s.packages)
+abbrev pub listed_ids_left : ListedPackageIds → List (List ℕ)
+listed_ids_left s = filter_map id_of (listed_left s.packages)

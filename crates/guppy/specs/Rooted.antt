@@ -26,8 +26,8 @@ abbrev pub AreRootIds : DependencyDirection → SetData → List (List ℕ) → 
 AreRootIds d s ids = (packages : List (GraphData × ℕ)) × AreRootPackages d s packages × (ids ≡ filter_map id_of packages)
 
 -- the roots that are still to come
-abbrev pub roots_to_come : RootPackages → List (GraphData × ℕ)
-roots_to_come r = map (λ ix. (r.graph.now, ix_position ix)) (into_iter_items r.rest)
+abbrev pub roots_left : RootPackages → List (GraphData × ℕ)
+roots_left r = map (λ ix. (r.graph.now, ix_position ix)) (into_iter_items r.rest)
 
-abbrev pub root_ids_to_come : RootIds → List (List ℕ)
-root_ids_to_come r = filter_map id_of (roots_to_come r.packages)
+abbrev pub root_ids_left : RootIds → List (List ℕ)
+root_ids_left r = filter_map id_of (roots_left r.packages)

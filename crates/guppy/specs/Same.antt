@@ -6,6 +6,7 @@ use Rattle.std.specs.Cmp.Lexicographic.{pointwise}
 use Rattle.std.specs.Str.{bytes_eq}
 use Rattle.guppy_data.specs.declared.records.PackageRecord.{PackageRecord}
 use Rattle.guppy.specs.declared.package_graph.types.PackageMetadata.{PackageMetadata}
+use Rattle.guppy.specs.Views.{graph_packages, package_position}
 use Rattle.guppy_graph.specs.Ids.{ids_of}
 use Rattle.guppy.specs.Query.{SetData}
 
@@ -19,4 +20,4 @@ same_set = eq_of_both (on (λ s. s.graph.packages) same_ids) (on (λ s. s.includ
 
 -- whether the graphs' lists of IDs are equal, and the packages have one position
 abbrev pub same_package : PackageMetadata → PackageMetadata → Bool
-same_package = eq_of_both (on (λ m. m.graph.now.packages) same_ids) (on (λ m. m.position) ◌==◌)
+same_package = eq_of_both (on graph_packages same_ids) (on package_position ◌==◌)

@@ -3,6 +3,7 @@ use Rattle.std.specs.Prelude.{◌≡◌, ℕ, Bool, List}
 use Rattle.std.specs.Borrow.{Bor}
 use Rattle.guppy_core.specs.Resolve.{LeavesOne}
 use Rattle.guppy.specs.declared.package_graph.types.PackageLink.{PackageLink}
+use Rattle.guppy.specs.Views.{link_graph, link_number}
 use Rattle.guppy_graph.specs.Ids.{HasId}
 use Rattle.guppy_graph.specs.Graph.{GraphData}
 use Rattle.guppy.specs.Query.{QueryData, IncludesId, initials_of}
@@ -14,29 +15,29 @@ pub record LinkData : Type 0 where
 
 -- the link that a view shows
 abbrev pub link_data : PackageLink → LinkData
-link_data l = record { graph = l.graph.now; number = l.number }
+link_data l = record { graph = (link_graph l).now; number = link_number l }
 
 -- the link of the query's graph with this number
-abbrev pub link_in : QueryData → ℕ → LinkData
-link_in query n = record { graph = query.graph; number = n }
+abbrev pub query_link : QueryData → ℕ → LinkData
+query_link query n = record { graph = query.graph; number = n }
 
 -- what a visitor of the query may do at its link n
 abbrev pub VisitsAt : {V : Type 0} → (V → QueryData → LinkData → Bool → V → Type 0) → QueryData → V → ℕ → Bool → V → Type 0
-VisitsAt visits query s n answer t = visits s query (link_in query n) answer t
+VisitsAt visits query s n answer t = visits s query (query_link query n) answer t
 
 -- the visitor of the query may be shown its link n
 abbrev pub MayVisitAt : {V : Type 0} → (V → QueryData → LinkData → Type 0) → QueryData → V → ℕ → Type 0
-MayVisitAt may_visit query s n = may_visit s query (link_in query n)
+MayVisitAt may_visit query s n = may_visit s query (query_link query n)
 
 module _ {F : Type 0} where
   -- what a call of the closure may do at the query's link n
   abbrev pub CallsAt : (F → Bor QueryData → PackageLink → Bool → F → Type 0) → QueryData → F → ℕ → Bool → F → Type 0
   CallsAt step query f n answer g =
-      (cx : Bor QueryData) × (link : PackageLink) × step f cx link answer g × (cx.now ≡ query) × (link_data link ≡ link_in query n)
+      (cx : Bor QueryData) × (link : PackageLink) × step f cx link answer g × (cx.now ≡ query) × (link_data link ≡ query_link query n)
 
   -- the closure may be called at the query's link n
   abbrev pub MayCallAt : (F → Bor QueryData → PackageLink → Type 0) → QueryData → F → ℕ → Type 0
-  MayCallAt pre query f n = (cx : Bor QueryData) (link : PackageLink) → cx.now ≡ query → link_data link ≡ link_in query n → pre f cx link
+  MayCallAt pre query f n = (cx : Bor QueryData) (link : PackageLink) → cx.now ≡ query → link_data link ≡ query_link query n → pre f cx link
 
 -- the end that the link leaves, in the query's direction, has the ID of an initial package
 abbrev pub StartsFromInitial : QueryData → LinkData → Type 0

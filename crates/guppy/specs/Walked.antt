@@ -6,6 +6,7 @@ use Rattle.guppy_core.specs.Reach.{LinkStep, MutualReach}
 use Rattle.guppy_core.specs.Roots.{IsRoot}
 use Rattle.guppy_core.specs.Walked.{AreWalked, IsLinkInside, HoldsComponents, numbers_of}
 use Rattle.guppy.specs.declared.package_graph.types.PackageLink.{PackageLink}
+use Rattle.guppy.specs.Views.{link_graph, link_number}
 use Rattle.guppy.specs.declared.set.links.WalkedLinks.{WalkedLinks}
 use Rattle.guppy_graph.specs.Graph.{GraphData}
 use Rattle.guppy.specs.Query.{SetData}
@@ -20,7 +21,7 @@ AreWalkedOf d s = AreWalked d s.graph.links s.included (IsRootOf d s)
 
 -- a link is seen as what its graph is and its number
 abbrev pub link_in : PackageLink → GraphData × ℕ
-link_in l = (l.graph.now, l.number)
+link_in l = ((link_graph l).now, link_number l)
 
 -- the links of the set that are walked from its roots in the direction
 abbrev pub AreWalkedLinks : DependencyDirection → SetData → List (GraphData × ℕ) → Type 0
@@ -35,5 +36,5 @@ abbrev pub AreLinksInside : SetData → List (GraphData × ℕ) → Type 0
 AreLinksInside s links = (n : ℕ) → Contains links (s.graph, n) ↔ IsLinkInside s.graph.links s.included n
 
 -- the links that are still to come
-abbrev pub links_to_come : WalkedLinks → List (GraphData × ℕ)
-links_to_come s = map (λ n. (s.graph.now, n)) (numbers_of s.rest)
+abbrev pub walked_left : WalkedLinks → List (GraphData × ℕ)
+walked_left s = map (λ n. (s.graph.now, n)) (numbers_of s.rest)

@@ -14,18 +14,21 @@ use guppy_data::{Error, PackageId};
 use std::slice;
 
 impl PackageGraph {
+    ghost use Rattle.guppy.specs.Views.{cycles_graph};
+
     /// The cycles of the graph. Takes no memory and constant time.
     pub fn cycles(&self) -> Cycles<'_>
-        ensures { result.graph ≡ self.entry }
+        ensures { cycles_graph result ≡ self.entry }
     {
         Cycles { graph: self }
     }
 }
 
 impl<'g> Cycles<'g> {
+    ghost use Rattle.guppy.specs.Views.{cycles_graph, cycles_packages};
     ghost use Rattle.guppy_graph.specs.Ordered.{IsOrdered};
     ghost use Rattle.guppy_graph.specs.Cycles.{AreOnOne};
-    ghost use Rattle.guppy.specs.ListedCycles.{cycles_of, cycles_to_come};
+    ghost use Rattle.guppy.specs.ListedCycles.{cycles_of, cycles_left};
 
     /// Whether the two packages are on one cycle: whether at least one link leads from the first to
     /// the second, and at least one back. So a package is on one with itself only where a link leads
@@ -35,10 +38,10 @@ impl<'g> Cycles<'g> {
     /// logarithm of the packages, and with the links that leave the first package. Takes memory only
     /// for that error's copy of the ID.
     pub fn is_cyclic(self, a: &PackageId, b: &PackageId) -> Result<bool, Error>
-        ensures known { OnOk result (IsKnown self.entry.graph.now.packages a.now × IsKnown self.entry.graph.now.packages b.now) }
-        ensures answer { IfOk result (λ cyclic. IsTrue cyclic ↔ AreCyclic self.entry.graph.now a.now b.now) }
-        ensures answered { IsKnown self.entry.graph.now.packages a.now → IsKnown self.entry.graph.now.packages b.now → IsOk result }
-        ensures unknown { IfErr result (NamesId (IsFirstUnknown self.entry.graph.now.packages (a.now ∷ b.now ∷ []))) }
+        ensures known { OnOk result (IsKnown (cycles_packages self.entry) a.now × IsKnown (cycles_packages self.entry) b.now) }
+        ensures answer { IfOk result (λ cyclic. IsTrue cyclic ↔ AreCyclic (cycles_graph self.entry).now a.now b.now) }
+        ensures answered { IsKnown (cycles_packages self.entry) a.now → IsKnown (cycles_packages self.entry) b.now → IsOk result }
+        ensures unknown { IfErr result (NamesId (IsFirstUnknown (cycles_packages self.entry) (a.now ∷ b.now ∷ []))) }
     {
         let (from, to) = self.graph.pair_of(a, b)?;
         Ok(self.graph.have_cycle(from, to))
@@ -53,9 +56,9 @@ impl<'g> Cycles<'g> {
     /// Takes no memory and constant time. Going through all of them takes time in the number of
     /// components, and of the links that leave those with one package.
     pub fn all_cycles(self) -> AllCycles<'g>
-        ensures left { cycles_to_come result ≡ cycles_of self.entry.graph.now }
-        ensures common { (a b : List ℕ) → AreOnOne (cycles_to_come result) a b ↔ AreCyclic self.entry.graph.now a b }
-        ensures ordered { IsOrdered (length self.entry.graph.now.packages) self.entry.graph.now.links self.entry.graph.now.index self.entry.graph.now.components }
+        ensures left { cycles_left result ≡ cycles_of (cycles_graph self.entry).now }
+        ensures common { (a b : List ℕ) → AreOnOne (cycles_left result) a b ↔ AreCyclic (cycles_graph self.entry).now a b }
+        ensures ordered { IsOrdered (length (cycles_packages self.entry)) (cycles_graph self.entry).now.links (cycles_graph self.entry).now.index (cycles_graph self.entry).now.components }
     {
         AllCycles {
             graph: self.graph,
@@ -130,13 +133,13 @@ pub struct AllCycles<'g> {
 
 impl<'g> Iterator for AllCycles<'g> {
     ghost use Rattle.std.specs.Iterator.{YieldsFirstBy, item_count};
-    ghost use Rattle.guppy.specs.ListedCycles.{cycle_to_come, cycles_to_come};
+    ghost use Rattle.guppy.specs.ListedCycles.{cycle_left, cycles_left};
 
     type Item = CycleIds<'g>;
 
-    ghost next_gives = { YieldsFirstBy cycle_to_come cycles_to_come };
+    ghost next_gives = { YieldsFirstBy cycle_left cycles_left };
 
-    ghost remaining = { item_count cycles_to_come };
+    ghost remaining = { item_count cycles_left };
 
     fn next(&mut self) -> Option<CycleIds<'g>> {
         let component = first_cyclic(self.graph, &mut self.rest)?;
@@ -149,9 +152,9 @@ impl<'g> Iterator for AllCycles<'g> {
 
 impl<'g> DoubleEndedIterator for AllCycles<'g> {
     ghost use Rattle.std.specs.Iterator.{YieldsLastBy};
-    ghost use Rattle.guppy.specs.ListedCycles.{cycle_to_come, cycles_to_come};
+    ghost use Rattle.guppy.specs.ListedCycles.{cycle_left, cycles_left};
 
-    ghost next_back_gives = { YieldsLastBy cycle_to_come cycles_to_come };
+    ghost next_back_gives = { YieldsLastBy cycle_left cycles_left };
 
     fn next_back(&mut self) -> Option<CycleIds<'g>> {
         let component = last_cyclic(self.graph, &mut self.rest)?;
@@ -173,13 +176,13 @@ pub struct CycleIds<'g> {
 
 impl<'g> Iterator for CycleIds<'g> {
     ghost use Rattle.std.specs.Iterator.{YieldsFirstRef, item_count};
-    ghost use Rattle.guppy.specs.ListedCycles.{cycle_to_come};
+    ghost use Rattle.guppy.specs.ListedCycles.{cycle_left};
 
     type Item = &'g PackageId;
 
-    ghost next_gives = { YieldsFirstRef cycle_to_come };
+    ghost next_gives = { YieldsFirstRef cycle_left };
 
-    ghost remaining = { item_count cycle_to_come };
+    ghost remaining = { item_count cycle_left };
 
     fn next(&mut self) -> Option<&'g PackageId> {
         let ix = self.rest.next()?;

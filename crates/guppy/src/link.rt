@@ -9,7 +9,6 @@ ghost use Rattle.guppy_data.specs.DependencyReq.{seen_req};
 ghost use Rattle.guppy_data.specs.Utf8Path.{path_text};
 ghost use Rattle.guppy_graph.specs.DevOnly.{is_dev_only};
 ghost use Rattle.guppy_graph.specs.Sections.{section_of};
-ghost use Rattle.guppy.specs.Views.{OfLink};
 
 use crate::metadata::{path_of, text_of};
 pub use crate::package_graph::PackageLink;
@@ -20,19 +19,21 @@ use guppy_graph::is_dev_only;
 use semver::VersionReq;
 
 impl<'g> PackageLink<'g> {
+    ghost use Rattle.guppy.specs.Views.{graph_of, package_position, link_graph, link_number, OfLink};
+
     // The link between positions, with its record.
     fn link(self) -> &'g Link<LinkRecord>
-        ensures at { slice_get self.entry.graph.now.links self.entry.number ≡ Some result.now }
-        ensures from { result.now.from < length self.entry.graph.now.packages }
-        ensures to { result.now.to < length self.entry.graph.now.packages }
+        ensures at { slice_get (link_graph self.entry).now.links (link_number self.entry) ≡ Some result.now }
+        ensures from { result.now.from < length (link_graph self.entry).now.packages }
+        ensures to { result.now.to < length (link_graph self.entry).now.packages }
     {
         self.graph.link_at(self.number)
     }
 
     /// The package that depends.
     pub fn from(self) -> PackageMetadata<'g>
-        ensures graph { result.graph ≡ self.entry.graph }
-        ensures position { OfLink self.entry (λ l. result.position ≡ l.from) }
+        ensures graph { graph_of result ≡ link_graph self.entry }
+        ensures position { OfLink self.entry (λ l. package_position result ≡ l.from) }
     {
         PackageMetadata {
             graph: self.graph,
@@ -42,8 +43,8 @@ impl<'g> PackageLink<'g> {
 
     /// The package depended on.
     pub fn to(self) -> PackageMetadata<'g>
-        ensures graph { result.graph ≡ self.entry.graph }
-        ensures position { OfLink self.entry (λ l. result.position ≡ l.to) }
+        ensures graph { graph_of result ≡ link_graph self.entry }
+        ensures position { OfLink self.entry (λ l. package_position result ≡ l.to) }
     {
         PackageMetadata {
             graph: self.graph,
@@ -53,16 +54,16 @@ impl<'g> PackageLink<'g> {
 
     /// The package that depends, and the one depended on.
     pub fn endpoints(self) -> (PackageMetadata<'g>, PackageMetadata<'g>)
-        ensures from_graph { result.0.graph ≡ self.entry.graph }
-        ensures to_graph { result.1.graph ≡ self.entry.graph }
-        ensures positions { OfLink self.entry (λ l. (result.0.position ≡ l.from) × (result.1.position ≡ l.to)) }
+        ensures from_graph { graph_of result.0 ≡ link_graph self.entry }
+        ensures to_graph { graph_of result.1 ≡ link_graph self.entry }
+        ensures positions { OfLink self.entry (λ l. (package_position result.0 ≡ l.from) × (package_position result.1 ≡ l.to)) }
     {
         (self.from(), self.to())
     }
 
     /// The number of the link, its place in the list that the graph was made of.
     pub fn link_ix(self) -> usize
-        ensures { result ≡ self.entry.number }
+        ensures { result ≡ link_number self.entry }
     {
         self.number
     }

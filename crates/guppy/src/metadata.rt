@@ -10,7 +10,6 @@ ghost use Rattle.guppy_data.specs.PackageSource.{recorded_origin, seen_origin};
 ghost use Rattle.guppy_data.specs.Utf8Path.{path_text};
 ghost use Rattle.guppy_graph.specs.Members.{member_path};
 ghost use Rattle.guppy_graph.specs.Ids.{ix_position};
-ghost use Rattle.guppy.specs.Views.{OfPackage};
 
 mod features;
 mod links;
@@ -27,23 +26,25 @@ use serde_json::Value;
 pub use targets::BuildTargets;
 
 impl<'g> PackageMetadata<'g> {
+    ghost use Rattle.guppy.specs.Views.{graph_of, graph_packages, package_position, OfPackage};
+
     /// The graph that the package is of.
     pub fn graph(self) -> &'g PackageGraph
-        ensures { result ≡ self.entry.graph }
+        ensures { result ≡ graph_of self.entry }
     {
         self.graph
     }
 
     /// The position of the package, its place in the list that the graph was made of.
     pub fn package_ix(self) -> PackageIx
-        ensures { ix_position result ≡ self.entry.position }
+        ensures { ix_position result ≡ package_position self.entry }
     {
         self.graph.ix_at(self.position)
     }
 
     // The record of the package.
     fn record(self) -> &'g PackageRecord
-        ensures { slice_get self.entry.graph.now.packages self.entry.position ≡ Some result.now }
+        ensures { slice_get (graph_packages self.entry) (package_position self.entry) ≡ Some result.now }
     {
         self.graph.package_at(self.position)
     }

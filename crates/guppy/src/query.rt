@@ -1,7 +1,7 @@
 //! Queries: where to start, in which direction to go, and the set that a resolve includes.
 ghost use Rattle.std.specs.Prelude.{◌≡◌, ◌↔◌, ◌<◌, IsTrue, length};
 ghost use Rattle.guppy.specs.Query.{initials_of};
-ghost use Rattle.guppy.specs.Visitors.{link_data, link_in, StartsFromInitial};
+ghost use Rattle.guppy.specs.Visitors.{link_data, query_link, StartsFromInitial};
 
 mod recorder;
 mod resolve;
@@ -91,7 +91,7 @@ impl<'g> PackageLinkContext<'g> {
     /// The link of the query's graph with the number.
     pub(crate) fn link_at(&self, number: usize) -> PackageLink<'g>
         requires { number < length self.now.graph.links }
-        ensures { link_data result ≡ link_in self.now number }
+        ensures { link_data result ≡ query_link self.now number }
     {
         PackageLink {
             graph: self.query.graph(),

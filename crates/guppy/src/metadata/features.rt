@@ -3,7 +3,6 @@ ghost use Rattle.std.specs.List.{enumerate_from};
 ghost use Rattle.std.specs.String.{string_bytes};
 ghost use Rattle.std.specs.Slice.Iter.{iter_rest};
 ghost use Rattle.indexmap.specs.IndexMap.{keys};
-ghost use Rattle.guppy.specs.Views.{OfPackage};
 ghost use Rattle.guppy.specs.Features.{HasFeature, numbered_feature, numbered_dep};
 
 use crate::package_graph::PackageMetadata;
@@ -23,6 +22,7 @@ pub enum FeatureIndexInPackage {
 }
 
 impl<'g> PackageMetadata<'g> {
+    ghost use Rattle.guppy.specs.Views.{OfPackage};
     ghost use Rattle.guppy.specs.FeatureIterators.{names_left, features_left, deps_left};
 
     /// Whether the package has a named feature `default`. Takes constant time on average.

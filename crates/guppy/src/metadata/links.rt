@@ -9,6 +9,7 @@ use guppy_data::{Error, PackageId};
 use std::slice;
 
 impl<'g> PackageMetadata<'g> {
+    ghost use Rattle.guppy.specs.Views.{graph_of, graph_packages, package_position};
     ghost use Rattle.guppy.specs.DirectLinks.{links_leaving, IsLinkFrom, IsLinkBetween};
     ghost use Rattle.guppy.specs.PackageLinks.{links_left};
 
@@ -55,10 +56,10 @@ impl<'g> PackageMetadata<'g> {
         other_id: &PackageId,
         direction: DependencyDirection,
     ) -> Result<Option<PackageLink<'g>>, Error>
-        ensures known { OnOk result (IsKnown self.entry.graph.now.packages other_id.now) }
+        ensures known { OnOk result (IsKnown (graph_packages self.entry) other_id.now) }
         ensures found { IfOk result (IsLinkBetween self.entry direction other_id.now) }
-        ensures answered { IsKnown self.entry.graph.now.packages other_id.now → IsOk result }
-        ensures unknown { IfErr result (NamesId (IsFirstUnknown self.entry.graph.now.packages (other_id.now ∷ []))) }
+        ensures answered { IsKnown (graph_packages self.entry) other_id.now → IsOk result }
+        ensures unknown { IfErr result (NamesId (IsFirstUnknown (graph_packages self.entry) (other_id.now ∷ []))) }
     {
         let other = self.graph.ix_of(other_id)?;
         match self.number_between(other, direction) {
@@ -72,9 +73,9 @@ impl<'g> PackageMetadata<'g> {
 
     // The number of the link between this package and the other, as `link_between` says.
     fn number_between(self, other: PackageIx, direction: DependencyDirection) -> Option<usize>
-        requires { ix_position other < length self.graph.now.packages }
-        ensures { MatchOption result ((n : ℕ) → ¬ IsLinkFrom self.entry.graph.now direction self.entry.position (ix_position other) n)
-            (IsLinkFrom self.entry.graph.now direction self.entry.position (ix_position other)) }
+        requires { ix_position other < length (graph_packages self) }
+        ensures { MatchOption result ((n : ℕ) → ¬ IsLinkFrom (graph_of self.entry).now direction (package_position self.entry) (ix_position other) n)
+            (IsLinkFrom (graph_of self.entry).now direction (package_position self.entry) (ix_position other)) }
     {
         let graph = self.graph.graph();
         match direction {
@@ -85,20 +86,20 @@ impl<'g> PackageMetadata<'g> {
 
     /// The link from this package to the one with the ID, if there is one: `link_between` Forward.
     pub fn link_to(self, other_id: &PackageId) -> Result<Option<PackageLink<'g>>, Error>
-        ensures known { OnOk result (IsKnown self.entry.graph.now.packages other_id.now) }
+        ensures known { OnOk result (IsKnown (graph_packages self.entry) other_id.now) }
         ensures found { IfOk result (IsLinkBetween self.entry DependencyDirection.Forward other_id.now) }
-        ensures answered { IsKnown self.entry.graph.now.packages other_id.now → IsOk result }
-        ensures unknown { IfErr result (NamesId (IsFirstUnknown self.entry.graph.now.packages (other_id.now ∷ []))) }
+        ensures answered { IsKnown (graph_packages self.entry) other_id.now → IsOk result }
+        ensures unknown { IfErr result (NamesId (IsFirstUnknown (graph_packages self.entry) (other_id.now ∷ []))) }
     {
         self.link_between(other_id, DependencyDirection::Forward)
     }
 
     /// The link from the package with the ID to this one, if there is one: `link_between` Reverse.
     pub fn link_from(self, other_id: &PackageId) -> Result<Option<PackageLink<'g>>, Error>
-        ensures known { OnOk result (IsKnown self.entry.graph.now.packages other_id.now) }
+        ensures known { OnOk result (IsKnown (graph_packages self.entry) other_id.now) }
         ensures found { IfOk result (IsLinkBetween self.entry DependencyDirection.Reverse other_id.now) }
-        ensures answered { IsKnown self.entry.graph.now.packages other_id.now → IsOk result }
-        ensures unknown { IfErr result (NamesId (IsFirstUnknown self.entry.graph.now.packages (other_id.now ∷ []))) }
+        ensures answered { IsKnown (graph_packages self.entry) other_id.now → IsOk result }
+        ensures unknown { IfErr result (NamesId (IsFirstUnknown (graph_packages self.entry) (other_id.now ∷ []))) }
     {
         self.link_between(other_id, DependencyDirection::Reverse)
     }
@@ -114,7 +115,7 @@ pub struct PackageLinks<'g> {
 
 impl<'g> Iterator for PackageLinks<'g> {
     ghost use Rattle.std.specs.Iterator.{YieldsFirstBy, item_count};
-    ghost use Rattle.guppy.specs.DirectLinks.{link_seen};
+    ghost use Rattle.guppy.specs.Views.{link_seen};
     ghost use Rattle.guppy.specs.PackageLinks.{links_left};
 
     type Item = PackageLink<'g>;

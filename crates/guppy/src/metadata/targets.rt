@@ -1,7 +1,6 @@
 ghost use Rattle.std.specs.Prelude.{◌≡◌, ◌↔◌, ◌<◌, IsTrue, MatchOption, All, length};
 ghost use Rattle.guppy_data.specs.BuildTargetId.{Library, BuildScript, recorded_id, seen_id};
 ghost use Rattle.guppy_data.specs.BuildTargetKind.{ProcMacro, recorded_kind};
-ghost use Rattle.guppy.specs.Views.{OfPackage};
 ghost use Rattle.std.specs.Slice.Iter.{iter_rest};
 ghost use Rattle.guppy_graph.specs.Targets.{IsNamed};
 ghost use Rattle.guppy.specs.BuildTargets.{IsProcMacro, HasBuildScript, IsTargetWith, NoTargetWith, IsTargetOf};
@@ -13,6 +12,7 @@ use guppy_data::{
 use std::slice;
 
 impl<'g> PackageMetadata<'g> {
+    ghost use Rattle.guppy.specs.Views.{OfPackage};
     ghost use Rattle.guppy_graph.specs.Targets.{AreTargetsById};
     ghost use Rattle.guppy.specs.TargetIterators.{targets_left};
 

@@ -36,6 +36,7 @@ impl Model for PackageGraph {
 }
 
 impl PackageGraph {
+    ghost use Rattle.guppy.specs.Views.{graph_of, package_position};
     ghost use Rattle.guppy_graph.specs.Ids.{HasId, IsKnown, ids_of};
     ghost use Rattle.guppy_graph.specs.Graph.{Holds};
     ghost use Rattle.guppy_graph.specs.Depends.{DependsOn, DirectlyDependsOn};
@@ -126,7 +127,7 @@ impl PackageGraph {
     /// `UnknownPackageId` tells an ID that is no package's. Time grows with the logarithm of the
     /// packages. Takes memory only for that error's copy of the ID.
     pub fn metadata(&self, id: &PackageId) -> Result<PackageMetadata<'_>, Error>
-        ensures found { IfOk result (λ m. (m.graph ≡ self.entry) × HasId self.now.packages id.now m.position) }
+        ensures found { IfOk result (λ m. (graph_of m ≡ self.entry) × HasId self.now.packages id.now (package_position m)) }
         ensures known { IsKnown self.now.packages id.now → IsOk result }
         ensures unknown { IfErr result (NamesId (IsFirstUnknown self.now.packages (id.now ∷ []))) }
     {
@@ -231,7 +232,8 @@ pub struct AllPackages<'g> {
 
 impl<'g> Iterator for AllPackages<'g> {
     ghost use Rattle.std.specs.Iterator.{YieldsFirstBy, item_count};
-    ghost use Rattle.guppy.specs.Iterators.{package_seen, packages_left};
+    ghost use Rattle.guppy.specs.Views.{package_seen};
+    ghost use Rattle.guppy.specs.Iterators.{packages_left};
 
     type Item = PackageMetadata<'g>;
 

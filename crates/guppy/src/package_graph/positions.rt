@@ -20,6 +20,8 @@ use guppy_data::{
 use guppy_graph::Packages;
 
 impl PackageGraph {
+    ghost use Rattle.guppy.specs.Views.{workspace_record};
+
     /// The graph by positions.
     pub(crate) fn graph(&self) -> &Graph<Packages>
         ensures nodes { result.now.nodes ≡ self.now.packages }

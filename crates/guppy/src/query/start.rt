@@ -155,14 +155,16 @@ fn forward_from<'g>(initials: PackageSet<'g>) -> PackageQuery<'g>
 }
 
 impl<'g> PackageMetadata<'g> {
+    ghost use Rattle.guppy.specs.Views.{graph_of, graph_packages, package_position};
+
     /// The query that starts at this package and follows links in the direction.
     ///
     /// Time grows with the packages. Takes memory for a bit a package, and fails, with
     /// `OutOfMemory`, only where there is none.
     pub fn to_package_query(self, direction: DependencyDirection) -> Result<PackageQuery<'g>, Error>
-        ensures graph { IfOk result (λ q. q.graph ≡ self.entry.graph.now) }
+        ensures graph { IfOk result (λ q. q.graph ≡ (graph_of self.entry).now) }
         ensures direction { IfOk result (λ q. q.direction ≡ direction) }
-        ensures initials { IfOk result (λ q. IsSetWhere self.entry.graph.now.packages (λ p. p ≡ self.entry.position) q.initials) }
+        ensures initials { IfOk result (λ q. IsSetWhere (graph_packages self.entry) (λ p. p ≡ package_position self.entry) q.initials) }
         ensures error { IsOkUnless result Error.OutOfMemory }
     {
         let initials = self.to_package_set()?;

@@ -6,7 +6,7 @@ use guppy_core::{DependencyDirection, Links};
 use guppy_data::Error;
 
 impl<'g> PackageSet<'g> {
-    ghost use Rattle.guppy.specs.Walked.{AreWalkedLinks, AreLinksInside, IsWhole, links_to_come};
+    ghost use Rattle.guppy.specs.Walked.{AreWalkedLinks, AreLinksInside, IsWhole, walked_left};
 
     /// The links inside the set, those with both ends in it, that are walked from its roots: the end
     /// that a link leaves in the direction is a root of the set in that direction, as
@@ -21,8 +21,8 @@ impl<'g> PackageSet<'g> {
     /// some numbers a package and a link, and fails, with `OutOfMemory`, only where there is none. The
     /// iterator takes none.
     pub fn links(&self, direction: DependencyDirection) -> Result<WalkedLinks<'g>, Error>
-        ensures walked { IfOk result (λ links. AreWalkedLinks direction self.now (links_to_come links)) }
-        ensures all { IfOk result (λ links. IsWhole self.now → AreLinksInside self.now (links_to_come links)) }
+        ensures walked { IfOk result (λ links. AreWalkedLinks direction self.now (walked_left links)) }
+        ensures all { IfOk result (λ links. IsWhole self.now → AreLinksInside self.now (walked_left links)) }
         ensures error { IsOkUnless result Error.OutOfMemory }
     {
         let graph = self.graph;
@@ -41,13 +41,13 @@ pub struct WalkedLinks<'g> {
 
 impl<'g> Iterator for WalkedLinks<'g> {
     ghost use Rattle.std.specs.Iterator.{YieldsFirstBy, item_count};
-    ghost use Rattle.guppy.specs.Walked.{link_in, links_to_come};
+    ghost use Rattle.guppy.specs.Walked.{link_in, walked_left};
 
     type Item = PackageLink<'g>;
 
-    ghost next_gives = { YieldsFirstBy link_in links_to_come };
+    ghost next_gives = { YieldsFirstBy link_in walked_left };
 
-    ghost remaining = { item_count links_to_come };
+    ghost remaining = { item_count walked_left };
 
     fn next(&mut self) -> Option<PackageLink<'g>> {
         match self.rest.next() {

@@ -8,12 +8,12 @@ use guppy_data::PackageId;
 
 impl<'g> PackageSet<'g> {
     ghost use Rattle.guppy_graph.specs.Ordered.{IsOrdered};
-    ghost use Rattle.guppy.specs.Listed.{positions_listed, packages_listed, packages_to_come, ids_at, ids_to_come};
+    ghost use Rattle.guppy.specs.Listed.{positions_listed, packages_listed, listed_left, ids_at, listed_ids_left};
 
     /// The IDs of the set's packages, listed as `packages` lists them. Takes no memory.
     pub fn package_ids(&self, direction: DependencyDirection) -> ListedPackageIds<'_, 'g>
-        ensures left { ids_to_come result ≡ ids_at self.now.graph.packages (positions_listed direction self.now) }
-        ensures count { length (ids_to_come result) ≡ member_count self.now.included }
+        ensures left { listed_ids_left result ≡ ids_at self.now.graph.packages (positions_listed direction self.now) }
+        ensures count { length (listed_ids_left result) ≡ member_count self.now.included }
         ensures ordered { IsOrdered (length self.now.graph.packages) self.now.graph.links self.now.graph.index self.now.graph.components }
     {
         ListedPackageIds {
@@ -32,10 +32,10 @@ impl<'g> PackageSet<'g> {
     ///
     /// Reverse gives that list from its end. Takes no memory.
     pub fn packages(&self, direction: DependencyDirection) -> ListedPackages<'_, 'g>
-        ensures left { packages_to_come result ≡ packages_listed direction self.now }
+        ensures left { listed_left result ≡ packages_listed direction self.now }
         ensures members { (p : ℕ) → Stands (positions_listed direction self.now) p ↔ IsIn self.now.included p }
         ensures once { IsOnce (positions_listed direction self.now) }
-        ensures count { length (packages_to_come result) ≡ member_count self.now.included }
+        ensures count { length (listed_left result) ≡ member_count self.now.included }
         ensures ordered { IsOrdered (length self.now.graph.packages) self.now.graph.links self.now.graph.index self.now.graph.components }
     {
         ListedPackages {
@@ -56,13 +56,13 @@ pub struct ListedPackages<'s, 'g> {
 
 impl<'s, 'g> Iterator for ListedPackages<'s, 'g> {
     ghost use Rattle.std.specs.Iterator.{YieldsFirstBy, item_count};
-    ghost use Rattle.guppy.specs.Listed.{package_in, packages_to_come};
+    ghost use Rattle.guppy.specs.Listed.{package_in, listed_left};
 
     type Item = PackageMetadata<'g>;
 
-    ghost next_gives = { YieldsFirstBy package_in packages_to_come };
+    ghost next_gives = { YieldsFirstBy package_in listed_left };
 
-    ghost remaining = { item_count packages_to_come };
+    ghost remaining = { item_count listed_left };
 
     fn next(&mut self) -> Option<PackageMetadata<'g>> {
         match self.rest.next() {
@@ -94,13 +94,13 @@ pub struct ListedPackageIds<'s, 'g> {
 
 impl<'s, 'g> Iterator for ListedPackageIds<'s, 'g> {
     ghost use Rattle.std.specs.Iterator.{YieldsFirstRef, item_count};
-    ghost use Rattle.guppy.specs.Listed.{ids_to_come};
+    ghost use Rattle.guppy.specs.Listed.{listed_ids_left};
 
     type Item = &'g PackageId;
 
-    ghost next_gives = { YieldsFirstRef ids_to_come };
+    ghost next_gives = { YieldsFirstRef listed_ids_left };
 
-    ghost remaining = { item_count ids_to_come };
+    ghost remaining = { item_count listed_ids_left };
 
     fn next(&mut self) -> Option<&'g PackageId> {
         match self.packages.next() {

@@ -132,13 +132,15 @@ impl PackageGraph {
 }
 
 impl<'g> PackageMetadata<'g> {
+    ghost use Rattle.guppy.specs.Views.{graph_of, graph_packages, package_position};
+
     /// This package, and no other.
     ///
     /// Time grows with the packages. Takes memory for a bit a package, and fails, with
     /// `OutOfMemory`, only where there is none.
     pub fn to_package_set(self) -> Result<PackageSet<'g>, Error>
-        ensures graph { IfOk result (λ set. set.graph ≡ self.entry.graph.now) }
-        ensures members { IfOk result (λ set. IsSetWhere self.entry.graph.now.packages (λ p. p ≡ self.entry.position) set.included) }
+        ensures graph { IfOk result (λ set. set.graph ≡ (graph_of self.entry).now) }
+        ensures members { IfOk result (λ set. IsSetWhere (graph_packages self.entry) (λ p. p ≡ package_position self.entry) set.included) }
         ensures error { IsOkUnless result Error.OutOfMemory }
     {
         let graph = self.graph;

@@ -9,11 +9,11 @@ use guppy_data::{Error, PackageId};
 use std::vec;
 
 impl<'g> PackageSet<'g> {
-    ghost use Rattle.guppy.specs.Rooted.{AreRootPackages, AreRootIds, roots_to_come, root_ids_to_come};
+    ghost use Rattle.guppy.specs.Rooted.{AreRootPackages, AreRootIds, roots_left, root_ids_left};
 
     /// The IDs of the set's roots, as `root_packages` gives them.
     pub fn root_ids(&self, direction: DependencyDirection) -> Result<RootIds<'g>, Error>
-        ensures roots { IfOk result (λ roots. AreRootIds direction self.now (root_ids_to_come roots)) }
+        ensures roots { IfOk result (λ roots. AreRootIds direction self.now (root_ids_left roots)) }
         ensures error { IsOkUnless result Error.OutOfMemory }
     {
         let packages = self.root_packages(direction)?;
@@ -30,7 +30,7 @@ impl<'g> PackageSet<'g> {
     /// byte a component and a number a root, and fails, with `OutOfMemory`, only where there is none.
     /// The iterator takes none.
     pub fn root_packages(&self, direction: DependencyDirection) -> Result<RootPackages<'g>, Error>
-        ensures roots { IfOk result (λ roots. AreRootPackages direction self.now (roots_to_come roots)) }
+        ensures roots { IfOk result (λ roots. AreRootPackages direction self.now (roots_left roots)) }
         ensures error { IsOkUnless result Error.OutOfMemory }
     {
         let graph = self.graph;
@@ -53,13 +53,13 @@ pub struct RootPackages<'g> {
 impl<'g> Iterator for RootPackages<'g> {
     ghost use Rattle.std.specs.Iterator.{YieldsFirstBy, item_count};
     ghost use Rattle.guppy.specs.Listed.{package_in};
-    ghost use Rattle.guppy.specs.Rooted.{roots_to_come};
+    ghost use Rattle.guppy.specs.Rooted.{roots_left};
 
     type Item = PackageMetadata<'g>;
 
-    ghost next_gives = { YieldsFirstBy package_in roots_to_come };
+    ghost next_gives = { YieldsFirstBy package_in roots_left };
 
-    ghost remaining = { item_count roots_to_come };
+    ghost remaining = { item_count roots_left };
 
     fn next(&mut self) -> Option<PackageMetadata<'g>> {
         match self.rest.next() {
@@ -90,13 +90,13 @@ pub struct RootIds<'g> {
 
 impl<'g> Iterator for RootIds<'g> {
     ghost use Rattle.std.specs.Iterator.{YieldsFirstRef, item_count};
-    ghost use Rattle.guppy.specs.Rooted.{root_ids_to_come};
+    ghost use Rattle.guppy.specs.Rooted.{root_ids_left};
 
     type Item = &'g PackageId;
 
-    ghost next_gives = { YieldsFirstRef root_ids_to_come };
+    ghost next_gives = { YieldsFirstRef root_ids_left };
 
-    ghost remaining = { item_count root_ids_to_come };
+    ghost remaining = { item_count root_ids_left };
 
     fn next(&mut self) -> Option<&'g PackageId> {
         match self.packages.next() {

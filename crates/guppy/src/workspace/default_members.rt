@@ -8,12 +8,13 @@ use guppy_data::PackageId;
 use std::slice;
 
 impl<'g> Workspace<'g> {
+    ghost use Rattle.guppy.specs.Views.{workspace_graph, workspace_record};
     ghost use Rattle.guppy.specs.WorkspaceIterators.{with_ids, default_ids_left, defaults_left};
 
     /// The IDs of the packages that Cargo's commands act on where none is named, in the order of the
     /// record, with its repeats. Takes no memory and constant time.
     pub fn default_member_ids(self) -> DefaultMemberIds<'g>
-        ensures { default_ids_left result ≡ self.entry.graph.now.workspace.default_members.items }
+        ensures { default_ids_left result ≡ (workspace_record self.entry).default_members.items }
     {
         DefaultMemberIds {
             rest: self.graph.workspace_record().default_members.iter(),
@@ -24,7 +25,7 @@ impl<'g> Workspace<'g> {
     /// its repeats. Takes no memory and constant time, and each item time that grows with the
     /// logarithm of the packages.
     pub fn default_members(self) -> DefaultMembers<'g>
-        ensures { defaults_left result ≡ with_ids self.entry.graph self.entry.graph.now.workspace.default_members.items }
+        ensures { defaults_left result ≡ with_ids (workspace_graph self.entry) (workspace_record self.entry).default_members.items }
     {
         DefaultMembers {
             graph: self.graph,

@@ -13,14 +13,16 @@ use guppy_data::{Error, Utf8Path, Utf8PathBuf};
 use std::alloc::AllocError;
 
 impl<'g> Workspace<'g> {
+    ghost use Rattle.guppy.specs.Views.{graph_of, package_position, workspace_graph, workspace_packages};
+
     /// The member with the path, as paths are equal.
     ///
     /// `UnknownWorkspacePath` tells a path that is no member's. Time grows with the logarithm of the
     /// members. Takes memory only for that error's copy of the path.
     pub fn member_by_path(self, path: Utf8Path<'_>) -> Result<PackageMetadata<'g>, Error>
-        ensures found { IfOk result (λ m. (m.graph ≡ self.entry.graph) × HasPath self.entry.graph.now.packages (path_text path.entry) m.position) }
-        ensures known { IsMemberPath self.entry.graph.now.packages (path_text path.entry) → IsOk result }
-        ensures unknown { IfErr result (NamesPath (IsFirstUnknownPath self.entry.graph.now.packages (path_text path.entry ∷ []))) }
+        ensures found { IfOk result (λ m. (graph_of m ≡ workspace_graph self.entry) × HasPath (workspace_packages self.entry) (path_text path.entry) (package_position m)) }
+        ensures known { IsMemberPath (workspace_packages self.entry) (path_text path.entry) → IsOk result }
+        ensures unknown { IfErr result (NamesPath (IsFirstUnknownPath (workspace_packages self.entry) (path_text path.entry ∷ []))) }
     {
         let ix = self.graph.ix_of_path(path)?;
         Ok(PackageMetadata {
@@ -34,9 +36,9 @@ impl<'g> Workspace<'g> {
     /// `UnknownWorkspaceName` tells a name that is no member's. Time grows with the logarithm of the
     /// members. Takes memory only for that error's copy of the name.
     pub fn member_by_name(self, name: &str) -> Result<PackageMetadata<'g>, Error>
-        ensures found { IfOk result (λ m. (m.graph ≡ self.entry.graph) × HasName self.entry.graph.now.packages name.now m.position) }
-        ensures known { IsMemberName self.entry.graph.now.packages name.now → IsOk result }
-        ensures unknown { IfErr result (NamesName (IsFirstUnknownName self.entry.graph.now.packages (name.now ∷ []))) }
+        ensures found { IfOk result (λ m. (graph_of m ≡ workspace_graph self.entry) × HasName (workspace_packages self.entry) name.now (package_position m)) }
+        ensures known { IsMemberName (workspace_packages self.entry) name.now → IsOk result }
+        ensures unknown { IfErr result (NamesName (IsFirstUnknownName (workspace_packages self.entry) (name.now ∷ []))) }
     {
         let ix = self.graph.ix_of_name(name)?;
         Ok(PackageMetadata {
@@ -57,9 +59,9 @@ impl<'g> Workspace<'g> {
         requires can { I.can_next paths }
         requires ends { IsFinite (I.remaining paths) }
         ensures found { IfOk result (λ members. (asked : List _) × Drains I.next_gives paths asked
-            × AllZip (λ path m. (m.graph ≡ self.entry.graph) × HasPath self.entry.graph.now.packages path m.position) (map path_text asked) members.items) }
+            × AllZip (λ path m. (graph_of m ≡ workspace_graph self.entry) × HasPath (workspace_packages self.entry) path (package_position m)) (map path_text asked) members.items) }
         ensures unknown { IfErr result (NamesPath (λ path. (asked : List _) × (rest : I) × Yields I.next_gives paths asked rest
-            × EndsInUnknownPath self.entry.graph.now.packages (map path_text asked) path)) }
+            × EndsInUnknownPath (workspace_packages self.entry) (map path_text asked) path)) }
     {
         let ixs = self.graph.ixs_of_paths(paths)?;
         Ok(self.members_at(ixs.as_slice())?)
@@ -77,9 +79,9 @@ impl<'g> Workspace<'g> {
         requires can { I.can_next names }
         requires ends { IsFinite (I.remaining names) }
         ensures found { IfOk result (λ members. (asked : List _) × Drains I.next_gives names asked
-            × AllZip (λ name m. (m.graph ≡ self.entry.graph) × HasName self.entry.graph.now.packages name m.position) (map (λ name. name.now) asked) members.items) }
+            × AllZip (λ name m. (graph_of m ≡ workspace_graph self.entry) × HasName (workspace_packages self.entry) name (package_position m)) (map (λ name. name.now) asked) members.items) }
         ensures unknown { IfErr result (NamesName (λ name. (asked : List _) × (rest : I) × Yields I.next_gives names asked rest
-            × EndsInUnknownName self.entry.graph.now.packages (map (λ name. name.now) asked) name)) }
+            × EndsInUnknownName (workspace_packages self.entry) (map (λ name. name.now) asked) name)) }
     {
         let ixs = self.graph.ixs_of_names(names)?;
         Ok(self.members_at(ixs.as_slice())?)
@@ -87,8 +89,8 @@ impl<'g> Workspace<'g> {
 
     // The packages at these positions, in their order.
     fn members_at(self, ixs: &[PackageIx]) -> Result<Vec<PackageMetadata<'g>>, AllocError>
-        requires { All (λ ix. ix_position ix < length self.graph.now.packages) ixs.now }
-        ensures { IfOk result (λ members. AllZip (λ ix m. (m.graph ≡ self.entry.graph) × (m.position ≡ ix_position ix)) ixs.now members.items) }
+        requires { All (λ ix. ix_position ix < length (workspace_packages self)) ixs.now }
+        ensures { IfOk result (λ members. AllZip (λ ix m. (graph_of m ≡ workspace_graph self.entry) × (package_position m ≡ ix_position ix)) ixs.now members.items) }
     {
         let mut members = Vec::with_capacity(self.graph.alloc(), ixs.len())?;
         for ix in ixs {

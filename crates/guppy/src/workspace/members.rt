@@ -9,12 +9,13 @@ use guppy_graph::{name_at, path_at};
 use std::slice;
 
 impl<'g> Workspace<'g> {
-    ghost use Rattle.guppy.specs.WorkspaceIterators.{at_positions, with_path, with_name, id_of, members_left, by_path_left, by_name_left, member_ids_left};
+    ghost use Rattle.guppy.specs.Views.{workspace_graph, workspace_packages};
+    ghost use Rattle.guppy.specs.WorkspaceIterators.{at_positions, with_path, with_name, member_id, members_left, by_path_left, by_name_left, member_ids_left};
 
     /// The members, each once, strictly ascending by path. Takes no memory and constant time.
     pub fn iter(self) -> Members<'g>
-        ensures { (members : List ℕ) × AreMembersByPath self.entry.graph.now.packages members
-            × (members_left result ≡ at_positions self.entry.graph members) }
+        ensures { (members : List ℕ) × AreMembersByPath (workspace_packages self.entry) members
+            × (members_left result ≡ at_positions (workspace_graph self.entry) members) }
     {
         Members {
             graph: self.graph,
@@ -25,8 +26,8 @@ impl<'g> Workspace<'g> {
     /// The members with their paths, each once, strictly ascending by path. Takes no memory and
     /// constant time.
     pub fn iter_by_path(self) -> MembersByPath<'g>
-        ensures { (members : List ℕ) × AreMembersByPath self.entry.graph.now.packages members
-            × (by_path_left result ≡ map with_path (at_positions self.entry.graph members)) }
+        ensures { (members : List ℕ) × AreMembersByPath (workspace_packages self.entry) members
+            × (by_path_left result ≡ map with_path (at_positions (workspace_graph self.entry) members)) }
     {
         MembersByPath {
             members: self.iter(),
@@ -36,8 +37,8 @@ impl<'g> Workspace<'g> {
     /// The members with their names, each once, strictly ascending by the bytes of the name. Takes no
     /// memory and constant time.
     pub fn iter_by_name(self) -> MembersByName<'g>
-        ensures { (members : List ℕ) × AreMembersByName self.entry.graph.now.packages members
-            × (by_name_left result ≡ map with_name (at_positions self.entry.graph members)) }
+        ensures { (members : List ℕ) × AreMembersByName (workspace_packages self.entry) members
+            × (by_name_left result ≡ map with_name (at_positions (workspace_graph self.entry) members)) }
     {
         MembersByName {
             members: Members {
@@ -50,8 +51,8 @@ impl<'g> Workspace<'g> {
     /// The IDs of the members, each once, strictly ascending by path. Takes no memory and constant
     /// time.
     pub fn member_ids(self) -> MemberIds<'g>
-        ensures { (members : List ℕ) × AreMembersByPath self.entry.graph.now.packages members
-            × (member_ids_left result ≡ map id_of (at_positions self.entry.graph members)) }
+        ensures { (members : List ℕ) × AreMembersByPath (workspace_packages self.entry) members
+            × (member_ids_left result ≡ map member_id (at_positions (workspace_graph self.entry) members)) }
     {
         MemberIds {
             members: self.iter(),
@@ -69,11 +70,12 @@ pub struct Members<'g> {
 
 impl<'g> Iterator for Members<'g> {
     ghost use Rattle.std.specs.Iterator.{YieldsFirstBy, item_count};
-    ghost use Rattle.guppy.specs.WorkspaceIterators.{member_seen, members_left};
+    ghost use Rattle.guppy.specs.Views.{package_seen};
+    ghost use Rattle.guppy.specs.WorkspaceIterators.{members_left};
 
     type Item = PackageMetadata<'g>;
 
-    ghost next_gives = { YieldsFirstBy member_seen members_left };
+    ghost next_gives = { YieldsFirstBy package_seen members_left };
 
     ghost remaining = { item_count members_left };
 

@@ -1,6 +1,6 @@
 use Rattle.std.proofs.Common.{◌∙◌, sym, ap, subst, refl, true, false, [], ◌∷◌, ◌++◌, length, length-set, slice_set}
 use Rattle.std.proofs.lemmas.List.{length-replicate}
-use Rattle.guppy.specs.Listed.{packages_to_come}
+use Rattle.guppy.specs.Listed.{listed_left}
 use Rattle.guppy.specs.Asked.{AreAnswered}
 use Rattle.guppy.proofs.Asked.{asked_none, asked_all, may_ask, asked_more, fits, answered_none, answered_more, answered_otherwise}
 use Rattle.guppy.proofs.package_graph.types.PackageSet.filter_mut.Goals as goal
@@ -14,19 +14,19 @@ loop-package-init g c = record {
 }
 
 pub answer_of-requires : goal.answer_of-requires
-answer_of-requires g c = λ k. ((refl, tt), may_ask _ _ _ _ _ _ _ c.loop-package.invariant.so_far c.in-Some.package (packages_to_come c.next.new.self) c.in-Some.ensures.steps _ c.requires.callable)
+answer_of-requires g c = λ k. ((refl, tt), may_ask _ _ _ _ _ _ _ c.loop-package.invariant.so_far c.in-Some.package (listed_left c.next.new.self) c.in-Some.ensures.steps _ c.requires.callable)
 
 pub insert-requires : goal.insert-requires
-insert-requires g c = fits _ _ _ _ _ _ _ c.loop-package.invariant.so_far c.in-Some.package (packages_to_come c.next.new.self) c.in-Some.ensures.steps _ c.loop-package.invariant.count _ c.package_ix.ensures
+insert-requires g c = fits _ _ _ _ _ _ _ c.loop-package.invariant.so_far c.in-Some.package (listed_left c.next.new.self) c.in-Some.ensures.steps _ c.loop-package.invariant.count _ c.package_ix.ensures
 
 pub loop-package-preserved-then-answer_of : goal.loop-package-preserved-then-answer_of
 loop-package-preserved-then-answer_of g c =
     let here = c.in-Some.package in
-    let fit = fits _ _ _ _ _ _ _ c.loop-package.invariant.so_far c.in-Some.package (packages_to_come c.next.new.self) c.in-Some.ensures.steps _ c.loop-package.invariant.count here.position refl in
+    let fit = fits _ _ _ _ _ _ _ c.loop-package.invariant.so_far c.in-Some.package (listed_left c.next.new.self) c.in-Some.ensures.steps _ c.loop-package.invariant.count here.position refl in
     let now = c.insert.ensures.after ∙ ap (λ p. slice_set c.loop-package.kept p true) c.package_ix.ensures in
     record {
       answers = c.loop-package.invariant.answers ++ (here.position, true) ∷ [];
-      so_far = asked_more _ _ _ _ _ _ _ c.loop-package.invariant.so_far c.in-Some.package (packages_to_come c.next.new.self) c.in-Some.ensures.steps true c.answer_of.new.callback (rw c.if-answer_of.true at c.answer_of.ensures);
+      so_far = asked_more _ _ _ _ _ _ _ c.loop-package.invariant.so_far c.in-Some.package (listed_left c.next.new.self) c.in-Some.ensures.steps true c.answer_of.new.callback (rw c.if-answer_of.true at c.answer_of.ensures);
       kept = rw now (answered_more _ true _ c.loop-package.invariant.kept here.position fit);
       count = rw now (length-set _ _ _ ∙ c.loop-package.invariant.count);
     }
@@ -36,7 +36,7 @@ loop-package-preserved g c =
     let here = c.in-Some.package in
     record {
       answers = c.loop-package.invariant.answers ++ (here.position, false) ∷ [];
-      so_far = asked_more _ _ _ _ _ _ _ c.loop-package.invariant.so_far c.in-Some.package (packages_to_come c.next.new.self) c.in-Some.ensures.steps false c.answer_of.new.callback (rw c.if-answer_of.false at c.answer_of.ensures);
+      so_far = asked_more _ _ _ _ _ _ _ c.loop-package.invariant.so_far c.in-Some.package (listed_left c.next.new.self) c.in-Some.ensures.steps false c.answer_of.new.callback (rw c.if-answer_of.false at c.answer_of.ensures);
       kept = answered_otherwise _ true _ c.loop-package.invariant.kept here.position false (λ e. cc);
       count = c.loop-package.invariant.count;
     }
