@@ -1,5 +1,5 @@
 //! What a command prints of a package graph.
-ghost use Rattle.std.specs.Prelude.{◌≡◌, ◌↔◌, ℕ, List, ◌++◌, map, string_bytes, IfOk, IfErr, IsOkUnless, OnOk, All, Contains, [], ◌∷◌};
+ghost use Rattle.std.specs.Prelude.{◌≡◌, ◌↔◌, ℕ, List, ◌++◌, map, string_bytes, IfOk, IfErr, IsOkUnless, OnOk, All, length, [], ◌∷◌};
 ghost use Rattle.guppy.specs.Ids.{IsKnown};
 ghost use Rattle.guppy.specs.ListedCycles.{cycle_to_come};
 ghost use Rattle.guppy.specs.Query.{IncludesId};
@@ -26,25 +26,6 @@ fn ids_of(alloc: Global, words: &[String]) -> Result<Vec<PackageId>, AllocError>
     Ok(ids)
 }
 
-// The IDs of the packages in the set, in any order.
-fn included_ids<'g>(
-    alloc: Global,
-    graph: &'g PackageGraph,
-    set: &PackageSet<'_>,
-) -> Result<Vec<&'g PackageId>, Error>
-    requires { set.now.graph ≡ graph.now }
-    ensures ok { IfOk result (λ ids. (id : List ℕ) → Contains (map (λ r. r.now) ids.items) id ↔ IncludesId set.now id) }
-    ensures err { IsOkUnless result Error.OutOfMemory }
-{
-    let mut ids = Vec::new(alloc);
-    for id in graph.package_ids() {
-        if set.contains(id)? {
-            ids.push(id)?;
-        }
-    }
-    Ok(ids)
-}
-
 // These IDs, one a line.
 fn lines_of(alloc: Global, ids: &[&PackageId]) -> Result<String, AllocError>
     ensures { IfOk result (λ text. string_bytes text ≡ lines_of (map (λ r. r.now) ids.now)) }
@@ -64,6 +45,7 @@ fn reached<'g>(
     ids: &[PackageId],
 ) -> Result<PackageSet<'g>, Error>
     ensures graph { IfOk result (λ set. set.graph ≡ graph.now) }
+    ensures count { IfOk result (λ set. length set.included ≡ length graph.now.packages) }
     ensures known { OnOk result (All (IsKnown graph.now.packages) ids.now) }
     ensures exact { IfOk result (λ set. (id : List ℕ) → IncludesId set id ↔ IsReached direction graph.now ids.now id) }
     ensures err { IfErr result (NamesId (IsFirstUnknown graph.now.packages ids.now)) }
@@ -82,8 +64,9 @@ fn reach(
 {
     let ids = ids_of(alloc, words)?;
     let set = reached(graph, direction, &ids)?;
-    let included = SortedSet::new(included_ids(alloc, graph, &set)?);
-    Ok(lines_of(alloc, included.as_slice())?)
+    let listed: Vec<&PackageId> = set.package_ids(direction).collect(alloc)?;
+    let sorted = SortedSet::new(listed);
+    Ok(lines_of(alloc, sorted.as_slice())?)
 }
 
 fn truth_line(answer: bool) -> &'static str
@@ -189,7 +172,7 @@ fn verify(alloc: Global, graph: &PackageGraph) -> Result<String, Error>
 /// and `PackageGraphInternalError`, for `verify` alone, the graph's first fault.
 ///
 /// Takes memory for the answer, and for some numbers a package and a link. Time grows with packages and
-/// links, and for `reach` with the packages times the logarithm of the packages.
+/// links, and for `reach` with the packages printed times the logarithm of their number.
 pub fn answer(alloc: Global, graph: &PackageGraph, command: &Command<'_>) -> Result<String, Error>
     ensures ok { IfOk result (λ text. IsAnswer (command_shown command.now) graph.now (string_bytes text)) }
     ensures err { IfErr result (IsCommandRefusal (command_shown command.now) graph.now) }
