@@ -1,7 +1,7 @@
 //! What a command prints of a package graph.
 ghost use Rattle.std.specs.Prelude.{◌≡◌, ◌↔◌, ℕ, List, ◌++◌, map, string_bytes, IfOk, IfErr, IsOkUnless, OnOk, All, length, [], ◌∷◌};
 ghost use Rattle.guppy.specs.Ids.{IsKnown};
-ghost use Rattle.guppy.specs.ListedCycles.{cycle_to_come};
+ghost use Rattle.guppy.specs.ListedCycles.{cycle_left};
 ghost use Rattle.guppy.specs.Query.{IncludesId};
 ghost use Rattle.guppy.specs.Refused.{NamesId, IsFirstUnknown};
 ghost use Rattle.guppy.specs.Walked.{link_in};
@@ -139,7 +139,7 @@ fn links(
 
 // The IDs of a cycle, parted by spaces.
 fn joined(alloc: Global, cycle: CycleIds<'_>) -> Result<String, AllocError>
-    ensures { IfOk result (λ text. string_bytes text ≡ joined (cycle_to_come cycle.entry)) }
+    ensures { IfOk result (λ text. string_bytes text ≡ joined (cycle_left cycle.entry)) }
 {
     let mut texts = Vec::new(alloc);
     for id in cycle {

@@ -1,6 +1,6 @@
 use Rattle.std.proofs.Common.{◌∙◌, sym, ap, subst, ◌++◌, map}
 use Rattle.guppy.specs.Query.{SetData}
-use Rattle.guppy.specs.Walked.{AreWalkedLinks, link_in, links_to_come}
+use Rattle.guppy.specs.Walked.{AreWalkedLinks, link_in, walked_left}
 use Rattle.guppy_program.specs.Answer.{lines_of, line_of, link_text}
 use Rattle.guppy_program.proofs.Included.{all_given}
 use Rattle.guppy_program.proofs.Ordering.{lines-push}
@@ -17,9 +17,9 @@ returns-clause-ok c =
     let all = c.in_ok-all.all in
     let walked = c.in_ok-walked.walked in
     let gave = rw c.into_iter-link-iterator.ensures.into_iter_gives at c.loop-link.yielded_by in
-    let given = all_given link_in links_to_come walked _ c.next.new.self _ gave c.in-None.ensures.steps in
+    let given = all_given link_in walked_left walked _ c.next.new.self _ gave c.in-None.ensures.steps in
     record {
-      walked = links_to_come walked;
-      exact = subst (λ (s : SetData). AreWalkedLinks c.args.direction s (links_to_come walked)) (set_is_all all c.args.graph.now c.in_ok-all.ensures.graph c.in_ok-all.ensures.all) c.in_ok-walked.ensures.walked;
+      walked = walked_left walked;
+      exact = subst (λ (s : SetData). AreWalkedLinks c.args.direction s (walked_left walked)) (set_is_all all c.args.graph.now c.in_ok-all.ensures.graph c.in_ok-all.ensures.all) c.in_ok-walked.ensures.walked;
       printed = c.loop-link.invariant ∙ ap (λ links. lines_of (map link_text links)) given;
     }

@@ -4,7 +4,7 @@ use Rattle.std.specs.Cmp.Lexicographic.{slice_cmp}
 use Rattle.std.proofs.lemmas.Slice.Eq.{bytes_eq-Decides}
 use Rattle.std.proofs.lemmas.Iterator.{items_from_drains}
 use Rattle.std.proofs.lemmas.Iterator.Consumers.{YieldsList-from_first}
-use Rattle.guppy.specs.Listed.{ids_to_come}
+use Rattle.guppy.specs.Listed.{listed_ids_left}
 use Rattle.guppy.specs.Query.{IncludesId}
 use Rattle.guppy_program.proofs.Included.{listed_is_included}
 use Rattle.guppy_program.proofs.Reached.{kept_ids, iff_trans, IsStrictlySortedBy-map}
@@ -15,7 +15,7 @@ returns-clause-ok c =
     let words_are : c.deref.result.now ≡ map string_bytes c.args.words.now = c.deref.ensures.value ∙ c.in_ok-ids.ensures in
     let set = c.in_ok-set.set in
     let ran = c.in_ok-listed.ensures.ran in
-    let given = items_from_drains ran.0 ran.1 (YieldsList-from_first (λ (r : Bor (List ℕ)). r.now) ids_to_come {s = c.package_ids.result} (ids_to_come c.package_ids.result) refl) in
+    let given = items_from_drains ran.0 ran.1 (YieldsList-from_first (λ (r : Bor (List ℕ)). r.now) listed_ids_left {s = c.package_ids.result} (listed_ids_left c.package_ids.result) refl) in
     let listed = ap (map (λ (r : Bor (List ℕ)). r.now)) ran.2.0 ∙ given ∙ c.package_ids.ensures.left in
     let count : length set.included ≡ length set.graph.packages = c.in_ok-set.ensures.count ∙ sym (ap (λ g. length g.packages) c.in_ok-set.ensures.graph) in
     let included = listed_is_included c.args.direction set count c.package_ids.ensures.ordered.order_is.listing in

@@ -2,7 +2,7 @@ use Rattle.std.proofs.Common.{◌∙◌, refl, ap, subst, ℕ, List, Bor, map}
 use Rattle.std.proofs.lemmas.Iterator.{items_from_drains}
 use Rattle.std.proofs.lemmas.Iterator.Consumers.{YieldsList-from_first}
 use Rattle.guppy.specs.Query.{SetData}
-use Rattle.guppy.specs.Rooted.{AreRootIds, root_ids_to_come}
+use Rattle.guppy.specs.Rooted.{AreRootIds, root_ids_left}
 use Rattle.guppy_program.specs.Answer.{lines_of}
 use Rattle.guppy_program.proofs.Whole.{set_is_all}
 use Rattle.guppy_program.proofs.answer.roots.Goals as goal
@@ -12,9 +12,9 @@ returns-clause-ok c =
     let all = c.in_ok-all.all in
     let roots = c.in_ok-roots.roots in
     let ran = c.in_ok-ids.ensures.ran in
-    let given = items_from_drains ran.0 ran.1 (YieldsList-from_first (λ (r : Bor (List ℕ)). r.now) root_ids_to_come {s = roots} (root_ids_to_come roots) refl) in
+    let given = items_from_drains ran.0 ran.1 (YieldsList-from_first (λ (r : Bor (List ℕ)). r.now) root_ids_left {s = roots} (root_ids_left roots) refl) in
     record {
-      root_ids = root_ids_to_come roots;
-      exact = subst (λ (s : SetData). AreRootIds c.args.direction s (root_ids_to_come roots)) (set_is_all all c.args.graph.now c.in_ok-all.ensures.graph c.in_ok-all.ensures.all) c.in_ok-roots.ensures.roots;
+      root_ids = root_ids_left roots;
+      exact = subst (λ (s : SetData). AreRootIds c.args.direction s (root_ids_left roots)) (set_is_all all c.args.graph.now c.in_ok-all.ensures.graph c.in_ok-all.ensures.all) c.in_ok-roots.ensures.roots;
       printed = c.in_ok-lines_of.ensures ∙ ap (λ (ids : List (Bor (List ℕ))). lines_of (map (λ r. r.now) ids)) (c.as_slice.ensures.value ∙ ran.2.0) ∙ ap lines_of given;
     }
