@@ -1,4 +1,4 @@
-ghost use Rattle.std.specs.Prelude.{◌≡◌, ◌↔◌, ◌⊎◌, ℕ, ◌<◌, false, length, map, slice_index, IfOk, All};
+ghost use Rattle.std.specs.Prelude.{◌≡◌, ◌↔◌, ◌⊎◌, ℕ, ◌<◌, ◌^◌, true, false, length, map, slice_index, IfOk, All};
 ghost use Rattle.guppy_search.specs.IxSet.{has, IsIn};
 ghost use Rattle.guppy_core.specs.Listing.{Stands, Ascends};
 ghost use Rattle.guppy_search.specs.Reach.{LinkStep};
@@ -58,6 +58,22 @@ pub(crate) fn entered<G: GraphSpec>(
     Ok(entered)
 }
 
+/// Whether the position is in the set, and its component is not entered.
+fn is_unentered<G: GraphSpec>(
+    set: &IxSet<G>,
+    numbers: &[usize],
+    entered: &[bool],
+    position: usize,
+) -> bool
+    requires numbers { length numbers.now ≡ length set.now }
+    requires below { All (λ c. c < length entered.now) numbers.now }
+    requires position { position < length set.now }
+    ensures answer { (result ≡ true) ↔ (IsIn set.now position × (has entered.now (slice_index numbers.now position) ≡ false)) }
+    ensures small { result ≡ true → position < 2 ^ 32 }
+{
+    set.has_position(position) && !entered[numbers[position]]
+}
+
 /// The positions of the set whose components are not entered, ascending.
 pub(crate) fn unentered<G: GraphSpec>(
     alloc: Global,
@@ -73,7 +89,7 @@ pub(crate) fn unentered<G: GraphSpec>(
 {
     let mut list = Vec::new(alloc);
     for position in 0..set.node_count() {
-        if set.has_position(position) && !entered[numbers[position]] {
+        if is_unentered(set, numbers, entered, position) {
             list.push(G::Ix::new(position))?;
         }
     }

@@ -1,8 +1,8 @@
-use Rattle.std.proofs.Common.{◌≡◌, ◌<◌, ◌++◌, ◌∷◌, [], length, map, sym, ap, ◌∙◌, ℕ, arith}
+use Rattle.std.proofs.Common.{◌≡◌, ◌<◌, ◌++◌, ◌∷◌, [], length, map, ap, ◌∙◌, ℕ, arith}
 use Rattle.std.proofs.lemmas.List.{map_push}
 use Rattle.guppy_search.proofs.Exits.{if_ok}
 use Rattle.guppy_core.proofs.Rooting.{unmarked_none, unmarked_more, unmarked_skipped, unmarked_all}
-use Rattle.guppy_core.proofs.scc.externals.unentered.Goals.{then-has_position+then-not-entered-numbers+in_ok-push, else-has_position, else-has_position-via-then-has_position+else-not-entered-numbers, else-has_position-via-else-has_position}
+use Rattle.guppy_core.proofs.scc.externals.unentered.Goals.{then-is_unentered+in_ok-push, else-is_unentered}
 use Rattle.guppy_core.proofs.scc.externals.unentered.Goals as goal
 
 pub loop-position-init : goal.loop-position-init
@@ -17,15 +17,12 @@ loop-position-preserved g c =
     let index_of = g.G.Ix.IndexType.index_of in
     let list = map index_of c.loop-position.list.items in
     let within : c.loop-position.position < length c.args.set.now = let test = c.loop-position-test.true in let count = c.node_count-position-end.ensures in omega arith in
-    let value = c.has_position.ensures.value in
-    elim c.if-has_position.branch [
-      | then-has_position+then-not-entered-numbers+in_ok-push w ↦
+    elim c.if-is_unentered.branch [
+      | then-is_unentered+in_ok-push w ↦
           let items : map g.G.Ix.IndexType.index_of (c.loop-position.list.items ++ w.new.result ∷ []) ≡ map g.G.Ix.IndexType.index_of c.loop-position.list.items ++ c.loop-position.position ∷ [] = map_push g.G.Ix.IndexType.index_of c.loop-position.list.items w.new.result ∙ ap (λ (n : ℕ). map g.G.Ix.IndexType.index_of c.loop-position.list.items ++ n ∷ []) w.new.ensures in
-          rw (w.list-is, w.in_ok-push.ensures.items, items) (unmarked_more members numbers table i list c.loop-position.invariant within (sym value ∙ w.if-has_position.true) w.if-not-entered-numbers.true)
-      | else-has_position w ↦ elim w.else-has_position.branch [
-        | else-has_position-via-then-has_position+else-not-entered-numbers w' ↦ rw w.list-is (unmarked_skipped members numbers table i list c.loop-position.invariant within (λ b. absurd (let yes = w'.if-not-entered-numbers.false in let no = b.1 in cc)))
-        | else-has_position-via-else-has_position w' ↦ rw w.list-is (unmarked_skipped members numbers table i list c.loop-position.invariant within (λ b. absurd (let no = sym value ∙ w'.if-has_position.false in let yes = b.0 in cc)))
-      ]
+          let is = c.is_unentered.ensures.answer.0 w.if-is_unentered.true in
+          rw (w.list-is, w.in_ok-push.ensures.items, items) (unmarked_more members numbers table i list c.loop-position.invariant within is.0 is.1)
+      | else-is_unentered w ↦ rw w.list-is (unmarked_skipped members numbers table i list c.loop-position.invariant within (λ b. absurd (let yes = c.is_unentered.ensures.answer.1 b in let no = w.if-is_unentered.false in cc)))
     ]
 
 pub returns-clause-members : goal.returns-clause-members
