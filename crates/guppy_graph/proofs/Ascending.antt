@@ -33,7 +33,7 @@ range_rises n k within =
 
 module _ (order : List ℕ → List ℕ → Ordering) (o : IsTotalOrder order) (key_at : ℕ → Option (List ℕ)) (n : ℕ) (index : List ℕ) (up : IsIndex order key_at n index) where
   -- no position stands in an index twice
-  index_distinct : IsDistinct (eq_by_cmp nat_cmp) index
+  pub index_distinct : IsDistinct (eq_by_cmp nat_cmp) index
   index_distinct = IsDistinct-IsPermutation (eq_by_cmp nat_cmp) same_flips (keyed key_at n) index up.permutation
       (IsDistinct-from_sorted nat_cmp (keyed key_at n) (sorted_from_strictly_increasing (keyed key_at n) (IsStrictlyIncreasing-filter (λ p. is_some (key_at p)) (range_with_len 0 n) (range_rises n))))
 

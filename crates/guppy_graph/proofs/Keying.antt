@@ -1,21 +1,19 @@
 -- Positions that have keys, and their indexes.
-use Rattle.std.proofs.Common.{◌≡◌, ◌≢◌, ◌==◌, ◌∙◌, sym, subst, ap, refl, ℕ, ◌<◌, ◌≤◌, ◌+◌, List, length, get_or, arith, Bool, true, false, not, All, Option, Some, None, ⊎_elim}
+use Rattle.std.proofs.Common.{◌≡◌, ◌≢◌, subst, refl, ℕ, ◌<◌, ◌≤◌, List, [], ◌∷◌, length, get_or, arith, Bool, true, false, not, All, Option, Some, None, ⊎_elim}
 use Rattle.std.specs.Prelude.{IsSomeAnd, filter, is_some}
 use Rattle.std.specs.List.{Contains, range_with_len}
-use Rattle.std.specs.List.Sorted.{IsPartitionPoint}
+use Rattle.std.specs.List.Sorted.{IsPartitionPoint, IsPermutation}
 use Rattle.std.specs.Cmp.{IsTotalOrder}
 use Rattle.std.specs.declared.cmp.Ordering.{Ordering}
 use Rattle.std.specs.declared.cmp.Ordering.TheVariants.{Less, Equal, Greater}
 use Rattle.std.specs.Ordering.{is_lt, is_eq, nat_cmp}
 use Rattle.std.specs.Cmp.Lexicographic.{slice_cmp}
-use Rattle.std.proofs.lemmas.Bool.{cases_lt}
-use Rattle.std.proofs.lemmas.Bool.Decides.{eqb_tells}
-use Rattle.std.proofs.lemmas.Cmp.{nat_list_cmp_total, tied_itself, tied_back}
+use Rattle.std.proofs.lemmas.Cmp.{nat_list_cmp_total, tied_itself}
 use Rattle.std.proofs.lemmas.Map.Lookups.{exact_bytes}
-use Rattle.std.proofs.lemmas.List.Elements.{All-contains, All-filter, filter_passes, Contains-append_cases}
+use Rattle.std.proofs.lemmas.List.Elements.{All-head, All-tail, All-contains, All-filter, filter_passes, Contains-append_cases}
 use Rattle.std.proofs.lemmas.List.FromFn.{length-range_with_len, get_or-range_with_len}
 use Rattle.std.proofs.lemmas.List.Sorted.{Contains-permutation, IsPermutation-sym, IsPermutation-filter_both}
-use Rattle.guppy_graph.specs.Keys.{or_empty, keyed, HasKey, IsIndex, NoneBelow, IsFirstWith, DifferBelow, IsRepeat, IsFirstRepeat}
+use Rattle.guppy_graph.specs.Keys.{or_empty, keyed, HasKey, IsIndex, NoneBelow, IsFirstWith, DifferBelow, IsFirstRepeat}
 use Rattle.guppy_graph.proofs.Lookups.{first_tied, untied, none_left}
 
 pub from_is_eq : (v : Ordering) → is_eq v ≡ true → v ≡ Equal
@@ -109,56 +107,18 @@ module _ (order : List ℕ → List ℕ → Ordering) (o : IsTotalOrder order) (
       pub none_past : length index ≤ place → NoneBelow (HasKey order key_at) key n
       none_past past p below h = none_left o key_fn key index place parts past p (in_index key p below h) (has_tie key p h)
 
-  -- a first position with the own key of a later one, or the position itself
-  repeat_of : (p first : ℕ) → is_some (key_at p) ≡ true → IsFirstWith (HasKey order key_at) (or_empty (key_at p)) first → (first ≢ p) → IsRepeat (HasKey order key_at) p
-  repeat_of p first some is differs = record {
-    key = or_empty (key_at p);
-    here = has_own p some;
-    earlier = first;
-    is_earlier = (
-        let late : p < first → ⊥ = λ l. is.1 p l (has_own p some) in
-        omega arith
-        );
-    there = is.0;
-  }
+filter_all : {A : Type 0} (test : A → Bool) (xs : List A) → All (λ x. test x ≡ true) xs → filter test xs ≡ xs
+filter_all test [] h = refl
+filter_all test (x ∷ xs) h =
+    let rest : filter test xs ≡ xs = filter_all test xs (All-tail (λ y. test y ≡ true) x xs h) in
+    rw (All-head (λ y. test y ≡ true) x xs h, rest) refl
 
-  -- the first position with its own key repeats none
-  no_repeat : (p : ℕ) → IsFirstWith (HasKey order key_at) (or_empty (key_at p)) p → IsRepeat (HasKey order key_at) p → ⊥
-  no_repeat p is r =
-      let own = or_empty (key_at p) in
-      let other = or_empty (key_at r.earlier) in
-      let tie : order other own ≡ Equal = o.congr other r.key own (has_tie r.key r.earlier r.there) ∙ tied_back o own r.key (has_tie r.key p r.here) in
-      is.1 r.earlier r.is_earlier (tie_has own r.earlier (has_some r.key r.earlier r.there) tie)
-
-  -- a position repeats a key exactly where the first one with its own key is another one
-  pub repeat_tells : (p first : ℕ) → is_some (key_at p) ≡ true → IsFirstWith (HasKey order key_at) (or_empty (key_at p)) first
-      → (not (first == p) ≡ true → IsRepeat (HasKey order key_at) p) × (IsRepeat (HasKey order key_at) p → not (first == p) ≡ true)
-  repeat_tells p first some is = ⊎_elim
-      (λ same. (
-        λ h. absurd (not_both (first == p) same.0 h),
-        λ r. absurd (no_repeat p (subst (λ q. IsFirstWith (HasKey order key_at) (or_empty (key_at p)) q) same.1 is) r),
-      ))
-      (λ other. (λ _. repeat_of p first some is other.1, λ _. ap not other.0))
-      (eqb_tells first p)
-
-  -- a position without a key repeats none
-  pub no_key : (p : ℕ) → is_some (key_at p) ≡ false → IsRepeat (HasKey order key_at) p → ⊥
-  no_key p none r = absurd (let e : true ≡ false = sym (has_some r.key p r.here) ∙ none in cc)
-
--- one more position, which repeats no key
-pub DifferBelow-more : (Has : List ℕ → ℕ → Type 0) (p : ℕ) → (IsRepeat Has p → ⊥) → DifferBelow Has p → DifferBelow Has (p + 1)
-DifferBelow-more Has p none differ i j key below_i below_j has_i has_j =
-    let repeats = λ (e : ℕ) (l : e < p) (here : Has key p) (there : Has key e). none (record { key = key; here = here; earlier = e; is_earlier = l; there = there }) in
-    ⊎_elim
-    (λ (early_i : i < p). ⊎_elim
-    (λ (early_j : j < p). differ i j key early_i early_j has_i has_j)
-    (λ (late_j : p ≤ j). absurd (let same : j ≡ p = omega arith in repeats i early_i (subst (Has key) same has_j) has_i))
-    (cases_lt j p))
-    (λ (late_i : p ≤ i). ⊎_elim
-    (λ (early_j : j < p). absurd (let same : i ≡ p = omega arith in repeats j early_j (subst (Has key) same has_i) has_j))
-    (λ (late_j : p ≤ j). omega arith)
-    (cases_lt j p))
-    (cases_lt i p)
+-- where each position has a key, an index has all positions
+pub index_of_all : (order : List ℕ → List ℕ → Ordering) (key_at : ℕ → Option (List ℕ)) (n : ℕ) → ((p : ℕ) → p < n → is_some (key_at p) ≡ true) → (index : List ℕ) → IsIndex order key_at n index → IsPermutation (range_with_len 0 n) index
+index_of_all order key_at n each index up =
+    subst (λ l. IsPermutation l index)
+    (filter_all (λ p. is_some (key_at p)) (range_with_len 0 n) (λ k d within. each (get_or (range_with_len 0 n) k d) (below_range n k d within)))
+    up.permutation
 
 -- what has a key in one sense has it in another
 module _ (Has Owns : List ℕ → ℕ → Type 0) (there : (key : List ℕ) (p : ℕ) → Has key p → Owns key p) (back : (key : List ℕ) (p : ℕ) → Owns key p → Has key p) where

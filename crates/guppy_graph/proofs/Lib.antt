@@ -9,6 +9,8 @@ pub mod Depending
 pub mod Ends
 pub mod Accepting
 pub mod Ascending
+pub mod Neighbours
+pub mod Permuting
 pub mod Membership
 pub mod TargetLists
 pub mod OnCycles

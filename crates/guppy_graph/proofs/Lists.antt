@@ -1,5 +1,5 @@
 -- Lists, place by place.
-use Rattle.std.proofs.Common.{◌≡◌, ◌∙◌, sym, ap, subst, arith, ℕ, zero, suc, ◌<◌, ◌+◌, List, [], ◌∷◌, ◌++◌, get_or, length, map, take, All, Option, Some, None, slice_get, true, false}
+use Rattle.std.proofs.Common.{◌≡◌, ◌∙◌, sym, refl, ap, subst, arith, ℕ, zero, suc, ◌<◌, ◌+◌, List, [], ◌∷◌, ◌++◌, get_or, length, map, take, All, Option, Some, None, slice_get, true, false}
 use Rattle.std.specs.Prelude.{MatchOption, is_some}
 use Rattle.std.specs.List.{AllZip, Contains}
 use Rattle.std.proofs.lemmas.List.{take_more}
@@ -76,3 +76,9 @@ All-slice_get P xs k x all found = subst P (get_or_from_slice_get xs k x x found
 pub only_one : (s p : ℕ) → Contains (p ∷ []) s → s ≡ p
 only_one s p (zero, within, same) = sym same
 only_one s p (suc k, within, same) = absurd (omega arith)
+
+-- the element at a place
+pub some_at : {A : Type 0} (xs : List A) (p : ℕ) → p < length xs → (x : A) × (slice_get xs p ≡ Some x)
+some_at [] p within = absurd (omega arith)
+some_at (x ∷ xs) zero within = (x, refl)
+some_at (x ∷ xs) (suc p) within = some_at xs p (omega arith)

@@ -18,15 +18,15 @@ true_unless : (b : Bool) → (b ≡ false → ⊥) → b ≡ true
 true_unless true h = refl
 true_unless false h = absurd (h refl)
 
-le_by_number : (a b : ℕ) → is_lt (nat_cmp b a) ≡ false → a ≤ b
+pub le_by_number : (a b : ℕ) → is_lt (nat_cmp b a) ≡ false → a ≤ b
 le_by_number a b h = grind (arith, nat_tests)
 
-not_less : (v : Ordering) (n : Ordering) → is_lt (ordering_then v n) ≡ false → is_lt v ≡ false
+pub not_less : (v : Ordering) (n : Ordering) → is_lt (ordering_then v n) ≡ false → is_lt v ≡ false
 not_less Less n h = h
 not_less Equal n h = refl
 not_less Greater n h = refl
 
-equal_of_both : (v : Ordering) → is_lt v ≡ false → is_lt (ordering_reverse v) ≡ false → v ≡ Equal
+pub equal_of_both : (v : Ordering) → is_lt v ≡ false → is_lt (ordering_reverse v) ≡ false → v ≡ Equal
 equal_of_both Less h k = absurd (cc)
 equal_of_both Equal h k = refl
 equal_of_both Greater h k = absurd (cc)
@@ -41,7 +41,7 @@ module _ {K : Type 0} {R : K → K → Ordering} (o : IsTotalOrder R) where
     abbrev pub Before : ℕ → ℕ → Bool
     Before a b = is_lt (then_cmp (on key R) nat_cmp a b)
 
-    before_order : IsStrictWeakOrder Before
+    pub before_order : IsStrictWeakOrder Before
     before_order = ranks_by (then_total (on_total key o) nat_cmp_total) (λ a. a)
 
     pub partitioned : (x : K) (index : List ℕ) → IsSortedBy Before index → IsPartitionedBy (λ p. is_lt (R (key p) x)) index

@@ -1,12 +1,16 @@
 -- Packages with an ID.
-use Rattle.std.proofs.Common.{◌≡◌, ◌∙◌, sym, arith, ℕ, zero, suc, ◌<◌, List, [], ◌∷◌, length, Option, Some, None, slice_get}
+use Rattle.std.proofs.Common.{◌≡◌, ◌∙◌, sym, refl, arith, ℕ, zero, suc, ◌<◌, List, [], ◌∷◌, length, Option, Some, None, slice_get}
 use Rattle.std.specs.Prelude.{IsSomeAnd, option_map}
+use Rattle.std.specs.List.{range_with_len}
+use Rattle.std.specs.List.Sorted.{IsPermutation}
 use Rattle.std.specs.Ordering.{nat_cmp}
 use Rattle.std.specs.Cmp.Lexicographic.{slice_cmp}
 use Rattle.guppy_data.specs.declared.records.PackageRecord.{PackageRecord}
 use Rattle.guppy_graph.specs.Keys.{HasKey, NoneBelow}
 use Rattle.guppy_graph.specs.Ids.{id_at, HasId, IsKnown, DistinctBelow}
-use Rattle.guppy_graph.proofs.Keying.{exact_there, exact_back}
+use Rattle.guppy_graph.specs.Indexes.{IsIdIndex}
+use Rattle.guppy_graph.proofs.Lists.{some_at}
+use Rattle.guppy_graph.proofs.Keying.{exact_there, exact_back, index_of_all}
 
 owner_there : (o : Option PackageRecord) (id : List ℕ) → IsSomeAnd (option_map (λ r. r.id) o) (λ own. own ≡ id) → IsSomeAnd o (λ r. r.id ≡ id)
 owner_there None id h = absurd h
@@ -47,3 +51,7 @@ position_is packages distinct id p q at_p at_q = distinct p q id (within_of pack
 -- an ID that no position has is unknown
 pub unknown_of : (packages : List PackageRecord) (id : List ℕ) → NoneBelow (HasId packages) id (length packages) → IsKnown packages id → ⊥
 unknown_of packages id none (p, has) = none p (within_of packages id p has) has
+
+-- an index by ID has all positions
+pub ids_all : (packages : List PackageRecord) (by_id : List ℕ) → IsIdIndex packages by_id → IsPermutation (range_with_len 0 (length packages)) by_id
+ids_all packages by_id up = index_of_all (slice_cmp nat_cmp) (id_at packages) (length packages) (λ p below. let r = some_at packages p below in rw r.1 refl) by_id up

@@ -1,6 +1,5 @@
 -- The build targets of a package in the order of their IDs.
-use Rattle.std.proofs.Common.{◌≡◌, sym, subst, ap, refl, ℕ, zero, suc, ◌<◌, List, [], ◌∷◌, get_or, length, map, arith, All, Bool, Some, slice_get}
-use Rattle.std.specs.Prelude.{is_some, true, filter}
+use Rattle.std.proofs.Common.{◌≡◌, sym, subst, ap, refl, ℕ, suc, ◌<◌, List, [], ◌∷◌, get_or, length, map, arith, All, slice_get}
 use Rattle.std.specs.List.{AllByRecursion, filter_map, range_with_len}
 use Rattle.std.specs.List.Sorted.{IsPermutation, IsStrictlySortedBy}
 use Rattle.std.specs.declared.cmp.Ordering.{Ordering}
@@ -16,10 +15,11 @@ use Rattle.std.proofs.lemmas.Option.{slice_get-get_or}
 use Rattle.guppy_data.specs.declared.records.BuildTargetRecord.{BuildTargetRecord}
 use Rattle.guppy_data.specs.BuildTargetId.{recorded_id, target_id_cmp}
 use Rattle.guppy_data.proofs.Ascending.{IsStrictlySortedBy-map}
-use Rattle.guppy_graph.specs.Keys.{or_empty, keyed, DifferBelow}
+use Rattle.guppy_graph.specs.Keys.{or_empty, DifferBelow}
 use Rattle.guppy_graph.specs.Targets.{target_key, target_at, HasTarget, AreTargetsById}
 use Rattle.guppy_graph.specs.Indexes.{IsTargetIndex}
-use Rattle.guppy_graph.proofs.Keying.{below_range}
+use Rattle.guppy_graph.proofs.Lists.{some_at}
+use Rattle.guppy_graph.proofs.Keying.{below_range, index_of_all}
 use Rattle.guppy_graph.proofs.Targeting.{keys_differ}
 use Rattle.guppy_graph.proofs.Ascending.{index_ascends}
 
@@ -33,24 +33,9 @@ IsStrictlySortedBy-from_map order read [] h = h
 IsStrictlySortedBy-from_map order read (x ∷ xs) h =
     (AllByRecursion-from_map (λ key. order (read x) key ≡ Less) read xs h.0, IsStrictlySortedBy-from_map order read xs h.1)
 
-filter_all : {A : Type 0} (test : A → Bool) (xs : List A) → All (λ x. test x ≡ true) xs → filter test xs ≡ xs
-filter_all test [] h = refl
-filter_all test (x ∷ xs) h =
-    let rest : filter test xs ≡ xs = filter_all test xs (All-tail (λ y. test y ≡ true) x xs h) in
-    rw (All-head (λ y. test y ≡ true) x xs h, rest) refl
-
-pub some_at : {A : Type 0} (xs : List A) (p : ℕ) → p < length xs → (x : A) × (slice_get xs p ≡ Some x)
-some_at [] p within = absurd (omega arith)
-some_at (x ∷ xs) zero within = (x, refl)
-some_at (x ∷ xs) (suc p) within = some_at xs p (omega arith)
-
 module _ (targets : List BuildTargetRecord) where
   abbrev places_all : List ℕ
   places_all = range_with_len 0 (length targets)
-
-  all_keyed : keyed (target_at targets) (length targets) ≡ places_all
-  all_keyed = filter_all (λ p. is_some (target_at targets p)) places_all
-      (λ k d within. let t = some_at targets (get_or places_all k d) (below_range (length targets) k d within) in rw t.1 refl)
 
   module _ (d : BuildTargetRecord) where
     reads : (places : List ℕ) → All (λ p. p < length targets) places → filter_map (slice_get targets) places ≡ map (λ p. get_or targets p d) places
@@ -82,16 +67,16 @@ read_permutation (t ∷ ts) places same below =
     (IsPermutation-map at (range_with_len 0 (length targets)) places same))
 
 module _ (targets : List BuildTargetRecord) (index : List ℕ) (up : IsTargetIndex targets index) where
-  index_of_all : IsPermutation (range_with_len 0 (length targets)) index
-  index_of_all = subst (λ l. IsPermutation l index) (all_keyed targets) up.permutation
+  targets_all : IsPermutation (range_with_len 0 (length targets)) index
+  targets_all = index_of_all (slice_cmp nat_cmp) (target_at targets) (length targets) (λ p below. let t = some_at targets p below in rw t.1 refl) index up
 
   pub targets_below : All (λ p. p < length targets) index
-  targets_below = All-permutation (λ p. p < length targets) (range_with_len 0 (length targets)) index index_of_all (below_range (length targets))
+  targets_below = All-permutation (λ p. p < length targets) (range_with_len 0 (length targets)) index targets_all (below_range (length targets))
 
   -- at the places of an index the targets stand in the order of their IDs
   pub targets_by_id : DifferBelow (HasTarget targets) (length targets) → AreTargetsById targets (filter_map (slice_get targets) index)
   targets_by_id differ = record {
-    permutation = read_permutation targets index index_of_all targets_below;
+    permutation = read_permutation targets index targets_all targets_below;
     ascend = IsStrictlySortedBy-map target_id_cmp (λ t. recorded_id t.id) (filter_map (slice_get targets) index)
         (IsStrictlySortedBy-from_map (slice_cmp nat_cmp) (λ t. target_key (recorded_id t.id)) (filter_map (slice_get targets) index)
         (subst (IsStrictlySortedBy (slice_cmp nat_cmp)) (keys_read targets index targets_below)

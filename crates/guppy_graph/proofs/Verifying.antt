@@ -20,8 +20,7 @@ use Rattle.guppy_data.specs.declared.texts.fault.VerifyFault.{VerifyFault}
 use Rattle.guppy_graph.specs.Targets.{AreTargetsById}
 use Rattle.guppy_graph.specs.Graph.{GraphData, IsPackageGraph}
 use Rattle.guppy_graph.specs.Verified.{IsStar, HasVersion, HasSection, HasFittingKind, AreKindsFitting, IsFirstWithout, IsFirstMisfit, IsVerified, IsLinkVerified, IsLinkFault, IsTargetFault, IsLeavingLinkFault, IsPackageVerified, IsFirstVerifyFault}
-use Rattle.guppy_graph.proofs.Lists.{All-slice_get}
-use Rattle.guppy_graph.proofs.TargetLists.{some_at}
+use Rattle.guppy_graph.proofs.Lists.{All-slice_get, some_at}
 
 star_read : req_of (codes "*") ≡ Ok []
 unfolding semver_on_literals

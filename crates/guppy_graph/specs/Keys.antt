@@ -1,5 +1,5 @@
 -- Keys of positions, and positions in the order of their keys.
-use Rattle.std.specs.Prelude.{◌≡◌, ℕ, ◌<◌, List, [], filter, Option, is_some, IsSomeAnd}
+use Rattle.std.specs.Prelude.{◌≡◌, ℕ, ◌<◌, ◌-◌, List, [], filter, Option, is_some, IsSomeAnd, slice_index}
 use Rattle.std.specs.Option.{option_map_or}
 use Rattle.std.specs.List.{range_with_len}
 use Rattle.std.specs.List.Sorted.{IsPermutation, IsSortedBy}
@@ -23,6 +23,12 @@ module _ (order : List ℕ → List ℕ → Ordering) (key_at : ℕ → Option (
   -- the positions ascend by key, and then by position
   abbrev pub Ascends : List ℕ → Type 0
   Ascends index = IsSortedBy (λ a b. is_lt (then_cmp (on (λ p. or_empty (key_at p)) order) nat_cmp a b)) index
+
+  -- the position at the place has the key of the one before it in the index
+  abbrev pub HasKeyBefore : List ℕ → ℕ → Type 0
+  HasKeyBefore index place =
+      let before = or_empty (key_at (slice_index index (place - 1))) in
+      order before (or_empty (key_at (slice_index index place))) ≡ Equal
 
   -- the index has the positions below n that have a key, ascending by key and then by position
   pub record IsIndex (n : ℕ) (index : List ℕ) : Type 0 where

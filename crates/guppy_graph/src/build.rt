@@ -11,7 +11,7 @@ ghost use Rattle.guppy_graph.specs.Accepted.{ArePackagesAccepted, IsFirstUnknown
 ghost use Rattle.guppy_graph.specs.Links.{AreEndsOf, IsFirstUnknownEnd, link_of};
 ghost use Rattle.guppy_graph.specs.Refused.{TellsFault, IsRefusal};
 
-use crate::keyed::{first_repeat, index_of};
+use crate::keyed::{first_repeat, index_from, index_of};
 use crate::keys::{
     Ids, Names, Paths, TargetIds, first_repeated_id, first_repeated_name, first_repeated_target,
     position_of_id,
@@ -158,13 +158,18 @@ fn check_target_names(packages: &[PackageRecord]) -> Result<(), Error>
 }
 
 // The workspace members by path, where no two have one path.
-fn index_by_path(alloc: Global, packages: &[PackageRecord]) -> Result<Vec<usize>, Error>
+fn index_by_path(
+    alloc: Global,
+    packages: &[PackageRecord],
+    by_id: &[usize],
+) -> Result<Vec<usize>, Error>
+    requires { IsIdIndex packages.now by_id.now }
     ensures made { IfOk result (λ index. IsPathIndex packages.now index.items) }
     ensures accepted { OnOk result (DifferBelow (HasPath packages.now) (length packages.now)) }
     ensures refused { IfErr result (TellsFault (λ fault. (p : ℕ)
         × (fault ≡ ConstructFault.RepeatedWorkspacePath p) × IsFirstRepeat (HasPath packages.now) p)) }
 {
-    let by_path = index_of(alloc, &Paths(packages))?;
+    let by_path = index_from(alloc, &Paths(packages), by_id)?;
     if let Some(package) = first_repeat(&Paths(packages), by_path.as_slice()) {
         return Err(ConstructFault::RepeatedWorkspacePath { package }.into());
     }
@@ -172,13 +177,18 @@ fn index_by_path(alloc: Global, packages: &[PackageRecord]) -> Result<Vec<usize>
 }
 
 // The workspace members by name, where no two have one name.
-fn index_by_name(alloc: Global, packages: &[PackageRecord]) -> Result<Vec<usize>, Error>
+fn index_by_name(
+    alloc: Global,
+    packages: &[PackageRecord],
+    by_id: &[usize],
+) -> Result<Vec<usize>, Error>
+    requires { IsIdIndex packages.now by_id.now }
     ensures made { IfOk result (λ index. IsNameIndex packages.now index.items) }
     ensures accepted { OnOk result (DifferBelow (HasName packages.now) (length packages.now)) }
     ensures refused { IfErr result (TellsFault (λ fault. (p : ℕ)
         × (fault ≡ ConstructFault.RepeatedWorkspaceName p) × IsFirstRepeat (HasName packages.now) p)) }
 {
-    let by_name = index_of(alloc, &Names(packages))?;
+    let by_name = index_from(alloc, &Names(packages), by_id)?;
     if let Some(package) = first_repeated_name(packages, by_name.as_slice()) {
         return Err(ConstructFault::RepeatedWorkspaceName { package }.into());
     }
@@ -218,8 +228,8 @@ pub(crate) fn indexes_of(
     let by_id = index_by_id(alloc, packages)?;
     let by_target = indexes_by_target(alloc, packages)?;
     check_target_names(packages)?;
-    let by_path = index_by_path(alloc, packages)?;
-    let by_name = index_by_name(alloc, packages)?;
+    let by_path = index_by_path(alloc, packages, by_id.as_slice())?;
+    let by_name = index_by_name(alloc, packages, by_id.as_slice())?;
     let members = workspace.default_members.as_slice();
     check_members(packages, by_id.as_slice(), members)?;
     Ok(Indexes {

@@ -1,9 +1,11 @@
 //! Positions sorted and looked up by their keys: IDs, paths, names.
-ghost use Rattle.std.specs.Prelude.{◌≡◌, ◌↔◌, ℕ, ◌<◌, List, Option, IsTrue, true, is_some, IfOk, MatchOption};
+ghost use Rattle.std.specs.Prelude.{◌≡◌, ◌↔◌, ℕ, ◌<◌, List, length, filter, Option, IsTrue, is_some, IfOk, MatchOption};
+ghost use Rattle.std.specs.List.{range_with_len};
+ghost use Rattle.std.specs.List.Sorted.{IsPermutation};
 ghost use Rattle.std.specs.declared.cmp.Ordering.{Ordering};
 ghost use Rattle.std.specs.Ordering.{nat_cmp, on, then_cmp, is_lt};
 ghost use Rattle.std.specs.Cmp.{IsTotalOrder};
-ghost use Rattle.guppy_graph.specs.Keys.{or_empty, keyed, HasKey, IsIndex, NoneBelow, IsFirstWith, DifferBelow, IsRepeat, IsFirstRepeat};
+ghost use Rattle.guppy_graph.specs.Keys.{or_empty, keyed, HasKey, IsIndex, NoneBelow, IsFirstWith, DifferBelow, HasKeyBefore, IsFirstRepeat};
 
 use std::alloc::{AllocError, Global};
 use std::cmp::Ordering;
@@ -51,17 +53,56 @@ fn keyed_positions<S: Keyed>(alloc: Global, source: &S) -> Result<Vec<usize>, Al
         .collect(alloc)
 }
 
-/// The positions that have keys, in the order of the keys.
-pub(crate) fn index_of<S: Keyed>(alloc: Global, source: &S) -> Result<Vec<usize>, AllocError>
-    ensures { IfOk result (λ index. IsIndex S.order (S.key_at source.now) (S.count source.now) index.items) }
+// Those of the positions that have keys.
+fn keyed_of<S: Keyed>(
+    alloc: Global,
+    source: &S,
+    positions: &[usize],
+) -> Result<Vec<usize>, AllocError>
+    ensures { IfOk result (λ kept. kept.items ≡ filter (λ p. is_some (S.key_at source.now p)) positions.now) }
 {
-    let mut index = keyed_positions(alloc, source)?;
-    index.sort_unstable_by(
+    positions
+        .iter()
+        .copied()
+        .filter(
+            |position: &usize| -> bool
+                ensures { result ≡ is_some (S.key_at source.entry.now position.now) }
+            { source.has_key(*position) },
+        )
+        .collect(alloc)
+}
+
+// Positions that have keys, sorted by their keys, and those of equal keys by their numbers.
+fn sorted<S: Keyed>(source: &S, mut positions: Vec<usize>) -> Vec<usize>
+    requires { IsPermutation (keyed (S.key_at source.now) (S.count source.now)) positions.items }
+    ensures { IsIndex S.order (S.key_at source.now) (S.count source.now) result.items }
+{
+    positions.sort_unstable_by(
         |a: &usize, b: &usize| -> Ordering
             ensures { result ≡ then_cmp (on (λ p. or_empty (S.key_at source.entry.now p)) S.order) nat_cmp a.now b.now }
         { source.compare(*a, *b).then(a.cmp(b)) },
     );
-    Ok(index)
+    positions
+}
+
+/// The positions that have keys, in the order of the keys.
+pub(crate) fn index_of<S: Keyed>(alloc: Global, source: &S) -> Result<Vec<usize>, AllocError>
+    ensures { IfOk result (λ index. IsIndex S.order (S.key_at source.now) (S.count source.now) index.items) }
+{
+    Ok(sorted(source, keyed_positions(alloc, source)?))
+}
+
+/// The same, made of all positions in another order. Where that is the order of the keys too, they are
+/// compared once.
+pub(crate) fn index_from<S: Keyed>(
+    alloc: Global,
+    source: &S,
+    positions: &[usize],
+) -> Result<Vec<usize>, AllocError>
+    requires { IsPermutation (range_with_len 0 (S.count source.now)) positions.now }
+    ensures { IfOk result (λ index. IsIndex S.order (S.key_at source.now) (S.count source.now) index.items) }
+{
+    Ok(sorted(source, keyed_of(alloc, source, positions)?))
 }
 
 /// The first position that has the text as its key.
@@ -82,44 +123,27 @@ pub(crate) fn position_of<S: KeyedByText>(source: &S, index: &[usize], text: &st
     }
 }
 
-// The first position that has the key of this one.
-fn first_like<S: Keyed>(source: &S, index: &[usize], position: usize) -> usize
-    requires index { IsIndex S.order (S.key_at source.now) (S.count source.now) index.now }
-    requires below { position < S.count source.now }
-    requires key { is_some (S.key_at source.now position) ≡ true }
-    ensures { IsFirstWith (HasKey S.order (S.key_at source.now)) (or_empty (S.key_at source.now position)) result }
+// Whether the position at the place has the key of the one before it in the index.
+fn is_repeat<S: Keyed>(source: &S, index: &[usize], place: usize) -> bool
+    requires after { 0 < place }
+    requires within { place < length index.now }
+    ensures { IsTrue result ↔ HasKeyBefore S.order (S.key_at source.now) index.now place }
 {
-    let place = index.partition_point(
-        |p: &usize| -> bool
-            ensures { result ≡ is_lt (S.order (or_empty (S.key_at source.entry.now p.now)) (or_empty (S.key_at source.entry.now position))) }
-        { source.compare(*p, position).is_lt() },
-    );
-    match index.get(place) {
-        Some(first) if source.compare(*first, position).is_eq() => *first,
-        _ => position,
-    }
+    source.compare(index[place - 1], index[place]).is_eq()
 }
 
-// Whether an earlier position has the key of this one.
-fn is_repeat<S: Keyed>(source: &S, index: &[usize], position: usize) -> bool
-    requires index { IsIndex S.order (S.key_at source.now) (S.count source.now) index.now }
-    requires below { position < S.count source.now }
-    ensures { IsTrue result ↔ IsRepeat (HasKey S.order (S.key_at source.now)) position }
-{
-    source.has_key(position) && first_like(source, index, position) != position
-}
-
-/// The first position that has the key of an earlier one.
+/// The first position that has the key of an earlier one. Positions of equal keys are neighbours in the index.
 pub(crate) fn first_repeat<S: Keyed>(source: &S, index: &[usize]) -> Option<usize>
     requires { IsIndex S.order (S.key_at source.now) (S.count source.now) index.now }
     ensures { MatchOption result
         (DifferBelow (HasKey S.order (S.key_at source.now)) (S.count source.now))
         (IsFirstRepeat (HasKey S.order (S.key_at source.now))) }
 {
-    for position in 0..source.position_count() {
-        if is_repeat(source, index, position) {
-            return Some(position);
+    let mut lowest = source.position_count();
+    for place in 1..index.len() {
+        if is_repeat(source, index, place) {
+            lowest = lowest.min(index[place]);
         }
     }
-    None
+    (lowest < source.position_count()).then_some(lowest)
 }

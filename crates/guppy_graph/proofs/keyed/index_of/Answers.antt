@@ -1,12 +1,5 @@
-use Rattle.std.proofs.Common.{rules}
-use Rattle.std.proofs.lemmas.Cmp.{then_total, on_total, nat_cmp_total}
-use Rattle.std.proofs.lemmas.Fn.{always_returns_same}
-use Rattle.std.proofs.lemmas.List.Sorted.{ranks_by}
-use Rattle.guppy_graph.specs.Keys.{or_empty}
+use Rattle.std.proofs.lemmas.List.Sorted.{IsPermutation-refl}
 use Rattle.guppy_graph.proofs.keyed.index_of.Goals as goal
 
-pub returns : goal.returns
-returns g c = record {
-  permutation = rw (← c.in_ok-index.ensures) c.sort_unstable_by.ensures.permutation;
-  ascends = c.sort_unstable_by.ensures.sorted _ (ranks_by (then_total (on_total (λ p. or_empty (g.S.Keyed.key_at c.args.source.now p)) g.S.Keyed.total) nat_cmp_total) (λ x. x)) (always_returns_same _ _ _ (λ a r f' k. search rules));
-}
+pub sorted-requires : goal.sorted-requires
+sorted-requires g c = rw c.in_ok-keyed_positions.ensures (IsPermutation-refl _)

@@ -3,8 +3,8 @@ use Rattle.std.specs.Prelude.{IsSomeAnd}
 use Rattle.std.specs.List.{filter_map}
 use Rattle.guppy_graph.specs.Indexes.{IsTargetIndex}
 use Rattle.guppy_graph.specs.Verified.{HasFittingKind, AreKindsFitting, IsFirstWithout, IsFirstMisfit}
-use Rattle.guppy_graph.proofs.Lists.{MatchOption-along}
-use Rattle.guppy_graph.proofs.TargetLists.{some_at, targets_below, targets_by_id}
+use Rattle.guppy_graph.proofs.Lists.{MatchOption-along, some_at}
+use Rattle.guppy_graph.proofs.TargetLists.{targets_below, targets_by_id}
 use Rattle.guppy_graph.proofs.Verifying.{of_some, all_read, first_read, listed_fit}
 use Rattle.guppy_graph.proofs.graph.RecordGraph.misfit_of_package.Goals as goal
 

@@ -4,8 +4,7 @@ use Rattle.std.proofs.lemmas.Option.{slice_get_read}
 use Rattle.std.proofs.lemmas.Slice.Zip.{AllZip-long}
 use Rattle.guppy_data.specs.declared.records.PackageRecord.{PackageRecord}
 use Rattle.guppy_graph.specs.Indexes.{IsTargetIndex}
-use Rattle.guppy_graph.proofs.Lists.{AllZip-at}
-use Rattle.guppy_graph.proofs.TargetLists.{some_at}
+use Rattle.guppy_graph.proofs.Lists.{AllZip-at, some_at}
 use Rattle.guppy_graph.proofs.graph.RecordGraph.targets_by_id.Goals as goal
 
 pub index-requires : goal.index-requires

@@ -1,6 +1,7 @@
 use Rattle.std.proofs.Common.{◌≡◌}
 use Rattle.guppy_graph.specs.Indexes.{IsTargetIndex}
-use Rattle.guppy_graph.proofs.TargetLists.{some_at, targets_below, targets_by_id}
+use Rattle.guppy_graph.proofs.Lists.{some_at}
+use Rattle.guppy_graph.proofs.TargetLists.{targets_below, targets_by_id}
 use Rattle.guppy.proofs.package_graph.types.PackageMetadata.build_targets.Goals as goal
 
 pub invariant_of-result : goal.invariant_of-result
