@@ -5,7 +5,7 @@ use Rattle.std.specs.Borrow.{Bor}
 use Rattle.std.specs.Slice.Iter.{iter_rest}
 use Rattle.guppy.specs.declared.package_graph.graph.PackageIds.{PackageIds}
 use Rattle.guppy.specs.declared.package_graph.graph.AllPackages.{AllPackages}
-use Rattle.guppy.specs.declared.package_graph.types.PackageMetadata.{PackageMetadata}
+use Rattle.guppy.specs.declared.metadata.PackageMetadata.{PackageMetadata}
 use Rattle.guppy_graph.specs.Ids.{ids_of}
 use Rattle.guppy_graph.specs.Graph.{GraphData}
 

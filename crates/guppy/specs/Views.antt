@@ -3,8 +3,8 @@ use Rattle.std.specs.Prelude.{slice_get, IsSomeAnd}
 use Rattle.guppy_search.specs.declared.graph_core.link.Link.{Link}
 use Rattle.guppy_data.specs.declared.records.PackageRecord.{PackageRecord}
 use Rattle.guppy_data.specs.declared.records.LinkRecord.{LinkRecord}
-use Rattle.guppy.specs.declared.package_graph.types.PackageMetadata.{PackageMetadata}
-use Rattle.guppy.specs.declared.package_graph.types.PackageLink.{PackageLink}
+use Rattle.guppy.specs.declared.metadata.PackageMetadata.{PackageMetadata}
+use Rattle.guppy.specs.declared.link.PackageLink.{PackageLink}
 
 -- P holds of the record of the package
 abbrev pub OfPackage : PackageMetadata → (PackageRecord → Type 0) → Type 0

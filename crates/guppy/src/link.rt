@@ -9,17 +9,25 @@ ghost use Rattle.guppy_data.specs.DependencyReq.{seen_req};
 ghost use Rattle.guppy_data.specs.Utf8Path.{path_text};
 ghost use Rattle.guppy_graph.specs.DevOnly.{is_dev_only};
 ghost use Rattle.guppy_graph.specs.Sections.{section_of};
-ghost use Rattle.guppy.specs.Views.{OfLink};
 
-use crate::metadata::{path_of, text_of};
-pub use crate::package_graph::PackageLink;
-use crate::package_graph::PackageMetadata;
+use crate::metadata::{PackageMetadata, path_of, text_of};
+use crate::package_graph::PackageGraph;
 use guppy_core::Link;
 use guppy_data::{DependencyKind, DependencyReq, LinkRecord, Utf8Path};
 use guppy_graph::is_dev_only;
 use semver::VersionReq;
 
+/// A link of a graph.
+#[derive(Clone, Copy)]
+pub struct PackageLink<'g> {
+    pub(crate) graph: &'g PackageGraph,
+    pub(crate) number: usize,
+    ghost in_graph: { number < length graph.now.links },
+}
+
 impl<'g> PackageLink<'g> {
+    ghost use Rattle.guppy.specs.Views.{OfLink};
+
     // The link between positions, with its record.
     fn link(self) -> &'g Link<LinkRecord>
         ensures at { slice_get self.entry.graph.now.links self.entry.number ≡ Some result.now }

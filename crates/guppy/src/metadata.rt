@@ -2,7 +2,7 @@
 //!
 //! No call takes memory, but for the error that names an unknown ID. What is borrowed lives as long
 //! as the borrow of the graph, also where the view of the package is gone.
-ghost use Rattle.std.specs.Prelude.{◌≡◌, ◌↔◌, IsTrue, IsSome, Some, slice_get};
+ghost use Rattle.std.specs.Prelude.{◌≡◌, ◌↔◌, ◌<◌, IsTrue, IsSome, Some, length, slice_get};
 ghost use Rattle.std.specs.Option.{option_copied, option_map};
 ghost use Rattle.std.specs.String.{string_bytes};
 ghost use Rattle.guppy_data.specs.PackagePublish.{recorded_publish, seen_publish};
@@ -10,14 +10,12 @@ ghost use Rattle.guppy_data.specs.PackageSource.{recorded_origin, seen_origin};
 ghost use Rattle.guppy_data.specs.Utf8Path.{path_text};
 ghost use Rattle.guppy_graph.specs.Members.{member_path};
 ghost use Rattle.guppy_graph.specs.Ids.{ix_position};
-ghost use Rattle.guppy.specs.Views.{OfPackage};
 
 mod features;
 mod links;
 mod targets;
 
 use crate::package_graph::PackageGraph;
-pub use crate::package_graph::PackageMetadata;
 pub use features::{FeatureIndexInPackage, NamedFeatures, NamedFeaturesFull, OptionalDepsFull};
 use guppy_core::{IndexType, PackageIx};
 use guppy_data::{PackageId, PackagePublish, PackageRecord, PackageSource, Utf8Path, Utf8PathBuf};
@@ -26,7 +24,17 @@ use semver::Version;
 use serde_json::Value;
 pub use targets::BuildTargets;
 
+/// A package of a graph.
+#[derive(Clone, Copy)]
+pub struct PackageMetadata<'g> {
+    pub(crate) graph: &'g PackageGraph,
+    pub(crate) position: usize,
+    ghost in_graph: { position < length graph.now.packages },
+}
+
 impl<'g> PackageMetadata<'g> {
+    ghost use Rattle.guppy.specs.Views.{OfPackage};
+
     /// The graph that the package is of.
     pub fn graph(self) -> &'g PackageGraph
         ensures { result ≡ self.entry.graph }
