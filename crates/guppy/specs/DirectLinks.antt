@@ -3,8 +3,8 @@ use Rattle.std.specs.Prelude.{◌≡◌, ℕ, List, Option, MatchOption, map, sl
 use Rattle.std.specs.Borrow.{Bor}
 use Rattle.guppy_search.specs.declared.ix.direction.DependencyDirection.{DependencyDirection}
 use Rattle.guppy_core.specs.Links.{near_end, far_end, links_at}
-use Rattle.guppy.specs.declared.package_graph.types.PackageMetadata.{PackageMetadata}
-use Rattle.guppy.specs.declared.package_graph.types.PackageLink.{PackageLink}
+use Rattle.guppy.specs.declared.metadata.PackageMetadata.{PackageMetadata}
+use Rattle.guppy.specs.declared.link.PackageLink.{PackageLink}
 use Rattle.guppy.specs.Views.{graph_of, package_position, link_graph, link_number}
 use Rattle.guppy_graph.specs.Ids.{HasId}
 use Rattle.guppy_graph.specs.Graph.{GraphData}

@@ -5,7 +5,7 @@ use Rattle.guppy_search.specs.declared.ix.direction.DependencyDirection.{Depende
 use Rattle.guppy_core.specs.IxSet.{has}
 use Rattle.guppy_core.specs.Sccs.{listed}
 use Rattle.guppy_data.specs.declared.records.PackageRecord.{PackageRecord}
-use Rattle.guppy.specs.declared.package_graph.types.PackageMetadata.{PackageMetadata}
+use Rattle.guppy.specs.declared.metadata.PackageMetadata.{PackageMetadata}
 use Rattle.guppy.specs.Views.{graph_of, package_position}
 use Rattle.guppy.specs.declared.set.lists.ListedPackages.{ListedPackages}
 use Rattle.guppy.specs.declared.set.lists.ListedPackageIds.{ListedPackageIds}

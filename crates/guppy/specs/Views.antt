@@ -5,10 +5,10 @@ use Rattle.guppy_search.specs.declared.graph_core.link.Link.{Link}
 use Rattle.guppy_data.specs.declared.records.PackageRecord.{PackageRecord}
 use Rattle.guppy_data.specs.declared.records.LinkRecord.{LinkRecord}
 use Rattle.guppy_data.specs.declared.records.WorkspaceRecord.{WorkspaceRecord}
-use Rattle.guppy.specs.declared.package_graph.types.PackageMetadata.{PackageMetadata}
-use Rattle.guppy.specs.declared.package_graph.types.PackageLink.{PackageLink}
-use Rattle.guppy.specs.declared.package_graph.types.Workspace.{Workspace}
-use Rattle.guppy.specs.declared.package_graph.types.Cycles.{Cycles}
+use Rattle.guppy.specs.declared.metadata.PackageMetadata.{PackageMetadata}
+use Rattle.guppy.specs.declared.link.PackageLink.{PackageLink}
+use Rattle.guppy.specs.declared.workspace.Workspace.{Workspace}
+use Rattle.guppy.specs.declared.cycles.Cycles.{Cycles}
 use Rattle.guppy_graph.specs.Graph.{GraphData}
 
 -- the graph that a package is of

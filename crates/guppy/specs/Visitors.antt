@@ -2,7 +2,7 @@
 use Rattle.std.specs.Prelude.{◌≡◌, ℕ, Bool, List}
 use Rattle.std.specs.Borrow.{Bor}
 use Rattle.guppy_core.specs.Resolve.{LeavesOne}
-use Rattle.guppy.specs.declared.package_graph.types.PackageLink.{PackageLink}
+use Rattle.guppy.specs.declared.link.PackageLink.{PackageLink}
 use Rattle.guppy.specs.Views.{link_graph, link_number}
 use Rattle.guppy_graph.specs.Ids.{HasId}
 use Rattle.guppy_graph.specs.Graph.{GraphData}

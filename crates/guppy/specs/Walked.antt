@@ -5,7 +5,7 @@ use Rattle.guppy_search.specs.declared.ix.direction.DependencyDirection.TheVaria
 use Rattle.guppy_core.specs.Reach.{LinkStep, MutualReach}
 use Rattle.guppy_core.specs.Roots.{IsRoot}
 use Rattle.guppy_core.specs.Walked.{AreWalked, IsLinkInside, HoldsComponents, numbers_of}
-use Rattle.guppy.specs.declared.package_graph.types.PackageLink.{PackageLink}
+use Rattle.guppy.specs.declared.link.PackageLink.{PackageLink}
 use Rattle.guppy.specs.Views.{link_graph, link_number}
 use Rattle.guppy.specs.declared.set.links.WalkedLinks.{WalkedLinks}
 use Rattle.guppy_graph.specs.Graph.{GraphData}

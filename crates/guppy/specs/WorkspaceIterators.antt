@@ -4,7 +4,7 @@ use Rattle.std.specs.Borrow.{Bor}
 use Rattle.std.specs.Slice.Iter.{iter_rest}
 use Rattle.guppy_data.specs.Utf8Path.{path_text}
 use Rattle.guppy_data.specs.declared.texts.path.Utf8Path.{Utf8Path}
-use Rattle.guppy.specs.declared.package_graph.types.PackageMetadata.{PackageMetadata}
+use Rattle.guppy.specs.declared.metadata.PackageMetadata.{PackageMetadata}
 use Rattle.guppy.specs.Views.{graph_of, graph_packages, package_position, package_seen}
 use Rattle.guppy.specs.declared.workspace.members.Members.{Members}
 use Rattle.guppy.specs.declared.workspace.members.MembersByPath.{MembersByPath}

@@ -7,11 +7,16 @@ ghost use Rattle.guppy_graph.specs.Ids.{IsKnown, ix_position};
 ghost use Rattle.guppy_graph.specs.Refused.{NamesId, IsFirstUnknown};
 ghost use Rattle.guppy_graph.specs.Cycles.{AreCyclic, has_self_link, is_cyclic_component};
 
-pub use crate::package_graph::Cycles;
 use crate::package_graph::PackageGraph;
 use guppy_core::{AllSccs, IndexType, PackageIx};
 use guppy_data::{Error, PackageId};
 use std::slice;
+
+/// The cycles of a graph.
+#[derive(Clone, Copy)]
+pub struct Cycles<'g> {
+    pub(crate) graph: &'g PackageGraph,
+}
 
 impl PackageGraph {
     ghost use Rattle.guppy.specs.Views.{cycles_graph};

@@ -2,8 +2,7 @@
 //!
 //! The modules, from the bottom up:
 //!
-//! - `package_graph`: the graph, which stands on `RecordGraph` of `guppy_graph`, and the types of views,
-//!   queries and sets;
+//! - `package_graph`: the graph, which stands on `RecordGraph` of `guppy_graph`;
 //! - `metadata`: what is known of a package, and the links that leave it;
 //! - `link`: what is known of a link;
 //! - `workspace`: the workspace, and its members by path and by name;

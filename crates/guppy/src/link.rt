@@ -10,13 +10,20 @@ ghost use Rattle.guppy_data.specs.Utf8Path.{path_text};
 ghost use Rattle.guppy_graph.specs.DevOnly.{is_dev_only};
 ghost use Rattle.guppy_graph.specs.Sections.{section_of};
 
-use crate::metadata::{path_of, text_of};
-pub use crate::package_graph::PackageLink;
-use crate::package_graph::PackageMetadata;
+use crate::metadata::{PackageMetadata, path_of, text_of};
+use crate::package_graph::PackageGraph;
 use guppy_core::Link;
 use guppy_data::{DependencyKind, DependencyReq, LinkRecord, Utf8Path};
 use guppy_graph::is_dev_only;
 use semver::VersionReq;
+
+/// A link of a graph.
+#[derive(Clone, Copy)]
+pub struct PackageLink<'g> {
+    pub(crate) graph: &'g PackageGraph,
+    pub(crate) number: usize,
+    ghost in_graph: { number < length graph.now.links },
+}
 
 impl<'g> PackageLink<'g> {
     ghost use Rattle.guppy.specs.Views.{graph_of, package_position, link_graph, link_number, OfLink};

@@ -2,7 +2,7 @@
 //!
 //! No call takes memory, but for the error that names an unknown ID. What is borrowed lives as long
 //! as the borrow of the graph, also where the view of the package is gone.
-ghost use Rattle.std.specs.Prelude.{◌≡◌, ◌↔◌, IsTrue, IsSome, Some, slice_get};
+ghost use Rattle.std.specs.Prelude.{◌≡◌, ◌↔◌, ◌<◌, IsTrue, IsSome, Some, length, slice_get};
 ghost use Rattle.std.specs.Option.{option_copied, option_map};
 ghost use Rattle.std.specs.String.{string_bytes};
 ghost use Rattle.guppy_data.specs.PackagePublish.{recorded_publish, seen_publish};
@@ -16,7 +16,6 @@ mod links;
 mod targets;
 
 use crate::package_graph::PackageGraph;
-pub use crate::package_graph::PackageMetadata;
 pub use features::{FeatureIndexInPackage, NamedFeatures, NamedFeaturesFull, OptionalDepsFull};
 use guppy_core::{IndexType, PackageIx};
 use guppy_data::{PackageId, PackagePublish, PackageRecord, PackageSource, Utf8Path, Utf8PathBuf};
@@ -24,6 +23,14 @@ pub use links::PackageLinks;
 use semver::Version;
 use serde_json::Value;
 pub use targets::BuildTargets;
+
+/// A package of a graph.
+#[derive(Clone, Copy)]
+pub struct PackageMetadata<'g> {
+    pub(crate) graph: &'g PackageGraph,
+    pub(crate) position: usize,
+    ghost in_graph: { position < length graph.now.packages },
+}
 
 impl<'g> PackageMetadata<'g> {
     ghost use Rattle.guppy.specs.Views.{graph_of, graph_packages, package_position, OfPackage};

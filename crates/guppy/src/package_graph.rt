@@ -2,11 +2,10 @@
 mod depends_cache;
 mod graph;
 mod positions;
-mod types;
 
+pub use crate::{
+    Cycles, PackageLink, PackageLinkContext, PackageMetadata, PackageQuery, PackageSet, Workspace,
+};
 pub use depends_cache::DependsCache;
 pub use graph::{AllPackages, PackageGraph, PackageIds};
 pub use guppy_graph::Packages;
-pub use types::{
-    Cycles, PackageLink, PackageLinkContext, PackageMetadata, PackageQuery, PackageSet, Workspace,
-};

@@ -8,13 +8,35 @@ mod resolve;
 mod start;
 mod visitor;
 
-use crate::package_graph::{PackageGraph, PackageLink, Packages};
-pub use crate::package_graph::{PackageLinkContext, PackageQuery};
+use crate::link::PackageLink;
+use crate::package_graph::{PackageGraph, Packages};
 use crate::set::PackageSet;
 use guppy_core::{DependencyDirection, IxSet};
 pub use recorder::Recorder;
 use std::alloc::AllocError;
+use std::marker::Model;
 pub use visitor::PackageLinkVisitor;
+
+/// Where a resolve starts, and the direction in which it follows links.
+#[derive(Drop)]
+pub struct PackageQuery<'g> {
+    pub(crate) initials: PackageSet<'g>,
+    pub(crate) direction: DependencyDirection,
+}
+
+impl<'g> Model for PackageQuery<'g> {
+    ghost use Rattle.guppy.specs.Query.{QueryData};
+    ghost use Rattle.guppy_data.specs.contracts.records.PackageRecord as of_package;
+    ghost use Rattle.guppy_data.specs.contracts.records.LinkRecord as of_link;
+    ghost use Rattle.guppy_data.specs.contracts.records.WorkspaceRecord as of_workspace;
+    ghost use Rattle.std.specs.Coded.{codes};
+
+    ghost Value = { QueryData };
+
+    ghost coded = { Prim.hlevel (codes, of_package.the_row.coded, of_link.the_row.coded, of_workspace.the_row.coded) };
+
+    ghost view = { λ q. record { graph = q.initials.graph; initials = q.initials.included; direction = q.direction } };
+}
 
 impl<'g> PackageQuery<'g> {
     /// The graph that the query is of.
@@ -59,6 +81,26 @@ impl Clone for PackageQuery<'_> {
             direction: self.direction,
         })
     }
+}
+
+/// What a visitor is told beside the link that it is shown: the query that is resolved.
+#[derive(Drop)]
+pub struct PackageLinkContext<'g> {
+    pub(crate) query: PackageQuery<'g>,
+}
+
+impl<'g> Model for PackageLinkContext<'g> {
+    ghost use Rattle.guppy.specs.Query.{QueryData};
+    ghost use Rattle.guppy_data.specs.contracts.records.PackageRecord as of_package;
+    ghost use Rattle.guppy_data.specs.contracts.records.LinkRecord as of_link;
+    ghost use Rattle.guppy_data.specs.contracts.records.WorkspaceRecord as of_workspace;
+    ghost use Rattle.std.specs.Coded.{codes};
+
+    ghost Value = { QueryData };
+
+    ghost coded = { Prim.hlevel (codes, of_package.the_row.coded, of_link.the_row.coded, of_workspace.the_row.coded) };
+
+    ghost view = { λ c. c.query };
 }
 
 impl<'g> PackageLinkContext<'g> {

@@ -15,14 +15,38 @@ mod named;
 mod operations;
 mod roots;
 
-pub use crate::package_graph::PackageSet;
-use crate::package_graph::Packages;
-use guppy_core::IxSet;
+use crate::package_graph::{PackageGraph, Packages};
+use guppy_core::{IxSet, ResolveCore};
 use guppy_data::{Error, PackageId};
 pub use links::WalkedLinks;
 pub use lists::{ListedPackageIds, ListedPackages};
 pub use roots::{RootIds, RootPackages};
 use std::alloc::AllocError;
+use std::marker::Model;
+
+/// A set of packages of a graph.
+#[derive(Drop)]
+pub struct PackageSet<'g> {
+    pub(crate) graph: &'g PackageGraph,
+    pub(crate) core: ResolveCore<Packages>,
+}
+
+impl<'g> Model for PackageSet<'g> {
+    ghost use Rattle.std.specs.Prelude.{◌≡◌, length};
+    ghost use Rattle.guppy.specs.Query.{SetData};
+    ghost use Rattle.guppy_data.specs.contracts.records.PackageRecord as of_package;
+    ghost use Rattle.guppy_data.specs.contracts.records.LinkRecord as of_link;
+    ghost use Rattle.guppy_data.specs.contracts.records.WorkspaceRecord as of_workspace;
+    ghost use Rattle.std.specs.Coded.{codes};
+
+    ghost Value = { SetData };
+
+    ghost coded = { Prim.hlevel (codes, of_package.the_row.coded, of_link.the_row.coded, of_workspace.the_row.coded) };
+
+    ghost view = { λ s. record { graph = s.graph.now; included = s.core } };
+
+    ghost invariant = { λ s. length s.core ≡ length s.graph.now.packages };
+}
 
 impl<'g> PackageSet<'g> {
     /// How many packages are in the set.

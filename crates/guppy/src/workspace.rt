@@ -14,11 +14,16 @@ mod members;
 
 use crate::metadata::path_of;
 use crate::package_graph::PackageGraph;
-pub use crate::package_graph::Workspace;
 pub use default_members::{DefaultMemberIds, DefaultMembers};
 use guppy_data::{Utf8Path, WorkspaceRecord};
 pub use members::{MemberIds, Members, MembersByName, MembersByPath};
 use serde_json::Value;
+
+/// The workspace of a graph.
+#[derive(Clone, Copy)]
+pub struct Workspace<'g> {
+    pub(crate) graph: &'g PackageGraph,
+}
 
 impl PackageGraph {
     ghost use Rattle.guppy.specs.Views.{workspace_graph};

@@ -5,7 +5,7 @@ ghost use Rattle.std.specs.Slice.Iter.{iter_rest};
 ghost use Rattle.indexmap.specs.IndexMap.{keys};
 ghost use Rattle.guppy.specs.Features.{HasFeature, numbered_feature, numbered_dep};
 
-use crate::package_graph::PackageMetadata;
+use crate::metadata::PackageMetadata;
 use guppy_data::NamedFeatureDep;
 use indexmap::map;
 use std::slice;

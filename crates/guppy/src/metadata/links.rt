@@ -3,7 +3,9 @@ ghost use Rattle.std.specs.Slice.Iter.{iter_rest};
 ghost use Rattle.guppy_graph.specs.Ids.{IsKnown, ix_position};
 ghost use Rattle.guppy_graph.specs.Refused.{NamesId, IsFirstUnknown};
 
-use crate::package_graph::{PackageGraph, PackageLink, PackageMetadata};
+use crate::link::PackageLink;
+use crate::metadata::PackageMetadata;
+use crate::package_graph::PackageGraph;
 use guppy_core::{DependencyDirection, PackageIx};
 use guppy_data::{Error, PackageId};
 use std::slice;

@@ -5,7 +5,7 @@ ghost use Rattle.std.specs.Slice.Iter.{iter_rest};
 ghost use Rattle.guppy_graph.specs.Targets.{IsNamed};
 ghost use Rattle.guppy.specs.BuildTargets.{IsProcMacro, HasBuildScript, IsTargetWith, NoTargetWith, IsTargetOf};
 
-use crate::package_graph::PackageMetadata;
+use crate::metadata::PackageMetadata;
 use guppy_data::{
     BuildTarget, BuildTargetId, BuildTargetKindRecord, BuildTargetRecord, OwnedBuildTargetId,
 };

@@ -5,7 +5,7 @@ ghost use Rattle.guppy_graph.specs.Refused.{IsRefusal};
 ghost use Rattle.guppy_graph.specs.Verified.{IsVerified, IsFirstVerifyFault};
 ghost use Rattle.std.specs.List.Sorted.{IsPermutation};
 
-use crate::package_graph::types::PackageMetadata;
+use crate::metadata::PackageMetadata;
 use guppy_core::IndexType;
 use guppy_data::{Error, LinkRecord, PackageId, PackageRecord, WorkspaceRecord};
 use guppy_graph::RecordGraph;

@@ -3,8 +3,10 @@ ghost use Rattle.std.specs.Prelude.{◌≡◌, ℕ, ◌<◌, ◌≤◌, [], leng
 ghost use Rattle.guppy_core.specs.Resolve.{JudgesResolve, Visits};
 ghost use Rattle.guppy.specs.Visitors.{VisitsAt, MayVisitAt};
 
-use crate::package_graph::{PackageLink, PackageLinkContext, PackageQuery, PackageSet};
+use crate::link::PackageLink;
 use crate::query::visitor::PackageLinkVisitor;
+use crate::query::{PackageLinkContext, PackageQuery};
+use crate::set::PackageSet;
 use guppy_data::Error;
 use std::alloc::{AllocError, Global};
 

@@ -5,8 +5,10 @@ ghost use Rattle.guppy_core.specs.Reach.{LinkStep, ReachedFrom};
 ghost use Rattle.guppy_core.specs.Resolve.{JudgesResolve, AcceptsAll, Visits, IsCallableBelow};
 ghost use Rattle.guppy.specs.Visitors.{VisitsAt, MayVisitAt, CallsAt, MayCallAt};
 
-use crate::package_graph::{PackageLink, PackageLinkContext, PackageQuery, PackageSet};
+use crate::link::PackageLink;
 use crate::query::visitor::PackageLinkVisitor;
+use crate::query::{PackageLinkContext, PackageQuery};
+use crate::set::PackageSet;
 use guppy_core::{LinkVisitor, ResolveCore, reachable_with};
 use guppy_data::Error;
 

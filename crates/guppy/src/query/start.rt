@@ -6,7 +6,10 @@ ghost use Rattle.guppy.specs.Query.{IsNamedSet, IsSetNamed, IsSetWhere, initials
 ghost use Rattle.guppy_graph.specs.Members.{HasPath, HasName, IsMember};
 ghost use Rattle.guppy_graph.specs.Refused.{NamesId, NamesPath, NamesName, EndsInUnknown, EndsInUnknownPath, EndsInUnknownName};
 
-use crate::package_graph::{PackageGraph, PackageMetadata, PackageQuery, PackageSet};
+use crate::metadata::PackageMetadata;
+use crate::package_graph::PackageGraph;
+use crate::query::PackageQuery;
+use crate::set::PackageSet;
 use guppy_core::DependencyDirection;
 use guppy_data::{Error, PackageId, Utf8Path};
 

@@ -3,7 +3,8 @@ ghost use Rattle.std.specs.Prelude.{◌≡◌, ⊤, ℕ, Bool, List, [], ◌∷�
 ghost use Rattle.guppy.specs.Query.{QueryData};
 ghost use Rattle.guppy.specs.Visitors.{LinkData, link_data};
 
-use crate::package_graph::{PackageLink, PackageLinkContext};
+use crate::link::PackageLink;
+use crate::query::PackageLinkContext;
 
 /// Is shown links of a query's graph, and answers whether to follow them.
 ///

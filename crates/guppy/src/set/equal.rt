@@ -3,7 +3,9 @@ ghost use Rattle.std.specs.Prelude.{◌≡◌, ◌↔◌, IsTrue, length};
 ghost use Rattle.std.specs.Bool.{beq};
 ghost use Rattle.std.specs.Cmp.Lexicographic.{pointwise};
 
-use crate::package_graph::{PackageGraph, PackageMetadata, PackageSet};
+use crate::metadata::PackageMetadata;
+use crate::package_graph::PackageGraph;
+use crate::set::PackageSet;
 use guppy_core::{IndexType, PackageIx};
 use guppy_data::PackageRecord;
 

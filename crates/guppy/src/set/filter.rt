@@ -3,7 +3,9 @@ ghost use Rattle.std.specs.Prelude.{◌≡◌, ℕ, length, Bool, true, false, O
 ghost use Rattle.guppy.specs.Listed.{positions_listed};
 ghost use Rattle.guppy.specs.Asked.{asked_about, Answers, IsAskable, AreAnswered, AreHalves};
 
-use crate::package_graph::{PackageMetadata, PackageSet, Packages};
+use crate::metadata::PackageMetadata;
+use crate::package_graph::Packages;
+use crate::set::PackageSet;
 use guppy_core::{DependencyDirection, IxSet, ResolveCore};
 use guppy_data::Error;
 

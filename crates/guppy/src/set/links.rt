@@ -1,7 +1,9 @@
 //! The walk over the links of a set.
 ghost use Rattle.std.specs.Prelude.{◌<◌, All, length, IfOk, IsOkUnless};
 
-use crate::package_graph::{PackageGraph, PackageLink, PackageSet, Packages};
+use crate::link::PackageLink;
+use crate::package_graph::{PackageGraph, Packages};
+use crate::set::PackageSet;
 use guppy_core::{DependencyDirection, Links};
 use guppy_data::Error;
 

@@ -2,7 +2,9 @@ ghost use Rattle.std.specs.Prelude.{◌≡◌, ◌↔◌, ℕ, ◌<◌, All, len
 ghost use Rattle.guppy_core.specs.IxSet.{IsIn, member_count};
 ghost use Rattle.guppy_core.specs.Listing.{Stands, IsOnce};
 
-use crate::package_graph::{PackageGraph, PackageMetadata, PackageSet, Packages};
+use crate::metadata::PackageMetadata;
+use crate::package_graph::{PackageGraph, Packages};
+use crate::set::PackageSet;
 use guppy_core::{DependencyDirection, IndexType, Topo};
 use guppy_data::PackageId;
 

@@ -7,7 +7,8 @@ ghost use Rattle.guppy_graph.specs.Members.{HasPath, HasName, IsMember, AreMembe
 ghost use Rattle.guppy_graph.specs.Ids.{ix_position};
 ghost use Rattle.guppy_graph.specs.Refused.{NamesPath, NamesName, EndsInUnknownPath, EndsInUnknownName};
 
-use crate::package_graph::{PackageGraph, PackageSet};
+use crate::package_graph::PackageGraph;
+use crate::set::PackageSet;
 use guppy_core::{IndexType, PackageIx};
 use guppy_data::{Error, Utf8Path};
 use std::alloc::AllocError;

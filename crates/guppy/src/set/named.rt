@@ -9,7 +9,9 @@ ghost use Rattle.guppy_graph.specs.Graph.{IsPackageGraph};
 ghost use Rattle.guppy.specs.PackageNames.{HasPackageName};
 ghost use Rattle.guppy_graph.specs.Refused.{NamesId, EndsInUnknown};
 
-use crate::package_graph::{PackageGraph, PackageMetadata, PackageSet};
+use crate::metadata::PackageMetadata;
+use crate::package_graph::PackageGraph;
+use crate::set::PackageSet;
 use guppy_core::{IndexType, PackageIx, ResolveCore};
 use guppy_data::{Error, PackageId};
 use std::alloc::AllocError;

@@ -3,7 +3,7 @@ ghost use Rattle.std.specs.Prelude.{◌≡◌, length, IfOk, IsOkUnless};
 ghost use Rattle.guppy_core.specs.IxSet.{IsUnion, IsIntersection, IsDifference, IsSymmetricDifference};
 ghost use Rattle.guppy_graph.specs.Ids.{ids_of};
 
-use crate::package_graph::PackageSet;
+use crate::set::PackageSet;
 use guppy_data::Error;
 
 /// The two sets are of graphs with the same packages, as

@@ -3,7 +3,9 @@ ghost use Rattle.std.specs.Prelude.{◌≡◌, ◌<◌, All, length, IfOk, IsOkU
 ghost use Rattle.std.specs.Vec.Iter.{into_iter_items};
 ghost use Rattle.guppy_graph.specs.Ids.{ix_position};
 
-use crate::package_graph::{PackageGraph, PackageMetadata, PackageSet};
+use crate::metadata::PackageMetadata;
+use crate::package_graph::PackageGraph;
+use crate::set::PackageSet;
 use guppy_core::{DependencyDirection, IndexType, PackageIx};
 use guppy_data::{Error, PackageId};
 use std::vec;

@@ -3,7 +3,9 @@ ghost use Rattle.std.specs.Prelude.{◌≡◌, All};
 ghost use Rattle.std.specs.Slice.Iter.{iter_rest};
 ghost use Rattle.guppy_graph.specs.Ids.{IsKnown};
 
-use crate::package_graph::{PackageGraph, PackageMetadata, Workspace};
+use crate::metadata::PackageMetadata;
+use crate::package_graph::PackageGraph;
+use crate::workspace::Workspace;
 use guppy_data::PackageId;
 use std::slice;
 

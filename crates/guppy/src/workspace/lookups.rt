@@ -7,7 +7,9 @@ ghost use Rattle.guppy_graph.specs.Ids.{ix_position};
 ghost use Rattle.guppy_graph.specs.Members.{HasPath, HasName, IsMemberPath, IsMemberName};
 ghost use Rattle.guppy_graph.specs.Refused.{NamesPath, NamesName, IsFirstUnknownPath, IsFirstUnknownName, EndsInUnknownPath, EndsInUnknownName};
 
-use crate::package_graph::{PackageGraph, PackageMetadata, Workspace};
+use crate::metadata::PackageMetadata;
+use crate::package_graph::PackageGraph;
+use crate::workspace::Workspace;
 use guppy_core::{IndexType, PackageIx};
 use guppy_data::{Error, Utf8Path, Utf8PathBuf};
 use std::alloc::AllocError;

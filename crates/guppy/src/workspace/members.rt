@@ -3,7 +3,9 @@ ghost use Rattle.std.specs.Prelude.{◌≡◌, ℕ, ◌<◌, List, length, map, 
 ghost use Rattle.std.specs.Slice.Iter.{iter_rest};
 ghost use Rattle.guppy_graph.specs.Members.{AreMembersByPath, AreMembersByName};
 
-use crate::package_graph::{PackageGraph, PackageMetadata, Workspace};
+use crate::metadata::PackageMetadata;
+use crate::package_graph::PackageGraph;
+use crate::workspace::Workspace;
 use guppy_data::{PackageId, Utf8Path};
 use guppy_graph::{name_at, path_at};
 use std::slice;

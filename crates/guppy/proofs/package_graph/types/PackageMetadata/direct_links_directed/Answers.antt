@@ -1,4 +1,0 @@
-use Rattle.guppy.proofs.package_graph.types.PackageMetadata.direct_links_directed.Goals as goal
-
-pub invariant_of-result : goal.invariant_of-result
-invariant_of-result c = record { in_graph = rw (c.iter.ensures.rest, ← c.graph.ensures.links) c.links_of.ensures.within }

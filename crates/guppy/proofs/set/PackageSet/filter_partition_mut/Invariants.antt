@@ -1,0 +1,14 @@
+use Rattle.std.proofs.Common.{◌≡◌, ℕ, Bool, true, false, Option, Some, List, length}
+use Rattle.guppy.specs.Listed.{positions_listed, listed_left}
+use Rattle.guppy.specs.Asked.{AreAnswered}
+use Rattle.guppy.proofs.Asked.{IsAskedSoFar}
+use Rattle.guppy.proofs.set.PackageSet.filter_partition_mut.Given as goal
+
+abbrev pub invariant-loop-package : goal.invariant-loop-package
+invariant-loop-package g l = record {
+  answers : List (ℕ × Option Bool);
+  so_far : IsAskedSoFar (goal.F-step g) l.self.graph (positions_listed l.fn.direction l.self) l.fn.callback (listed_left l.package-iterator) answers l.callback;
+  accepted : AreAnswered answers (Some true) l.accepted;
+  refused : AreAnswered answers (Some false) l.refused;
+  count : (length l.accepted ≡ length l.self.graph.packages) × (length l.refused ≡ length l.self.graph.packages);
+}
