@@ -9,6 +9,7 @@ pub mod PackagePublish
 pub mod PackageSource
 pub mod Path
 pub mod Platform
+pub mod Records
 pub mod SamePath
 pub mod SameTargetId
 pub mod Sorted

@@ -1,4 +1,11 @@
 //! The records that a package graph is made of: plain data, handed in by value.
+//!
+//! A constructor takes what each record of its kind has, and leaves all else empty, to be filled by
+//! assignment. None takes memory; `alloc` is what later items are taken from.
+ghost use Rattle.std.specs.Prelude.{◌≡◌, [], None};
+ghost use Rattle.serde_json.specs.declared.value.Value.{Null};
+ghost use Rattle.guppy_data.specs.Platform.{Never, Always};
+ghost use Rattle.guppy_data.specs.Records.{IsBare, IsAskedFor, IsRequired};
 
 use crate::platform::status::PlatformStatusImpl;
 use crate::texts::named_feature::NamedFeatureDep;
@@ -8,6 +15,7 @@ use crate::texts::sorted_set::SortedSet;
 use indexmap::{IndexMap, IndexSet};
 use semver::{Version, VersionReq};
 use serde_json::Value;
+use std::alloc::Global;
 use std::collections::BTreeMap;
 
 /// What is known of one package.
@@ -61,6 +69,55 @@ pub struct PackageRecord {
     pub optional_deps: IndexSet<String>,
     /// The build targets, no two of one ID.
     pub build_targets: Vec<BuildTargetRecord>,
+}
+
+impl PackageRecord {
+    /// The record of a package of which nothing else is known: it may be published everywhere, its table
+    /// is null, and all other fields are empty. Takes no memory.
+    pub fn new(
+        alloc: Global,
+        id: PackageId,
+        name: String,
+        version: Version,
+        source: PackageSourceRecord,
+        manifest_path: Utf8PathBuf,
+        edition: String,
+    ) -> Self
+        ensures id { result.id ≡ id }
+        ensures name { result.name ≡ name }
+        ensures version { result.version ≡ version }
+        ensures source { result.source ≡ source }
+        ensures manifest_path { result.manifest_path ≡ manifest_path }
+        ensures edition { result.edition ≡ edition }
+        ensures bare { IsBare result }
+    {
+        PackageRecord {
+            id,
+            name,
+            version,
+            authors: Vec::new(alloc),
+            description: None,
+            license: None,
+            license_file: None,
+            source,
+            manifest_path,
+            categories: Vec::new(alloc),
+            keywords: Vec::new(alloc),
+            readme: None,
+            repository: None,
+            homepage: None,
+            documentation: None,
+            edition,
+            metadata_table: Value::Null,
+            links: None,
+            publish: PackagePublishRecord::Unrestricted,
+            default_run: None,
+            rust_version: None,
+            named_features: IndexMap::new(alloc),
+            optional_deps: IndexSet::new(alloc),
+            build_targets: Vec::new(alloc),
+        }
+    }
 }
 
 /// Where a package comes from.
@@ -159,6 +216,42 @@ pub struct LinkRecord {
     pub dev: DependencyReqImpl,
 }
 
+impl LinkRecord {
+    /// The record of a link that is asked for in no section, of no registry or path. Takes no memory.
+    pub fn new(
+        alloc: Global,
+        from: PackageId,
+        to: PackageId,
+        dep_name: String,
+        resolved_name: String,
+        version_req: VersionReq,
+    ) -> Self
+        ensures from { result.from ≡ from }
+        ensures to { result.to ≡ to }
+        ensures dep_name { result.dep_name ≡ dep_name }
+        ensures resolved_name { result.resolved_name ≡ resolved_name }
+        ensures version_req { result.version_req ≡ version_req }
+        ensures registry { result.registry ≡ None }
+        ensures path { result.path ≡ None }
+        ensures normal { IsRequired Never result.normal }
+        ensures build { IsRequired Never result.build }
+        ensures dev { IsRequired Never result.dev }
+    {
+        LinkRecord {
+            from,
+            to,
+            dep_name,
+            resolved_name,
+            version_req,
+            registry: None,
+            path: None,
+            normal: DependencyReqImpl::never(alloc),
+            build: DependencyReqImpl::never(alloc),
+            dev: DependencyReqImpl::never(alloc),
+        }
+    }
+}
+
 /// On which platforms a dependency of one kind is there, required or optional.
 #[derive(Debug, Drop)]
 pub struct DependencyReqImpl {
@@ -166,6 +259,29 @@ pub struct DependencyReqImpl {
     pub required: DepRequiredOrOptional,
     /// The dependency where it is optional.
     pub optional: DepRequiredOrOptional,
+}
+
+impl DependencyReqImpl {
+    /// A dependency that is asked for nowhere: guppy's `Default`. Takes no memory.
+    pub fn never(alloc: Global) -> Self
+        ensures { IsRequired Never result }
+    {
+        DependencyReqImpl {
+            required: DepRequiredOrOptional::never(alloc),
+            optional: DepRequiredOrOptional::never(alloc),
+        }
+    }
+
+    /// A dependency that is required on all platforms, with its default features, and optional nowhere.
+    /// Takes no memory.
+    pub fn required(alloc: Global) -> Self
+        ensures { IsRequired Always result }
+    {
+        DependencyReqImpl {
+            required: DepRequiredOrOptional::always(alloc),
+            optional: DepRequiredOrOptional::never(alloc),
+        }
+    }
 }
 
 /// On which platforms a dependency is built, and with which features.
@@ -181,6 +297,32 @@ pub struct DepRequiredOrOptional {
     pub feature_targets: BTreeMap<String, PlatformStatusImpl>,
 }
 
+impl DepRequiredOrOptional {
+    /// Built nowhere, with no features: guppy's `Default`. Takes no memory.
+    pub fn never(alloc: Global) -> Self
+        ensures { IsAskedFor Never result }
+    {
+        DepRequiredOrOptional {
+            build_if: PlatformStatusImpl::never(alloc),
+            default_features_if: PlatformStatusImpl::never(alloc),
+            no_default_features_if: PlatformStatusImpl::never(alloc),
+            feature_targets: BTreeMap::new(alloc),
+        }
+    }
+
+    /// Built on all platforms, with its default features and no others. Takes no memory.
+    pub fn always(alloc: Global) -> Self
+        ensures { IsAskedFor Always result }
+    {
+        DepRequiredOrOptional {
+            build_if: PlatformStatusImpl::Always,
+            default_features_if: PlatformStatusImpl::Always,
+            no_default_features_if: PlatformStatusImpl::never(alloc),
+            feature_targets: BTreeMap::new(alloc),
+        }
+    }
+}
+
 /// What is known of the workspace as a whole.
 #[derive(Debug, Drop)]
 pub struct WorkspaceRecord {
@@ -194,4 +336,24 @@ pub struct WorkspaceRecord {
     pub metadata_table: Value,
     /// The packages that Cargo's commands act on where none is named. Each is a package of the graph.
     pub default_members: Vec<PackageId>,
+}
+
+impl WorkspaceRecord {
+    /// The record of a workspace of which nothing else is known: it has no build directory of its own and
+    /// no default members, and its table is null. Takes no memory.
+    pub fn new(alloc: Global, root: Utf8PathBuf, target_directory: Utf8PathBuf) -> Self
+        ensures root { result.root ≡ root }
+        ensures target_directory { result.target_directory ≡ target_directory }
+        ensures build_directory { result.build_directory ≡ None }
+        ensures metadata_table { result.metadata_table ≡ Null }
+        ensures default_members { result.default_members.items ≡ [] }
+    {
+        WorkspaceRecord {
+            root,
+            target_directory,
+            build_directory: None,
+            metadata_table: Value::Null,
+            default_members: Vec::new(alloc),
+        }
+    }
 }
