@@ -1,19 +1,30 @@
 -- How a graph is stored.
-use Rattle.std.specs.Prelude.{◌≡◌, ℕ, List, length, Some, slice_get}
-use Rattle.std.specs.declared.vec.Vec.{Vec}
-use Rattle.std.specs.declared.alloc.Global.{Global}
+use Rattle.std.specs.Prelude.{◌≡◌, ℕ, ◌+◌, ◌<◌, ◌≤◌, nat_lt, List, length, take, slice_index}
+use Rattle.std.specs.List.{slice_range}
 use Rattle.guppy_search.specs.declared.ix.direction.DependencyDirection.{DependencyDirection}
 use Rattle.guppy_search.specs.declared.ix.direction.DependencyDirection.TheVariants.{Forward, Reverse}
 use Rattle.guppy_search.specs.declared.graph_core.link.Link.{Link}
-use Rattle.guppy_search.specs.Links.{links_at}
+use Rattle.guppy_search.specs.declared.graph_core.lists.LinkLists.{LinkLists}
+use Rattle.guppy_search.specs.Links.{near_end, numbers_where, links_at}
 use Rattle.guppy_search.specs.Graph.{GraphValue, IsGraph}
 
--- the row of each position is the list of its links
-pub record RowsAre {E : Type 0} (d : DependencyDirection) (count : ℕ) (links : List (Link E)) (rows : List (Vec ℕ Global)) : Type 0 where
-  pub count_is : length rows ≡ count
-  pub row_is : (p : ℕ) (row : Vec ℕ Global) → slice_get rows p ≡ Some row → row.items ≡ links_at d links p
+-- how many links leave positions below p
+abbrev pub leaving_below : {E : Type 0} → DependencyDirection → List (Link E) → ℕ → ℕ
+leaving_below d links p = length (numbers_where (λ l. nat_lt (near_end d l) p) 0 links)
 
-pub record IsStored {N E : Type 0} (nodes : List N) (links : List (Link E)) (forward reverse : List (Vec ℕ Global)) : Type 0 where
+-- one place after each position stands where its list goes on behind its numbers among the first i
+pub record AreBegun {E : Type 0} (d : DependencyDirection) (count : ℕ) (links : List (Link E)) (i : ℕ) (bounds : List ℕ) : Type 0 where
+  pub count_is : length bounds ≡ count + 1
+  pub first : slice_index bounds 0 ≡ 0
+  pub next : (p : ℕ) → p < count → slice_index bounds (p + 1) ≡ leaving_below d links p + length (links_at d (take i links) p)
+
+-- the numbers from the bound of each position to the next one are the list of its links
+pub record ListsAre {E : Type 0} (d : DependencyDirection) (count : ℕ) (links : List (Link E)) (bounds numbers : List ℕ) : Type 0 where
+  pub count_is : length bounds ≡ count + 1
+  pub climb : (p : ℕ) → p < count → (slice_index bounds p ≤ slice_index bounds (p + 1)) × (slice_index bounds (p + 1) ≤ length numbers)
+  pub list_is : (p : ℕ) → p < count → slice_range numbers (slice_index bounds p) (slice_index bounds (p + 1)) ≡ links_at d links p
+
+pub record IsStored {N E : Type 0} (nodes : List N) (links : List (Link E)) (forward reverse : LinkLists) : Type 0 where
   pub graph : IsGraph (let g : GraphValue N E = record { nodes = nodes; links = links } in g)
-  pub forward_is : RowsAre Forward (length nodes) links forward
-  pub reverse_is : RowsAre Reverse (length nodes) links reverse
+  pub forward_is : ListsAre Forward (length nodes) links forward.bounds.items forward.numbers.items
+  pub reverse_is : ListsAre Reverse (length nodes) links reverse.bounds.items reverse.numbers.items

@@ -3,6 +3,7 @@ mod build;
 mod counted;
 mod graph;
 mod link;
+mod lists;
 
 pub use counted::CountedGraph;
 pub use graph::{Graph, GraphFault};

@@ -1,9 +1,10 @@
 ghost use Rattle.std.specs.Prelude.{◌≡◌, ◌+◌, ◌<◌, length, IfOk, MatchOption, All};
 ghost use Rattle.guppy_search.specs.Links.{EndsBelow};
-ghost use Rattle.guppy_search.specs.Stored.{RowsAre};
+ghost use Rattle.guppy_search.specs.Stored.{ListsAre};
 ghost use Rattle.guppy_search.specs.Pairs.{IsFirstTo, NoneTo, LeadApart, IsFirstAgain, SinglesBelow, IsFirstRepeat, IsFirstUnknown};
 
 use crate::graph_core::link::Link;
+use crate::graph_core::lists::LinkLists;
 use crate::ix::DependencyDirection;
 use std::alloc::{AllocError, Global};
 
@@ -17,27 +18,6 @@ pub(crate) fn first_unknown<E>(links: &[Link<E>], count: usize) -> Option<usize>
         }
     }
     None
-}
-
-/// The numbers of the links that leave each position.
-pub(crate) fn rows_of<E>(
-    alloc: Global,
-    links: &[Link<E>],
-    count: usize,
-    direction: DependencyDirection,
-) -> Result<Vec<Vec<usize>>, AllocError>
-    requires { All (EndsBelow count) links.now }
-    ensures { IfOk result (λ rows. RowsAre direction count links.now rows.items) }
-{
-    let mut rows = Vec::new(alloc);
-    for _position in 0..count {
-        rows.push(Vec::new(alloc))?;
-    }
-    for (number, link) in links.iter().enumerate() {
-        let row = &mut rows[link.near_end(direction)];
-        row.push(number)?;
-    }
-    Ok(rows)
 }
 
 /// The first link of the row that leads to the position.
@@ -82,16 +62,17 @@ fn first_again<E>(
 pub(crate) fn first_repeat<E>(
     alloc: Global,
     links: &[Link<E>],
-    forward: &[Vec<usize>],
+    count: usize,
+    forward: &LinkLists,
 ) -> Result<Option<usize>, AllocError>
-    requires rows { RowsAre DependencyDirection.Forward (length forward.now) links.now forward.now }
-    requires ends { All (EndsBelow (length forward.now)) links.now }
+    requires lists { ListsAre DependencyDirection.Forward count links.now forward.now.bounds.items forward.now.numbers.items }
+    requires ends { All (EndsBelow count) links.now }
     ensures { IfOk result (λ r. MatchOption r (SinglesBelow links.now (length links.now)) (IsFirstRepeat links.now)) }
 {
-    let mut marks = vec![in alloc; 0; forward.len()]?;
+    let mut marks = vec![in alloc; 0; count]?;
     let mut lowest = links.len();
-    for (position, row) in forward.iter().enumerate() {
-        let row = row.as_slice();
+    for position in 0..count {
+        let row = forward.at(position);
         if let Some(number) = first_again(links, row, position + 1, marks.as_mut_slice()) {
             lowest = lowest.min(number);
         }

@@ -1,7 +1,8 @@
 ghost use Rattle.std.specs.Prelude.{◌≡◌, ◌<◌, length, All, Some, slice_get, IfOk, IfErr, MatchOption};
 
-use crate::graph_core::build::{first_repeat, first_unknown, number_to, rows_of};
+use crate::graph_core::build::{first_repeat, first_unknown, number_to};
 use crate::graph_core::link::Link;
+use crate::graph_core::lists::LinkLists;
 use crate::ix::{DependencyDirection, GraphSpec, IndexType};
 use std::alloc::{AllocError, Global};
 use std::marker::Model;
@@ -39,8 +40,8 @@ const LIMIT: usize = 4_294_967_295;
 pub struct Graph<G: GraphSpec> {
     nodes: Vec<G::Node>,
     links: Vec<Link<G::Edge>>,
-    forward: Vec<Vec<usize>>,
-    reverse: Vec<Vec<usize>>,
+    forward: LinkLists,
+    reverse: LinkLists,
 }
 
 impl<G: GraphSpec> Model for Graph<G> {
@@ -52,7 +53,7 @@ impl<G: GraphSpec> Model for Graph<G> {
 
     ghost use Rattle.guppy_search.specs.Stored.{IsStored};
 
-    ghost invariant = { λ g. IsStored g.nodes.items g.links.items g.forward.items g.reverse.items };
+    ghost invariant = { λ g. IsStored g.nodes.items g.links.items g.forward g.reverse };
 }
 
 impl<G: GraphSpec> Graph<G> {
@@ -64,8 +65,8 @@ impl<G: GraphSpec> Graph<G> {
     /// ordered pair has two links. Otherwise the first fault: in the order of `GraphFault`, then
     /// the lowest link number. `OutOfMemory` comes where a growth was refused.
     ///
-    /// Time grows with nodes and links. Takes memory for two numbers a link and two lists and a
-    /// number a node, beside the parts themselves.
+    /// Time grows with nodes and links. Takes memory for two numbers a link and three a node, beside
+    /// the parts themselves.
     pub fn from_parts(nodes: Vec<G::Node>, links: Vec<Link<G::Edge>>) -> Result<Self, GraphFault>
         ensures nodes { IfOk result (λ g. g.nodes ≡ nodes.items) }
         ensures links { IfOk result (λ g. g.links ≡ links.items) }
@@ -82,16 +83,16 @@ impl<G: GraphSpec> Graph<G> {
         if let Some(number) = first_unknown(links.as_slice(), nodes.len()) {
             return Err(GraphFault::UnknownEnd(number));
         }
-        let forward = rows_of(
+        let forward = LinkLists::new(
             alloc,
             links.as_slice(),
             nodes.len(),
             DependencyDirection::Forward,
         )?;
-        if let Some(number) = first_repeat(alloc, links.as_slice(), forward.as_slice())? {
+        if let Some(number) = first_repeat(alloc, links.as_slice(), nodes.len(), &forward)? {
             return Err(GraphFault::RepeatedLink(number));
         }
-        let reverse = rows_of(
+        let reverse = LinkLists::new(
             alloc,
             links.as_slice(),
             nodes.len(),
@@ -162,8 +163,8 @@ impl<G: GraphSpec> Graph<G> {
         ensures graph { IsGraph self.now }
     {
         match direction {
-            DependencyDirection::Forward => self.forward[position].as_slice(),
-            DependencyDirection::Reverse => self.reverse[position].as_slice(),
+            DependencyDirection::Forward => self.forward.at(position),
+            DependencyDirection::Reverse => self.reverse.at(position),
         }
     }
 

@@ -1,7 +1,6 @@
-use Rattle.std.proofs.Common.{◌≡◌, ◌∙◌, length, replicate, refl, ap, arith, rules}
+use Rattle.std.proofs.Common.{◌≡◌, ◌∙◌, length, replicate, ap, arith, rules}
 use Rattle.std.proofs.Math.ListN.{length-replicate}
 use Rattle.std.proofs.lemmas.List.{with_items_is}
-use Rattle.std.proofs.lemmas.Option.{slice_get_read}
 use Rattle.guppy_search.specs.declared.ix.direction.DependencyDirection.TheVariants.{Forward}
 use Rattle.guppy_search.specs.Links.{links_at}
 use Rattle.guppy_search.proofs.Exits.{if_ok}
@@ -12,19 +11,19 @@ use Rattle.guppy_search.proofs.graph_core.build.first_repeat.Goals as goal
 
 pub first_again-requires-clause-numbers : goal.first_again-requires-clause-numbers
 first_again-requires-clause-numbers g c =
-    let row : c.as_slice-row.result.now ≡ links_at Forward c.args.links.now c.loop-position.position = c.as_slice-row.ensures.value ∙ c.requires.rows.row_is c.loop-position.position c.index-forward-position.result (slice_get_read c.args.forward.now _ c.loop-position.position c.index-forward-position.result refl c.loop-position-test.true c.index-forward-position.is) in
-    row_within Forward c.args.links.now c.loop-position.position c.as_slice-row.result.now row
+    let row : c.at-row.result.now ≡ links_at Forward c.args.links.now c.loop-position.position = c.at-row.ensures ∙ c.requires.lists.list_is c.loop-position.position c.loop-position-test.true in
+    row_within Forward c.args.links.now c.loop-position.position c.at-row.result.now row
 
 pub loop-position-preserved : goal.loop-position-preserved
 loop-position-preserved g c =
-    let row : c.as_slice-row.result.now ≡ links_at Forward c.args.links.now c.loop-position.position = c.as_slice-row.ensures.value ∙ c.requires.rows.row_is c.loop-position.position c.index-forward-position.result (slice_get_read c.args.forward.now _ c.loop-position.position c.index-forward-position.result refl c.loop-position-test.true c.index-forward-position.is) in
+    let row : c.at-row.result.now ≡ links_at Forward c.args.links.now c.loop-position.position = c.at-row.ensures ∙ c.requires.lists.list_is c.loop-position.position c.loop-position-test.true in
     let marks = c.loop-position.marks in
     let ok = marks.ok in
     let lent = c.as_mut_slice.ensures.len in
     let kept = c.first_again.ensures.len in
     let was = c.loop-position.invariant.len in
     let len : length c.first_again.new.marks ≡ marks.len = omega arith in
-    let count : length c.first_again.new.marks ≡ length c.args.forward.now = omega arith in
+    let count : length c.first_again.new.marks ≡ c.args.count = omega arith in
     rw (with_items_is marks c.first_again.new.marks len) (record {
       len = count;
       scanned = elim c.match-first_again.branch [
@@ -38,19 +37,19 @@ loop-position-preserved g c =
     })
 
 pub returns : goal.returns
-returns g c = scanned_all c.args.links.now (length c.args.forward.now) c.loop-position.position c.loop-position.lowest c.loop-position.marks.items c.requires.ends c.loop-position.invariant.scanned c.loop-position-test.false c.then_some.result c.then_some.ensures
+returns g c = scanned_all c.args.links.now c.args.count c.loop-position.position c.loop-position.lowest c.loop-position.marks.items c.requires.ends c.loop-position.invariant.scanned c.loop-position-test.false c.then_some.result c.then_some.ensures
 
 pub returns-in_err-marks : goal.returns-in_err-marks
 returns-in_err-marks g c = if_ok _ _ c.from_residual.ensures.0
 
 pub loop-position-init : goal.loop-position-init
 loop-position-init g c =
-    let items : c.in_ok-marks.marks.items ≡ replicate (length c.args.forward.now) 0 = search rules in
-    rw items (record { len = length-replicate _ 0; scanned = scanned_none c.args.links.now (length c.args.forward.now) })
+    let items : c.in_ok-marks.marks.items ≡ replicate c.args.count 0 = search rules in
+    rw items (record { len = length-replicate _ 0; scanned = scanned_none c.args.links.now c.args.count })
 
 pub first_again-requires-clause-ends : goal.first_again-requires-clause-ends
 first_again-requires-clause-ends g c =
-    let count : length c.as_mut_slice.result.now ≡ length c.args.forward.now = ap length c.as_mut_slice.ensures.value ∙ c.loop-position.invariant.len in
+    let count : length c.as_mut_slice.result.now ≡ c.args.count = ap length c.as_mut_slice.ensures.value ∙ c.loop-position.invariant.len in
     rw count c.requires.ends
 
 pub first_again-requires-clause-unused : goal.first_again-requires-clause-unused

@@ -49,8 +49,8 @@ returns-in-Some-clause-fault g c =
     let size : c.len-3.result ≡ length c.args.nodes.items = let len = c.len-3.ensures in let ok = c.args.nodes.ok in omega arith in
     (omega arith, omega arith, rw (c.as_slice.ensures.value, size) at c.in-Some.ensures)
 
-pub rows_of-requires : goal.rows_of-requires
-rows_of-requires g c =
+pub new-requires-clause-ends : goal.new-requires-clause-ends
+new-requires-clause-ends g c =
     let size : c.len-3.result ≡ length c.args.nodes.items = let len = c.len-3.ensures in let ok = c.args.nodes.ok in omega arith in
     let ends = rw (c.as_slice.ensures.value, size) at c.in_default.ensures in
     let size4 : c.len-4.result ≡ length c.args.nodes.items = let len = c.len-4.ensures in let ok = c.args.nodes.ok in omega arith in
@@ -65,17 +65,19 @@ returns-in_err-number-clause-fault g c = if_err (IsFault (length c.args.nodes.it
 pub returns-in_err-reverse-clause-fault : goal.returns-in_err-reverse-clause-fault
 returns-in_err-reverse-clause-fault g c = if_err (IsFault (length c.args.nodes.items) c.args.links.items) (λ e. e ≡ OutOfMemory) _ c.from_residual-in_err-reverse.ensures.1 (λ e is. rw is tt)
 
-pub first_repeat-requires-clause-rows : goal.first_repeat-requires-clause-rows
-first_repeat-requires-clause-rows g c =
-    let rows = rw c.as_slice-2.ensures.value at c.in_ok-forward.ensures in
-    rw (c.as_slice-4.ensures.value, c.as_slice-3.ensures.value, rows.count_is) rows
+pub first_repeat-requires-clause-lists : goal.first_repeat-requires-clause-lists
+first_repeat-requires-clause-lists g c =
+    let size4 : c.len-4.result ≡ length c.args.nodes.items = let len = c.len-4.ensures in let ok = c.args.nodes.ok in omega arith in
+    let size5 : c.len-5.result ≡ length c.args.nodes.items = let len = c.len-5.ensures in let ok = c.args.nodes.ok in omega arith in
+    let lists = rw (c.as_slice-2.ensures.value, size4) at c.in_ok-forward.ensures in
+    rw (c.as_slice-3.ensures.value, size5) lists
 
 pub first_repeat-requires-clause-ends : goal.first_repeat-requires-clause-ends
 first_repeat-requires-clause-ends g c =
     let size : c.len-3.result ≡ length c.args.nodes.items = let len = c.len-3.ensures in let ok = c.args.nodes.ok in omega arith in
     let ends = rw (c.as_slice.ensures.value, size) at c.in_default.ensures in
-    let size4 : c.len-4.result ≡ length c.args.nodes.items = let len = c.len-4.ensures in let ok = c.args.nodes.ok in omega arith in
-    rw (c.as_slice-4.ensures.value, c.as_slice-3.ensures.value, c.in_ok-forward.ensures.count_is, size4) ends
+    let size5 : c.len-5.result ≡ length c.args.nodes.items = let len = c.len-5.ensures in let ok = c.args.nodes.ok in omega arith in
+    rw (c.as_slice-3.ensures.value, size5) ends
 
 pub returns-in-Some-2-clause-fault : goal.returns-in-Some-2-clause-fault
 returns-in-Some-2-clause-fault g c =
@@ -87,12 +89,12 @@ returns-in-Some-2-clause-fault g c =
     let ends = rw (c.as_slice.ensures.value, size) at c.in_default.ensures in
     (omega arith, omega arith, ends, rw (c.as_slice-3.ensures.value, c.in-Some-2.is) at c.in_ok-number.ensures)
 
-pub rows_of-requires-2 : goal.rows_of-requires-2
-rows_of-requires-2 g c =
+pub new-requires-2-clause-ends : goal.new-requires-2-clause-ends
+new-requires-2-clause-ends g c =
     let size : c.len-3.result ≡ length c.args.nodes.items = let len = c.len-3.ensures in let ok = c.args.nodes.ok in omega arith in
     let ends = rw (c.as_slice.ensures.value, size) at c.in_default.ensures in
-    let size5 : c.len-5.result ≡ length c.args.nodes.items = let len = c.len-5.ensures in let ok = c.args.nodes.ok in omega arith in
-    rw (c.as_slice-5.ensures.value, size5) ends
+    let size6 : c.len-6.result ≡ length c.args.nodes.items = let len = c.len-6.ensures in let ok = c.args.nodes.ok in omega arith in
+    rw (c.as_slice-4.ensures.value, size6) ends
 
 pub invariant_of-result : goal.invariant_of-result
 invariant_of-result g c =
@@ -104,11 +106,11 @@ invariant_of-result g c =
     let ends = rw (c.as_slice.ensures.value, size) at c.in_default.ensures in
     let singles = rw (c.as_slice-3.ensures.value, c.in_default-2.is) at c.in_ok-number.ensures in
     let size4 : c.len-4.result ≡ length c.args.nodes.items = let len = c.len-4.ensures in let ok = c.args.nodes.ok in omega arith in
-    let size5 : c.len-5.result ≡ length c.args.nodes.items = let len = c.len-5.ensures in let ok = c.args.nodes.ok in omega arith in
+    let size6 : c.len-6.result ≡ length c.args.nodes.items = let len = c.len-6.ensures in let ok = c.args.nodes.ok in omega arith in
     record {
       graph = graph_of c.args.nodes.items c.args.links.items (omega arith) (omega arith) ends singles;
       forward_is = rw (c.as_slice-2.ensures.value, size4) at c.in_ok-forward.ensures;
-      reverse_is = rw (c.as_slice-5.ensures.value, size5) at c.in_ok-reverse.ensures;
+      reverse_is = rw (c.as_slice-4.ensures.value, size6) at c.in_ok-reverse.ensures;
     }
 
 pub returns-clause-graph : goal.returns-clause-graph
