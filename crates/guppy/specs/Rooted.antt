@@ -1,10 +1,10 @@
 -- The roots of a set of packages.
-use Rattle.std.specs.Prelude.{◌≡◌, ℕ, true, List, map}
+use Rattle.std.specs.Prelude.{◌≡◌, ℕ, List, map}
 use Rattle.std.specs.List.{filter_map}
 use Rattle.std.specs.Vec.Iter.{into_iter_items}
 use Rattle.guppy_search.specs.declared.ix.direction.DependencyDirection.{DependencyDirection}
 use Rattle.guppy_search.specs.declared.ix.direction.DependencyDirection.TheVariants.{Forward}
-use Rattle.guppy_core.specs.Reach.{LinkStep, MutualReach}
+use Rattle.guppy_core.specs.Reach.{LinkStep, Mutual}
 use Rattle.guppy_core.specs.Roots.{AreRoots}
 use Rattle.guppy.specs.declared.set.roots.RootPackages.{RootPackages}
 use Rattle.guppy.specs.declared.set.roots.RootIds.{RootIds}
@@ -15,7 +15,7 @@ use Rattle.guppy.specs.Listed.{id_of}
 
 -- the positions of the set's roots, ascending: those whose component no link inside the set enters, in the direction, from outside it; a component is a class of mutual reach over all links of the graph
 abbrev pub AreRootsOf : DependencyDirection → SetData → List ℕ → Type 0
-AreRootsOf d s = AreRoots (LinkStep d s.graph.links) (MutualReach Forward (λ _. true) s.graph.links) s.included
+AreRootsOf d s = AreRoots (LinkStep d s.graph.links) (Mutual (LinkStep Forward s.graph.links)) s.included
 
 -- the packages are the set's roots
 abbrev pub AreRootPackages : DependencyDirection → SetData → List (GraphData × ℕ) → Type 0

@@ -1,8 +1,8 @@
 -- The links of a set that are walked from its roots.
-use Rattle.std.specs.Prelude.{◌≡◌, ◌↔◌, ℕ, true, List, map, Contains}
+use Rattle.std.specs.Prelude.{◌≡◌, ◌↔◌, ℕ, List, map, Contains}
 use Rattle.guppy_search.specs.declared.ix.direction.DependencyDirection.{DependencyDirection}
 use Rattle.guppy_search.specs.declared.ix.direction.DependencyDirection.TheVariants.{Forward}
-use Rattle.guppy_core.specs.Reach.{LinkStep, MutualReach}
+use Rattle.guppy_core.specs.Reach.{LinkStep, Mutual}
 use Rattle.guppy_core.specs.Roots.{IsRoot}
 use Rattle.guppy_core.specs.Walked.{AreWalked, IsLinkInside, HoldsComponents, numbers_of}
 use Rattle.guppy.specs.declared.link.PackageLink.{PackageLink}
@@ -13,7 +13,7 @@ use Rattle.guppy.specs.Query.{SetData}
 
 -- the position is a root of the set: no link inside the set enters its component, in the direction, from outside it; a component is a class of mutual reach over all links of the graph
 abbrev pub IsRootOf : DependencyDirection → SetData → ℕ → Type 0
-IsRootOf d s = IsRoot (LinkStep d s.graph.links) (MutualReach Forward (λ _. true) s.graph.links) s.included
+IsRootOf d s = IsRoot (LinkStep d s.graph.links) (Mutual (LinkStep Forward s.graph.links)) s.included
 
 -- the numbers of the set's links that are walked from its roots in the direction
 abbrev pub AreWalkedOf : DependencyDirection → SetData → List ℕ → Type 0

@@ -12,7 +12,8 @@ use Rattle.guppy_core.specs.Topo.{IsEntered, FromRoot, IsTopo, HasNoCycle, Leads
 use Rattle.guppy_core.specs.Sccs.{AreSccs}
 use Rattle.guppy_search.proofs.Walks.{walk_from}
 use Rattle.guppy_core.proofs.Lengths.{length_of_once}
-use Rattle.guppy_core.proofs.Blocks.{earlier, within, all_placed}
+use Rattle.guppy_core.proofs.Blocks.{earlier_precedes, within_precedes, sccs_cover, sccs_steps}
+use Rattle.guppy_core.proofs.Listings.{never_both}
 
 some_link : {A : Type 0} (xs : List A) (i : ℕ) → i < length xs → (v : A) × (slice_get xs i ≡ Some v)
 some_link [] i h = absurd (omega arith)
@@ -109,21 +110,26 @@ module _ (R : ℕ → ℕ → Type 0) (n : ℕ) (entered : (x : ℕ) → IsEnter
 
   -- each step to another position leads on in a topological order
   pub topo_leads_on : (order : List ℕ) → IsTopo R n order → LeadsOn R order
-  topo_leads_on order t i j x y p q r other = t.steps i j x y p q (from_a_root x (t.listing.below i x p)) r (λ w. other (none x y r w))
+  topo_leads_on order t x y r other = t.steps x y (from_a_root x (below x y r)) r (λ w. other (none x y r w))
 
 -- Each step of the kind that the index is by leads on in the list of the components too, where these steps lead round to no other position.
 pub sccs_lead_on : (R K : ℕ → ℕ → Type 0) → ((x y : ℕ) → K x y → R x y) → (n : ℕ) (index : List ℕ) (blocks : List (List ℕ)) → IsListing n index → LeadsOn K index → AreSccs R n index blocks → LeadsOn K (concat blocks)
-sccs_lead_on R K kept n index blocks listing leads s i j x y p q r other =
-    elim (cases_order i j) [
-      | inl e ↦ absurd (let f = subst (λ k. slice_get (concat blocks) k ≡ Some x) e p in other (let same : x ≡ y = cc in same))
-      | inr o ↦ elim o [
-        | inl less ↦ less
-        | inr more ↦ elim (all_placed blocks j i y x q p more) [
-          | earlier c d a b l h h' u v ↦ absurd (let back = s.steps d c b a x y h' h v u (kept x y r) (λ e. let f = e in omega arith) in omega arith)
-          | within c k l b l' h u v ↦
-              let ix = listing.all x (s.below c b x h (l, v)) in
-              let iy = listing.all y (s.below c b y h (k, u)) in
-              absurd (let on = leads ix.0 iy.0 x y ix.1 iy.1 r other in let back = s.keeps c b h k l iy.0 ix.0 y x u v l' iy.1 ix.1 in omega arith)
-        ]
-      ]
+sccs_lead_on R K kept n index blocks listing leads s x y r other =
+    let p = leads x y r other in
+    let bx = sccs_cover R n index blocks s x (listing.below p.0 x p.3) in
+    let by = sccs_cover R n index blocks s y (listing.below p.1 y p.4) in
+    elim (cases_eq bx.0 by.0) [
+      | inl e ↦
+          let at : slice_get blocks by.0 ≡ Some bx.1 = subst (λ c. slice_get blocks c ≡ Some bx.1) e bx.2 in
+          let b_is : bx.1 ≡ by.1 = let a = by.2 in cc in
+          let u : Stands by.1 x = subst (λ b. Stands b x) b_is bx.3 in
+          let v = by.3 in
+          elim (cases_order u.0 v.0) [
+            | inl same ↦ absurd (let f = subst (λ k. slice_get by.1 k ≡ Some x) same u.1 in let h = v.1 in other (let is : x ≡ y = cc in is))
+            | inr o ↦ elim o [
+              | inl less ↦ within_precedes blocks by.0 by.1 x y by.2 (u.0, v.0, less, u.1, v.1)
+              | inr more ↦ absurd (never_both index listing.once x y p (s.keeps by.0 by.1 by.2 y x (v.0, u.0, more, v.1, u.1)))
+            ]
+          ]
+      | inr differ ↦ earlier_precedes blocks bx.0 by.0 bx.1 by.1 x y (sccs_steps R n index blocks s bx.0 by.0 bx.1 by.1 x y bx.2 by.2 bx.3 by.3 (kept x y r) differ) bx.2 by.2 bx.3 by.3
     ]

@@ -3,14 +3,14 @@ use Rattle.std.proofs.Common.{◌≡◌, ◌↔◌, ℕ, suc, zero, ◌+◌, ◌
 use Rattle.std.specs.Prelude.{slice_get, slice_index}
 use Rattle.std.specs.List.{concat, slice_range}
 use Rattle.std.proofs.Math.Dec.{ltb}
-use Rattle.std.proofs.lemmas.Bool.{cases_order, eqb-true, eq-eqb, lt-ltb, ltb-true}
+use Rattle.std.proofs.lemmas.Bool.{cases_lt, cases_eq, cases_order, eqb-true, eq-eqb, lt-ltb, ltb-true}
 use Rattle.std.proofs.lemmas.List.{length-drop, length-take-le, get_or_default}
 use Rattle.std.proofs.lemmas.Option.{slice_get_within}
-use Rattle.guppy_search.specs.Reach.{Walk}
-use Rattle.guppy_core.specs.Listing.{Stands, IsOnce, IsListing}
+use Rattle.guppy_search.specs.Reach.{Mutual}
+use Rattle.guppy_core.specs.Listing.{Stands, Precedes, IsOnce, IsListing}
 use Rattle.guppy_core.specs.Order.{IsOrder}
 use Rattle.guppy_core.specs.Sccs.{AreSccs, AreNumbered, InOneBlock, InLargeBlock, IsCut, parts, parts_from}
-use Rattle.guppy_core.proofs.Listings.{at_joined, joined_left, joined_right}
+use Rattle.guppy_core.proofs.Listings.{at_joined, joined_left, joined_right, left_precedes, right_precedes, across_precedes, never_both}
 use Rattle.guppy_core.proofs.Lengths.{length_of_all}
 
 -- who stands in a block stands among all
@@ -55,11 +55,33 @@ all_placed (a ∷ blocks) i j x y h k less =
       ]
     ]
 
-module _ (R : ℕ → ℕ → Type 0) (n : ℕ) (index : List ℕ) (blocks : List (List ℕ)) (s : AreSccs R n index blocks) where
+-- who stands in an earlier block stands before
+pub earlier_precedes : (blocks : List (List ℕ)) (c d : ℕ) (a b : List ℕ) (x y : ℕ) → c < d → slice_get blocks c ≡ Some a → slice_get blocks d ≡ Some b → Stands a x → Stands b y → Precedes (concat blocks) x y
+earlier_precedes [] c d a b x y less h k s t = absurd (cc)
+earlier_precedes (e ∷ blocks) c zero a b x y less h k s t = absurd (omega arith)
+earlier_precedes (e ∷ blocks) zero (suc d) a b x y less h k s t =
+    let same : e ≡ a = cc in
+    across_precedes e (concat blocks) x y (subst (λ z. Stands z x) (sym same) s) (block_in_all blocks d b y k t)
+earlier_precedes (e ∷ blocks) (suc c) (suc d) a b x y less h k s t = right_precedes e (concat blocks) x y (earlier_precedes blocks c d a b x y (omega arith) h k s t)
+
+-- who stands before another in a block does so among all
+pub within_precedes : (blocks : List (List ℕ)) (c : ℕ) (b : List ℕ) (x y : ℕ) → slice_get blocks c ≡ Some b → Precedes b x y → Precedes (concat blocks) x y
+within_precedes [] c b x y h p = absurd (cc)
+within_precedes (e ∷ blocks) zero b x y h p =
+    let same : e ≡ b = cc in
+    left_precedes e (concat blocks) x y (subst (λ z. Precedes z x y) (sym same) p)
+within_precedes (e ∷ blocks) (suc c) b x y h p = right_precedes e (concat blocks) x y (within_precedes blocks c b x y h p)
+
+-- blocks that have each number below n in one of them, and in none twice, have it once
+module _ (n : ℕ) (blocks : List (List ℕ))
+    (below : (c : ℕ) (b : List ℕ) (x : ℕ) → slice_get blocks c ≡ Some b → Stands b x → x < n)
+    (there : (x : ℕ) → x < n → (c : ℕ) × (b : List ℕ) × (slice_get blocks c ≡ Some b) × Stands b x)
+    (alone : (c d : ℕ) (a b : List ℕ) (x : ℕ) → slice_get blocks c ≡ Some a → slice_get blocks d ≡ Some b → Stands a x → Stands b x → c ≡ d)
+    (never : (c : ℕ) (b : List ℕ) (x : ℕ) → slice_get blocks c ≡ Some b → Precedes b x x → ⊥) where
   not_before_itself : (x : ℕ) → Placed blocks x x → ⊥
   not_before_itself x p = elim p as (λ _. ⊥) [
-    | earlier c d a b less h k u v ↦ absurd (let e = s.apart c d a b x h k u v in omega arith)
-    | within c k l b less h u v ↦ absurd (let e = s.once c b k l x h u v in omega arith)
+    | earlier c d a b less h k u v ↦ absurd (let e = alone c d a b x h k u v in omega arith)
+    | within c k l b less h u v ↦ never c b x h (k, l, less, u, v)
   ]
 
   all_once : IsOnce (concat blocks)
@@ -72,62 +94,101 @@ module _ (R : ℕ → ℕ → Type 0) (n : ℕ) (index : List ℕ) (blocks : Lis
   ]
 
   all_below : (i x : ℕ) → slice_get (concat blocks) i ≡ Some x → x < n
-  all_below i x h = let r = all_in_block blocks i x h in s.below r.0 r.1 x r.2 r.3
+  all_below i x h = let r = all_in_block blocks i x h in below r.0 r.1 x r.2 r.3
 
   all_there : (x : ℕ) → x < n → Stands (concat blocks) x
-  all_there x l = let r = s.covers x l in block_in_all blocks r.0 r.1 x r.2 r.3
+  all_there x l = let r = there x l in block_in_all blocks r.0 r.1 x r.2 r.3
 
   pub all_listed : IsListing n (concat blocks)
   all_listed = record { count = length_of_all n (concat blocks) all_once all_below all_there; once = all_once; below = all_below; all = all_there }
 
-  -- of two that lead to each other, each stands in the block of the other
-  one_block : (c d : ℕ) (a b : List ℕ) (x y : ℕ) → slice_get blocks c ≡ Some a → slice_get blocks d ≡ Some b → Stands a x → Stands b y → Walk R x y → Walk R y x → c ≡ d
-  one_block c d a b x y h k u v w w' = s.apart c d a b y h k ((s.classes c a x y h u).1 (s.below d b y k v, w, w')) v
+module _ (R : ℕ → ℕ → Type 0) (n : ℕ) (index : List ℕ) (blocks : List (List ℕ)) (s : AreSccs R n index blocks) where
+  -- who stands in a block is below n
+  pub sccs_below : (c : ℕ) (b : List ℕ) (x : ℕ) → slice_get blocks c ≡ Some b → Stands b x → x < n
+  sccs_below c b x h u = let t = block_in_all blocks c b x h u in s.listing.below t.0 x t.1
+
+  -- each position stands in a block
+  pub sccs_cover : (x : ℕ) → x < n → (c : ℕ) × (b : List ℕ) × (slice_get blocks c ≡ Some b) × Stands b x
+  sccs_cover x l = let t = s.listing.all x l in all_in_block blocks t.0 x t.1
+
+  -- nobody stands before itself
+  not_before : (x : ℕ) → Precedes (concat blocks) x x → ⊥
+  not_before x p = never_both (concat blocks) s.listing.once x x p p
+
+  -- and in one block alone
+  pub sccs_apart : (c d : ℕ) (a b : List ℕ) (x : ℕ) → slice_get blocks c ≡ Some a → slice_get blocks d ≡ Some b → Stands a x → Stands b x → c ≡ d
+  sccs_apart c d a b x h k u v = elim (cases_order c d) [
+    | inl e ↦ e
+    | inr o ↦ elim o [
+      | inl less ↦ absurd (not_before x (earlier_precedes blocks c d a b x x less h k u v))
+      | inr more ↦ absurd (not_before x (earlier_precedes blocks d c b a x x more k h v u))
+    ]
+  ]
+
+  -- in a block each stands once
+  pub sccs_once : (c : ℕ) (b : List ℕ) (i j x : ℕ) → slice_get blocks c ≡ Some b → slice_get b i ≡ Some x → slice_get b j ≡ Some x → i ≡ j
+  sccs_once c b i j x h u v = elim (cases_order i j) [
+    | inl e ↦ e
+    | inr o ↦ elim o [
+      | inl less ↦ absurd (not_before x (within_precedes blocks c b x x h (i, j, less, u, v)))
+      | inr more ↦ absurd (not_before x (within_precedes blocks c b x x h (j, i, more, v, u)))
+    ]
+  ]
+
+  -- the block of both is that of each
+  pub sccs_one : (c d : ℕ) (a b : List ℕ) (x y : ℕ) → slice_get blocks c ≡ Some a → slice_get blocks d ≡ Some b → Stands a x → Stands b y → InOneBlock blocks x y → c ≡ d
+  sccs_one c d a b x y h k u v i = sccs_apart c i.0 a i.1 x h i.2 u i.3 ∙ sym (sccs_apart d i.0 b i.1 y k i.2 v i.4)
+
+  -- who is in mutual reach with one of a block stands there, and no other
+  pub sccs_members : (c : ℕ) (b : List ℕ) (x y : ℕ) → slice_get blocks c ≡ Some b → Stands b x → Stands b y ↔ ((y < n) × Mutual R x y)
+  sccs_members c b x y h u = (
+    λ v. (sccs_below c b y h v, (s.classes x y (sccs_below c b x h u) (sccs_below c b y h v)).0 (c, b, h, u, v)),
+    λ w.
+        let i = (s.classes x y (sccs_below c b x h u) w.0).1 w.1 in
+        let e : i.0 ≡ c = sccs_apart i.0 c i.1 b x i.2 h i.3 u in
+        let at : slice_get blocks c ≡ Some i.1 = subst (λ k. slice_get blocks k ≡ Some i.1) e i.2 in
+        let b_is : i.1 ≡ b = cc in
+        subst (λ z. Stands z y) b_is i.4,
+  )
+
+  -- who stands before another stands in no later block
+  block_order : (c d : ℕ) (a b : List ℕ) (x y : ℕ) → slice_get blocks c ≡ Some a → slice_get blocks d ≡ Some b → Stands a x → Stands b y → Precedes (concat blocks) x y → c ≤ d
+  block_order c d a b x y h k u v p = elim (cases_lt d c) [
+    | inl less ↦ absurd (never_both (concat blocks) s.listing.once x y p (earlier_precedes blocks d c b a y x less k h v u))
+    | inr ge ↦ omega arith
+  ]
+
+  -- a step between different blocks leads to a later one
+  pub sccs_steps : (c d : ℕ) (a b : List ℕ) (x y : ℕ) → slice_get blocks c ≡ Some a → slice_get blocks d ≡ Some b → Stands a x → Stands b y → R x y → (c ≡ d → ⊥) → c < d
+  sccs_steps c d a b x y h k u v r differ =
+      let p = s.steps x y (sccs_below c a x h u) (sccs_below d b y k v) r (λ i. differ (sccs_one c d a b x y h k u v i)) in
+      let low = block_order c d a b x y h k u v p in
+      elim (cases_eq c d) [
+        | inl e ↦ absurd (differ e)
+        | inr ne ↦ omega arith
+      ]
 
   pub sccs_order : IsOrder R n index (concat blocks)
   sccs_order = record {
-    listing = all_listed;
-    together = λ i j k x y z p q r less more w w'.
-        let bx = all_in_block blocks i x p in
-        let bz = all_in_block blocks k z r in
-        let same = one_block bx.0 bz.0 bx.1 bz.1 x z bx.2 bz.2 bx.3 bz.3 w w' in
-        let by = all_in_block blocks j y q in
-        let low : bx.0 ≤ by.0 = elim (all_placed blocks i j x y p q less) [
-          | earlier c d a b l h h' u v ↦ let e = s.apart c bx.0 a bx.1 x h bx.2 u bx.3 in let f = s.apart d by.0 b by.1 y h' by.2 v by.3 in omega arith
-          | within c k' l b l' h u v ↦ let e = s.apart c bx.0 b bx.1 x h bx.2 (k', u) bx.3 in let f = s.apart c by.0 b by.1 y h by.2 (l, v) by.3 in omega arith
-        ] in
-        let high : by.0 ≤ bz.0 = elim (all_placed blocks j k y z q r more) [
-          | earlier c d a b l h h' u v ↦ let e = s.apart c by.0 a by.1 y h by.2 u by.3 in let f = s.apart d bz.0 b bz.1 z h' bz.2 v bz.3 in omega arith
-          | within c k' l b l' h u v ↦ let e = s.apart c by.0 b by.1 y h by.2 (k', u) by.3 in let f = s.apart c bz.0 b bz.1 z h bz.2 (l, v) bz.3 in omega arith
-        ] in
+    listing = s.listing;
+    together = λ x y z p q both.
+        let bx = all_in_block blocks p.0 x p.3 in
+        let by = all_in_block blocks p.1 y p.4 in
+        let bz = all_in_block blocks q.1 z q.4 in
+        let lx = s.listing.below p.0 x p.3 in
+        let ly = s.listing.below p.1 y p.4 in
+        let lz = s.listing.below q.1 z q.4 in
+        let same = sccs_one bx.0 bz.0 bx.1 bz.1 x z bx.2 bz.2 bx.3 bz.3 ((s.classes x z lx lz).1 both) in
+        let low = block_order bx.0 by.0 bx.1 by.1 x y bx.2 by.2 bx.3 by.3 p in
+        let high = block_order by.0 bz.0 by.1 bz.1 y z by.2 bz.2 by.3 bz.3 q in
         let e : by.0 ≡ bx.0 = omega arith in
         let at : slice_get blocks bx.0 ≡ Some by.1 = subst (λ c. slice_get blocks c ≡ Some by.1) e by.2 in
         let b_is : by.1 ≡ bx.1 = let a = bx.2 in cc in
-        let t = (s.classes bx.0 bx.1 x y bx.2 bx.3).0 (subst (λ b. Stands b y) b_is by.3) in
-        (t.1, t.2);
-    forward = λ i j x y p q r none.
-        let bx = all_in_block blocks i x p in
-        let by = all_in_block blocks j y q in
-        let differ : bx.0 ≡ by.0 → ⊥ = λ e.
-        let at : slice_get blocks bx.0 ≡ Some by.1 = subst (λ c. slice_get blocks c ≡ Some by.1) (sym e) by.2 in
-        let b_is : by.1 ≡ bx.1 = let a = bx.2 in cc in
-        none ((s.classes bx.0 bx.1 x y bx.2 bx.3).0 (subst (λ b. Stands b y) b_is by.3)).2 in
-        let less = s.steps bx.0 by.0 bx.1 by.1 x y bx.2 by.2 bx.3 by.3 r differ in
-        elim (cases_order i j) [
-          | inl e ↦
-              let x_is : x ≡ y = let f = subst (λ k. slice_get (concat blocks) k ≡ Some x) e p in cc in
-              absurd (differ (s.apart bx.0 by.0 bx.1 by.1 y bx.2 by.2 (subst (λ z. Stands bx.1 z) x_is bx.3) by.3))
-          | inr o ↦ elim o [
-            | inl l ↦ l
-            | inr more ↦ elim (all_placed blocks j i y x q p more) [
-              | earlier c d a b l h h' u v ↦ absurd (let e = s.apart c by.0 a by.1 y h by.2 u by.3 in let f = s.apart d bx.0 b bx.1 x h' bx.2 v bx.3 in omega arith)
-              | within c k l b l' h u v ↦ absurd (let e = s.apart c by.0 b by.1 y h by.2 (k, u) by.3 in let f = s.apart c bx.0 b bx.1 x h bx.2 (l, v) bx.3 in omega arith)
-            ]
-          ]
-        ];
-    inside = λ i j k l x y p q r t w w' less. elim (all_placed blocks i j x y p q less) [
-      | earlier c d a b l' h h' u v ↦ absurd (let e = one_block c d a b x y h h' u v w w' in omega arith)
-      | within c k' l' b l'' h u v ↦ s.keeps c b h k' l' k l x y u v l'' r t
+        (s.classes x y lx ly).0 (bx.0, bx.1, bx.2, bx.3, subst (λ b. Stands b y) b_is by.3);
+    forward = λ x y lx ly r none. s.steps x y lx ly r (λ i. none ((s.classes x y lx ly).0 i).1);
+    inside = λ x y p both. elim (all_placed blocks p.0 p.1 x y p.3 p.4 p.2) [
+      | earlier c d a b less h k u v ↦ absurd (let e = sccs_one c d a b x y h k u v ((s.classes x y (sccs_below c a x h u) (sccs_below d b y k v)).1 both) in omega arith)
+      | within c k l b less h u v ↦ s.keeps c b h x y (k, l, less, u, v)
     ];
   }
 

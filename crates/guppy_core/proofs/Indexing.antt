@@ -83,25 +83,33 @@ module _ (R : ℕ → ℕ → Type 0) (n : ℕ) (F rest : List ℕ) (set : List 
       (λ t. joined_right (reverse F) rest p ((a.members p).1 (l, t)))
       (cases_Bool (has set p))
 
+  stands_there : (x : ℕ) → FromRoot R n x → Stands (reverse F ++ rest) x
+  stands_there x from = let s = finished x from in all x (below s.0 x s.1)
+
   pub topo_of : IsTopo R n (reverse F ++ rest)
   topo_of = record {
     listing = record { count = length_of_all n (reverse F ++ rest) once all_below all; once = once; below = all_below; all = all };
-    steps = λ i j u v p q from r none.
+    steps = λ u v from r none.
         let to : FromRoot R n v = (from.0, from.1, step from.2 r) in
-        let pu = in_front i u p from in
-        let pv = in_front j v q to in
-        ⊎_elim
+        let i = stands_there u from in
+        let j = stands_there v to in
+        let pu = in_front i.0 u i.1 from in
+        let pv = in_front j.0 v j.1 to in
+        let less : i.0 < j.0 = ⊎_elim
         (λ w. absurd (none w))
         (λ b. let same = f.once b.0 pv.0 v b.2 pv.1 in let l = b.1 in let e = pu.2 in let e' = pv.2 in omega arith)
-        (f.steps pu.0 u v pu.1 r);
-    last = λ i j u v p q from none.
-        let pu = in_front i u p from in
-        let pv = in_back j v q none in
-        let e = pu.2 in let e' = pv.2 in omega arith;
-    ascending = λ i j u v p q none none' l.
-        let pu = in_back i u p none in
-        let pv = in_back j v q none' in
-        a.ascends pu.0 pv.0 u v pu.1 pv.1 (let e = pu.2 in let e' = pv.2 in omega arith);
+        (f.steps pu.0 u v pu.1 r) in
+        (i.0, j.0, less, i.1, j.1);
+    last = λ u v low from none.
+        let i = stands_there u from in
+        let j = all v low in
+        let pu = in_front i.0 u i.1 from in
+        let pv = in_back j.0 v j.1 none in
+        (i.0, j.0, (let e = pu.2 in let e' = pv.2 in omega arith), i.1, j.1);
+    ascending = λ u v none none' p.
+        let pu = in_back p.0 u p.3 none in
+        let pv = in_back p.1 v p.4 none' in
+        a.ascends pu.0 pv.0 u v pu.1 pv.1 (let l = p.2 in let e = pu.2 in let e' = pv.2 in omega arith);
   }
 
 pub order_below : (n : ℕ) (order : List ℕ) → IsListing n order → All (λ p. p < length order) order

@@ -9,7 +9,7 @@ use Rattle.std.proofs.lemmas.Option.{slice_get_within, slice_get-get_or, slice_g
 use Rattle.guppy_search.specs.IxSet.{has}
 use Rattle.guppy_core.proofs.Inserted.{has-set_kept, has-set_cases}
 use Rattle.guppy_core.proofs.Places.{at_cases, stands_left, stands_last, stands_cases}
-use Rattle.guppy_core.specs.Listing.{Stands, StandsBefore, IsAbsence}
+use Rattle.guppy_core.specs.Listing.{Stands, StandsBefore, Precedes, IsOnce, IsAbsence}
 
 pub stands_contains : (xs : List ℕ) (x : ℕ) → Stands xs x → Contains xs x
 stands_contains xs x s = (s.0, slice_get_within xs s.0 x s.1, get_or_from_slice_get xs s.0 x x s.1)
@@ -48,9 +48,36 @@ joined_left [] ys i x h = absurd (cc)
 joined_left (z ∷ xs) ys zero x h = h
 joined_left (z ∷ xs) ys (suc i) x h = joined_left xs ys i x h
 
+joined_at : (xs ys : List ℕ) (j x : ℕ) → slice_get ys j ≡ Some x → (i : ℕ) × (slice_get (xs ++ ys) i ≡ Some x) × (i ≡ length xs + j)
+joined_at [] ys j x h = (j, h, omega arith)
+joined_at (z ∷ xs) ys j x h = let r = joined_at xs ys j x h in (suc r.0, r.1, let e = r.2 in omega arith)
+
 pub joined_right : (xs ys : List ℕ) (x : ℕ) → Stands ys x → Stands (xs ++ ys) x
-joined_right [] ys x s = s
-joined_right (z ∷ xs) ys x s = let r = joined_right xs ys x s in (suc r.0, r.1)
+joined_right xs ys x s = let r = joined_at xs ys s.0 x s.1 in (r.0, r.1)
+
+-- who stands before whom in two lists end to end
+pub left_precedes : (xs ys : List ℕ) (x y : ℕ) → Precedes xs x y → Precedes (xs ++ ys) x y
+left_precedes xs ys x y p = (p.0, p.1, p.2, joined_left xs ys p.0 x p.3, joined_left xs ys p.1 y p.4)
+
+pub right_precedes : (xs ys : List ℕ) (x y : ℕ) → Precedes ys x y → Precedes (xs ++ ys) x y
+right_precedes xs ys x y p =
+    let i = joined_at xs ys p.0 x p.3 in
+    let j = joined_at xs ys p.1 y p.4 in
+    (i.0, j.0, (let e = i.2 in let f = j.2 in let l = p.2 in omega arith), i.1, j.1)
+
+pub across_precedes : (xs ys : List ℕ) (x y : ℕ) → Stands xs x → Stands ys y → Precedes (xs ++ ys) x y
+across_precedes xs ys x y s t =
+    let j = joined_at xs ys t.0 y t.1 in
+    (s.0, j.0, (let l = slice_get_within xs s.0 x s.1 in let e = j.2 in omega arith), joined_left xs ys s.0 x s.1, j.1)
+
+-- where nothing stands twice, nobody stands both before and after another
+pub never_both : (xs : List ℕ) → IsOnce xs → (x y : ℕ) → Precedes xs x y → Precedes xs y x → ⊥
+never_both xs once x y p q =
+    let e = once p.0 q.1 x p.3 q.4 in
+    let f = once p.1 q.0 y p.4 q.3 in
+    let l = p.2 in
+    let m = q.2 in
+    omega arith
 
 -- what holds of each number that stands in the list of what f reads
 pub all_standing : {X : Type 0} (f : X → ℕ) (P : ℕ → Type 0) (xs : List X) → ((p : ℕ) → Stands (map f xs) p → P p) → All (λ x. P (f x)) xs

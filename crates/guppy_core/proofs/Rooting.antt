@@ -8,10 +8,10 @@ use Rattle.std.proofs.lemmas.List.{get_or-set_same, get_or_default}
 use Rattle.std.proofs.lemmas.List.FromFn.{get_or-map-range_with_len}
 use Rattle.guppy_search.specs.declared.graph_core.link.Link.{Link}
 use Rattle.guppy_search.specs.declared.ix.direction.DependencyDirection.{DependencyDirection}
-use Rattle.guppy_search.specs.Reach.{LinkStep, Walk}
+use Rattle.guppy_search.specs.Reach.{LinkStep}
 use Rattle.guppy_search.specs.IxSet.{has, IsIn}
 use Rattle.guppy_core.specs.Listing.{Stands, Ascends, IsAbsence}
-use Rattle.guppy_core.specs.Sccs.{AreSccs, AreNumbered, InOneBlock}
+use Rattle.guppy_core.specs.Sccs.{AreNumbered, InOneBlock}
 use Rattle.guppy_core.specs.Roots.{EntersFrom, IsEntered, AreRoots, HasNumber}
 use Rattle.guppy_core.proofs.Inserted.{has-set_kept, has-set_cases}
 use Rattle.guppy_search.proofs.Members.{has-replicate, IsIn-below}
@@ -193,13 +193,6 @@ same_number blocks numbers m x y h k =
     let w = get_or numbers y 0 in
     let s = same_block blocks numbers m x y v w h k (get_or_default numbers x 0 v h) (get_or_default numbers y 0 w k) in
     (λ e. s.0 (eq-eqb v w (sym e)), λ i. sym (eqb-true v w (s.1 i)))
-
--- of components, those in one block lead to each other
-pub same_reach : (R : ℕ → ℕ → Type 0) (n : ℕ) (index : List ℕ) (blocks : List (List ℕ)) → AreSccs R n index blocks → (x y : ℕ) → x < n → y < n → InOneBlock blocks x y ↔ (Walk R x y × Walk R y x)
-same_reach R n index blocks s x y h k = (
-  λ b. let t = (s.classes b.0 b.1 x y b.2 b.3).0 b.4 in (t.1, t.2),
-  λ w. let b = s.covers x h in (b.0, b.1, b.2, b.3, (s.classes b.0 b.1 x y b.2 b.3).1 (k, w.0, w.1)),
-)
 
 -- of a result that has two facts
 pub both_ok : {X Y : Type 0} (r : Result X Y) (P Q S : X → Type 0) → ((x : X) → P x → Q x → S x) → IfOk r P → IfOk r Q → IfOk r S

@@ -9,13 +9,14 @@ use Rattle.guppy_search.specs.declared.graph_core.link.Link.{Link}
 use Rattle.guppy_search.specs.Links.{near_end}
 use Rattle.guppy_search.specs.IxSet.{IsIn}
 use Rattle.guppy_core.specs.Listing.{Stands}
-use Rattle.guppy_search.specs.Reach.{LinkStep, Walk, here, step, ReachedFrom, MutualReach}
+use Rattle.guppy_search.specs.Reach.{LinkStep, Walk, here, step, ReachedFrom, Mutual}
 use Rattle.guppy_core.specs.Roots.{IsRoot}
 use Rattle.guppy_core.specs.Sccs.{AreSccs}
 use Rattle.guppy_search.specs.Walked.{StepInside, IsLinkInside, HoldsComponents, AreWalked}
 use Rattle.guppy_search.proofs.Lists.{nothing_in, Contains-first, Contains-later, Contains-cons_cases}
 use Rattle.guppy_search.proofs.Walks.{walk_on, walk_from, walk_back, step_back, step_forth}
 use Rattle.guppy_search.proofs.Walking.{near_inside}
+use Rattle.guppy_core.proofs.Blocks.{sccs_cover, sccs_members, sccs_steps}
 
 contains_or_not : (xs : List ℕ) (n : ℕ) → Contains xs n ⊎ (¬ Contains xs n)
 contains_or_not [] n = inr (nothing_in n)
@@ -39,7 +40,7 @@ module _ {E : Type 0} (links : List (Link E)) (set : List Bool) (holds : HoldsCo
   turned x y s = (step_back (λ _. true) links x y s.0, s.2, s.1)
 
   -- so in both directions
-  walk_inside_in : (d : DependencyDirection) (x y : ℕ) → IsIn set x → IsIn set y → MutualReach Forward (λ _. true) links x y → Walk (StepInside (LinkStep d links) set) x y
+  walk_inside_in : (d : DependencyDirection) (x y : ℕ) → IsIn set x → IsIn set y → Mutual (LinkStep Forward links) x y → Walk (StepInside (LinkStep d links) set) x y
   walk_inside_in Forward x y hx hy both = walk_inside hx both.0 both.1
   walk_inside_in Reverse x y hx hy both = walk_back (StepInside (LinkStep Forward links) set) (StepInside (LinkStep Reverse links) set) turned (walk_inside hy both.1 both.0)
 
@@ -52,14 +53,14 @@ module _ {E : Type 0} (links : List (Link E)) (set : List Bool) (holds : HoldsCo
     -- a step into a block from another one comes from an earlier block
     ranked : (d : DependencyDirection) (x y : ℕ) → LinkStep d links x y → (a c : ℕ) (p q : List ℕ) → slice_get blocks a ≡ Some p → slice_get blocks c ≡ Some q → Stands p x → Stands q y → (a ≡ c → ⊥) → rank d a < rank d c
     unfolding rank
-    ranked Forward x y s a c p q at_a at_c near far differ = sccs.steps a c p q x y at_a at_c near far s differ
+    ranked Forward x y s a c p q at_a at_c near far differ = sccs_steps (LinkStep Forward links) n order blocks sccs a c p q x y at_a at_c near far s differ
     ranked Reverse x y s a c p q at_a at_c near far differ =
-        let later = sccs.steps c a q p y x at_c at_a far near (step_forth (λ _. true) links x y s) (λ e. differ (sym e)) in
+        let later = sccs_steps (LinkStep Forward links) n order blocks sccs c a q p y x at_c at_a far near (step_forth (λ _. true) links x y s) (λ e. differ (sym e)) in
         let below = slice_get_within blocks a p at_a in
         omega arith
 
     abbrev IsRootOf : DependencyDirection → ℕ → Type 0
-    IsRootOf d = IsRoot (LinkStep d links) (MutualReach Forward (λ _. true) links) set
+    IsRootOf d = IsRoot (LinkStep d links) (Mutual (LinkStep Forward links)) set
 
     -- it can't be that no root leads to a position of the set
     led_to : (d : DependencyDirection) (most : ℕ) (x c : ℕ) (b : List ℕ) → IsIn set x → slice_get blocks c ≡ Some b → Stands b x → rank d c < most
@@ -77,13 +78,13 @@ module _ {E : Type 0} (links : List (Link E)) (set : List Bool) (holds : HoldsCo
                 let across = entered.2.1 in
                 let v_inside = entered.2.2 in
                 let x_to_v = entered.2.3 in
-                let source = sccs.covers u (within u u_inside) in
-                let v_stands = (sccs.classes c b x v at stands).1 (within v v_inside, x_to_v.0, x_to_v.1) in
+                let source = sccs_cover (LinkStep Forward links) n order blocks sccs u (within u u_inside) in
+                let v_stands = (sccs_members (LinkStep Forward links) n order blocks sccs c b x v at stands).1 (within v v_inside, x_to_v) in
                 let differ : source.0 ≡ c → ⊥ = λ e.
                 let there = source.2 in
                 let blocks_are : source.1 ≡ b = cc in
-                let together = (sccs.classes c b x u at stands).0 (subst (λ z. Stands z u) blocks_are source.3) in
-                entered.2.4 (together.1, together.2) in
+                let together = (sccs_members (LinkStep Forward links) n order blocks sccs c b x u at stands).0 (subst (λ z. Stands z u) blocks_are source.3) in
+                entered.2.4 together.1 in
                 let less = ranked d u v across source.0 c source.1 b source.2 at source.3 v_stands differ in
                 let lower : rank d source.0 < most = omega arith in
                 led_to d most u source.0 source.1 u_inside source.2 source.3 lower (λ r.
@@ -101,7 +102,7 @@ module _ {E : Type 0} (links : List (Link E)) (set : List Bool) (holds : HoldsCo
         | inr absent ↦
             let x = near_end d i.0 in
             let h = near_inside set i.0 d i.2 in
-            let block = sccs.covers x (within x h) in
+            let block = sccs_cover (LinkStep Forward links) n order blocks sccs x (within x h) in
             absurd (led_to d (suc (rank d block.0)) x block.0 block.1 h block.2 block.3 (omega arith)
             (λ r. absent ((are.walked m).1 (record { link = i.0; found = i.1; inside = i.2; reached = r }))))
       ],

@@ -10,6 +10,10 @@ Stands order x = (i : ℕ) × (slice_get order i ≡ Some x)
 abbrev pub StandsBefore : List ℕ → ℕ → ℕ → Type 0
 StandsBefore order n x = (i : ℕ) × (i < n) × (slice_get order i ≡ Some x)
 
+-- x stands before y
+abbrev pub Precedes : List ℕ → ℕ → ℕ → Type 0
+Precedes xs x y = (i j : ℕ) × (i < j) × (slice_get xs i ≡ Some x) × (slice_get xs j ≡ Some y)
+
 -- nothing stands there twice
 abbrev pub IsOnce : List ℕ → Type 0
 IsOnce list = (i j x : ℕ) → slice_get list i ≡ Some x → slice_get list j ≡ Some x → i ≡ j

@@ -3,12 +3,12 @@ use Rattle.std.specs.Prelude.{◌≡◌, ◌↔◌, ℕ, ◌+◌, ◌-◌, ◌<�
 use Rattle.std.specs.List.{slice_range, concat}
 use Rattle.guppy_search.specs.declared.ix.direction.DependencyDirection.{DependencyDirection}
 use Rattle.guppy_search.specs.declared.ix.direction.DependencyDirection.TheVariants.{Forward, Reverse}
-use Rattle.guppy_search.specs.Reach.{Walk}
-use Rattle.guppy_core.specs.Listing.{Stands, StandsBefore}
+use Rattle.guppy_search.specs.Reach.{Mutual}
+use Rattle.guppy_core.specs.Listing.{Stands, StandsBefore, IsListing, Precedes}
 
 -- who stands first in the block stands first in the order
 abbrev pub KeepsOrder : List ℕ → List ℕ → Type 0
-KeepsOrder order block = (i j k l x y : ℕ) → slice_get block i ≡ Some x → slice_get block j ≡ Some y → i < j → slice_get order k ≡ Some x → slice_get order l ≡ Some y → k < l
+KeepsOrder order block = (x y : ℕ) → Precedes block x y → Precedes order x y
 
 -- the block with the number c: those before the place m of the order that have the number, in that order
 pub record IsGroup (order numbers : List ℕ) (m c : ℕ) (block : List ℕ) : Type 0 where
@@ -20,25 +20,24 @@ pub record AreGroups (order numbers : List ℕ) (count m : ℕ) (blocks : List (
   pub count_is : length blocks ≡ count
   pub group : (c : ℕ) (b : List ℕ) → slice_get blocks c ≡ Some b → IsGroup order numbers m c b
 
+-- both stand in one block
+abbrev pub InOneBlock : List (List ℕ) → ℕ → ℕ → Type 0
+InOneBlock blocks x y =
+    (c : ℕ) × (b : List ℕ) × (slice_get blocks c ≡ Some b) × Stands b x × Stands b y
+
 -- the blocks are the components of the positions below n, dependents first, each in the given order
 pub record AreSccs (R : ℕ → ℕ → Type 0) (n : ℕ) (order : List ℕ) (blocks : List (List ℕ)) : Type 0 where
-  -- who is in mutual reach with one of a block stands there, and no other
-  pub classes : (c : ℕ) (b : List ℕ) (x y : ℕ) → slice_get blocks c ≡ Some b → Stands b x → Stands b y ↔ ((y < n) × Walk R x y × Walk R y x)
-  pub below : (c : ℕ) (b : List ℕ) (x : ℕ) → slice_get blocks c ≡ Some b → Stands b x → x < n
-  -- each position stands in a block, and in one alone
-  pub covers : (x : ℕ) → x < n → (c : ℕ) × (b : List ℕ) × (slice_get blocks c ≡ Some b) × Stands b x
-  pub apart : (c d : ℕ) (a b : List ℕ) (x : ℕ) → slice_get blocks c ≡ Some a → slice_get blocks d ≡ Some b → Stands a x → Stands b x → c ≡ d
+  -- one behind another they have each position once
+  pub listing : IsListing n (concat blocks)
+  -- two positions stand in one block exactly where walks lead both ways
+  pub classes : (x y : ℕ) → x < n → y < n → InOneBlock blocks x y ↔ Mutual R x y
   -- no block is empty
   pub some : (c : ℕ) (b : List ℕ) → slice_get blocks c ≡ Some b → (x : ℕ) × Stands b x
   -- a step between different blocks leads to a later one
-  pub steps : (c d : ℕ) (a b : List ℕ) (x y : ℕ) → slice_get blocks c ≡ Some a → slice_get blocks d ≡ Some b → Stands a x → Stands b y → R x y → (c ≡ d → ⊥) → c < d
-  -- in a block each stands once, in the given order
-  pub once : (c : ℕ) (b : List ℕ) (i j x : ℕ) → slice_get blocks c ≡ Some b → slice_get b i ≡ Some x → slice_get b j ≡ Some x → i ≡ j
+  pub steps : (x y : ℕ) → x < n → y < n → R x y → ¬ InOneBlock blocks x y
+      → Precedes (concat blocks) x y
+  -- each block is in the given order
   pub keeps : (c : ℕ) (b : List ℕ) → slice_get blocks c ≡ Some b → KeepsOrder order b
-
--- both stand in one block
-abbrev pub InOneBlock : List (List ℕ) → ℕ → ℕ → Type 0
-InOneBlock blocks x y = (c : ℕ) × (b : List ℕ) × (slice_get blocks c ≡ Some b) × Stands b x × Stands b y
 
 -- x stands in a block with another
 abbrev pub InLargeBlock : List (List ℕ) → ℕ → Type 0

@@ -8,7 +8,7 @@ ghost use Rattle.guppy_core.specs.Listing.{Stands, IsOnce};
 ghost use Rattle.guppy_core.specs.Sccs.{listed, AreSccs, InOneBlock};
 ghost use Rattle.guppy_search.specs.declared.ix.direction.DependencyDirection.TheVariants.{Forward};
 ghost use Rattle.guppy_search.specs.Graph.{LinkIs};
-ghost use Rattle.guppy_search.specs.Reach.{IsPlainResolve, LinkStep, MutualReach};
+ghost use Rattle.guppy_search.specs.Reach.{IsPlainResolve, LinkStep, Mutual};
 ghost use Rattle.guppy_core.specs.Roots.{IsRoot, AreRoots};
 ghost use Rattle.guppy_search.specs.Walked.{AreWalked, HoldsComponents, IsLinkInside, numbers_of};
 ghost use Rattle.guppy_search.specs.Resolve.{JudgesResolve, AcceptsAll, Visits, IsCallableBelow};
@@ -307,7 +307,7 @@ impl<G: GraphSpec> ResolveCore<G> {
         requires sccs { length (concat sccs.now) ≡ length graph.now.nodes }
         ensures roots { IfOk result (λ roots. AreRoots (LinkStep direction graph.now.links) (InOneBlock sccs.now) self.now (map G.Ix.index_of roots.items)) }
         ensures reach { IfOk result (λ roots. (index : List ℕ) → AreSccs (LinkStep Forward graph.now.links) (length graph.now.nodes) index sccs.now →
-            AreRoots (LinkStep direction graph.now.links) (MutualReach Forward (λ _. true) graph.now.links) self.now (map G.Ix.index_of roots.items)) }
+            AreRoots (LinkStep direction graph.now.links) (Mutual (LinkStep Forward graph.now.links)) self.now (map G.Ix.index_of roots.items)) }
     {
         sccs.externals(graph, &self.included, direction)
     }
@@ -333,7 +333,7 @@ impl<G: GraphSpec> ResolveCore<G> {
             (IsRoot (LinkStep direction graph.now.links) (InOneBlock sccs.now) self.now) (numbers_of left)) }
         ensures reach { IfOk result (λ left. (index : List ℕ) → AreSccs (LinkStep Forward graph.now.links) (length graph.now.nodes) index sccs.now →
             AreWalked direction graph.now.links self.now
-            (IsRoot (LinkStep direction graph.now.links) (MutualReach Forward (λ _. true) graph.now.links) self.now) (numbers_of left)) }
+            (IsRoot (LinkStep direction graph.now.links) (Mutual (LinkStep Forward graph.now.links)) self.now) (numbers_of left)) }
         ensures all { IfOk result (λ left. (index : List ℕ) → AreSccs (LinkStep Forward graph.now.links) (length graph.now.nodes) index sccs.now →
             HoldsComponents graph.now.links self.now → (n : ℕ) → Contains (numbers_of left) n ↔ IsLinkInside graph.now.links self.now n) }
         ensures ends { IfOk result (All (λ l. LinkIs graph.now.links l.from l.to l.number)) }

@@ -1,4 +1,5 @@
-//! The components of a graph, and the order of its positions by them.
+//! The components of a graph, and the order of its positions by them, made by two passes (Kosaraju): a
+//! depth-first postorder over the links, then searches against the links, from what was finished last on.
 mod claim;
 mod components;
 mod externals;

@@ -1,4 +1,4 @@
-//! The topological index.
+//! The topological index, made by a depth-first postorder: what the search finishes last stands first.
 mod finish;
 mod index;
 mod lists;

@@ -12,6 +12,7 @@ use Rattle.guppy_core.specs.Reach.{LinkStep, Walk}
 use Rattle.guppy_core.specs.Reach.Walk.{here, step}
 use Rattle.guppy_core.specs.Sccs.{AreSccs, InOneBlock, InLargeBlock}
 use Rattle.guppy_search.proofs.Walks.{walk_on}
+use Rattle.guppy_core.proofs.Blocks.{sccs_below, sccs_cover, sccs_members, sccs_once}
 use Rattle.guppy_graph.specs.Cycles.{LeadsTo, HaveCycle, AreCyclic}
 use Rattle.guppy_graph.specs.Graph.{GraphData}
 use Rattle.guppy_graph.specs.Ids.{HasId, DistinctBelow}
@@ -42,8 +43,8 @@ module _ (R : ℕ → ℕ → Type 0) (n : ℕ) (index : List ℕ) (blocks : Lis
   -- different positions are on a cycle where they stand in one block
   pub cycle_of_two : (p q : ℕ) → p < n → q < n → (p ≡ q → ⊥) → InOneBlock blocks p q ↔ HaveCycle R p q
   cycle_of_two p q low_p low_q apart = (
-    λ s. let w = (are.classes s.0 s.1 p q s.2 s.3).0 s.4 in (leads_away apart w.1, leads_away (λ e. apart (sym e)) w.2),
-    λ h. let s = are.covers p low_p in (s.0, s.1, s.2, s.3, (are.classes s.0 s.1 p q s.2 s.3).1 (low_q, step h.0.1 h.0.2, step h.1.1 h.1.2)),
+    λ s. let w = (are.classes p q low_p low_q).0 s in (leads_away apart w.0, leads_away (λ e. apart (sym e)) w.1),
+    λ h. (are.classes p q low_p low_q).1 (step h.0.1 h.0.2, step h.1.1 h.1.2),
   )
 
   large_block : (p z c : ℕ) (b : List ℕ) → slice_get blocks c ≡ Some b → Stands b p → Stands b z → (z ≡ p → ⊥) → 1 < length b
@@ -55,17 +56,16 @@ module _ (R : ℕ → ℕ → Type 0) (n : ℕ) (index : List ℕ) (blocks : Lis
 
   large : (p : ℕ) → p < n → (z : ℕ) → (z ≡ p → ⊥) → z < n → Walk R p z → R z p → InLargeBlock blocks p
   large p low z apart low_z w r =
-      let s = are.covers p low in
-      let t = (are.classes s.0 s.1 p z s.2 s.3).1 (low_z, w, step here r) in
-      (s.0, s.1, s.2, s.3, large_block p z s.0 s.1 s.2 s.3 t apart)
+      let s = (are.classes p z low low_z).1 (w, step here r) in
+      (s.0, s.1, s.2, s.3, large_block p z s.0 s.1 s.2 s.3 s.4 apart)
 
   round : (p : ℕ) → InLargeBlock blocks p → LeadsTo R p p
   round p (c, b, at, s, long) =
       let j = another b s.0 long in
       let y : ℕ = get_or b j.0 0 in
       let there : slice_get b j.0 ≡ Some (get_or b j.0 0) = slice_get-get_or b j.0 0 j.1 in
-      let w = (are.classes c b p (get_or b j.0 0) at s).0 (j.0, there) in
-      leads_round (λ e. j.2 (are.once c b s.0 j.0 p at s.1 (there ∙ ap Some e))) w.1 w.2
+      let w = ((sccs_members R n index blocks are c b p (get_or b j.0 0) at s).0 (j.0, there)).1 in
+      leads_round (λ e. j.2 (sccs_once R n index blocks are c b s.0 j.0 p at s.1 (there ∙ ap Some e))) w.0 w.1
 
   -- a position is on a cycle with itself where its block is large, or a step leads from it to itself
   pub cycle_of_one : ((x y : ℕ) → R x y → x < n) → (p : ℕ) → p < n → (InLargeBlock blocks p ⊎ R p p) ↔ HaveCycle R p p
@@ -80,7 +80,7 @@ module _ (R : ℕ → ℕ → Type 0) (n : ℕ) (index : List ℕ) (blocks : Lis
   block_of_cycle below p q low_p low_q h = ⊎_elim
       (λ same. ⊎_elim
       (λ l. (l.0, l.1, l.2, l.3, subst (Stands l.1) same l.3, inl l.4))
-      (λ r. let s = are.covers p low_p in (s.0, s.1, s.2, s.3, subst (Stands s.1) same s.3, inr (p, s.3, r)))
+      (λ r. let s = sccs_cover R n index blocks are p low_p in (s.0, s.1, s.2, s.3, subst (Stands s.1) same s.3, inr (p, s.3, r)))
       ((cycle_of_one below p low_p).1 (subst (λ v. HaveCycle R p v) (sym same) h)))
       (λ apart. let o = (cycle_of_two p q low_p low_q apart).1 h in
       (o.0, o.1, o.2, o.3, o.4, inl (large_block q p o.0 o.1 o.2 o.4 o.3 apart)))
@@ -89,19 +89,19 @@ module _ (R : ℕ → ℕ → Type 0) (n : ℕ) (index : List ℕ) (blocks : Lis
   -- those of such a block are on a cycle
   pub cycle_of_block : ((x y : ℕ) → R x y → x < n) → (c : ℕ) (b : List ℕ) (p q : ℕ) → slice_get blocks c ≡ Some b → Stands b p → Stands b q → IsCyclicBlock R b → HaveCycle R p q
   cycle_of_block below c b p q at has_p has_q cyclic =
-      let low_p = are.below c b p at has_p in
+      let low_p = sccs_below R n index blocks are c b p at has_p in
       ⊎_elim
       (λ same. subst (λ v. HaveCycle R p v) same ((cycle_of_one below p low_p).0 (⊎_elim
       (λ long. inl (c, b, at, has_p, long))
       (λ l. ⊎_elim (λ e. inr (subst (λ v. R v v) e l.2)) (λ ne. inl (c, b, at, has_p, large_block p l.0 c b at has_p l.1 ne)) (cases_eq l.0 p))
       cyclic)))
-      (λ apart. (cycle_of_two p q low_p (are.below c b q at has_q) apart).0 (c, b, at, has_p, has_q))
+      (λ apart. (cycle_of_two p q low_p (sccs_below R n index blocks are c b q at has_q) apart).0 (c, b, at, has_p, has_q))
       (cases_eq p q)
 
   -- the members of the blocks are positions
   pub blocks_below : All (All (λ p. p < n)) blocks
   blocks_below c b within i p within_b =
-      are.below c (get_or blocks c b) (get_or (get_or blocks c b) i p) (slice_get-get_or blocks c b within) (i, slice_get-get_or (get_or blocks c b) i p within_b)
+      sccs_below R n index blocks are c (get_or blocks c b) (get_or (get_or blocks c b) i p) (slice_get-get_or blocks c b within) (i, slice_get-get_or (get_or blocks c b) i p within_b)
 
 -- the position that a link leaves is one of the graph
 pub near_below : {E : Type 0} (n : ℕ) (links : List (Link E)) → All (EndsBelow n) links → (x y : ℕ) → LinkStep Forward links x y → x < n

@@ -35,6 +35,6 @@ ReachedFrom R IsStart b = (a : ℕ) × IsStart a × Walk R a b
 abbrev pub IsPlainResolve : {E : Type 0} → DependencyDirection → List (Link E) → List Bool → List Bool → Type 0
 IsPlainResolve d links initials set = (p : ℕ) → IsIn set p ↔ ReachedFrom (LinkStep d links) (IsIn initials) p
 
--- each leads to the other
-abbrev pub MutualReach : {E : Type 0} → DependencyDirection → (E → Bool) → List (Link E) → ℕ → ℕ → Type 0
-MutualReach d keep links a b = Reach d keep links a b × Reach d keep links b a
+-- walks lead both ways
+abbrev pub Mutual : (ℕ → ℕ → Type 0) → ℕ → ℕ → Type 0
+Mutual R x y = Walk R x y × Walk R y x

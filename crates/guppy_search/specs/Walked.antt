@@ -1,12 +1,12 @@
 -- The links inside a set that a walk from starts goes over.
-use Rattle.std.specs.Prelude.{◌≡◌, ◌⊎◌, ◌↔◌, ℕ, Bool, true, List, Some, slice_get, slice_index, map, Contains}
+use Rattle.std.specs.Prelude.{◌≡◌, ◌⊎◌, ◌↔◌, ℕ, Bool, List, Some, slice_get, slice_index, map, Contains}
 use Rattle.guppy_search.specs.declared.ix.direction.DependencyDirection.{DependencyDirection}
 use Rattle.guppy_search.specs.declared.ix.direction.DependencyDirection.TheVariants.{Forward}
 use Rattle.guppy_search.specs.declared.graph_core.link.Link.{Link}
 use Rattle.guppy_search.specs.Links.{near_end, far_end}
 use Rattle.guppy_search.specs.Pairs.{to_at}
 use Rattle.guppy_search.specs.IxSet.{IsIn}
-use Rattle.guppy_search.specs.Reach.{LinkStep, ReachedFrom, MutualReach}
+use Rattle.guppy_search.specs.Reach.{LinkStep, ReachedFrom, Mutual}
 use Rattle.guppy_search.specs.Resolve.{EachAfter, LeavesOne}
 
 -- the link has both ends in the set
@@ -43,7 +43,7 @@ IsLinkInside {E} links set n = (l : Link E) × (slice_get links n ≡ Some l) ×
 
 -- the set holds each component that it touches
 abbrev pub HoldsComponents : {E : Type 0} → List (Link E) → List Bool → Type 0
-HoldsComponents links set = (x y : ℕ) → IsIn set x → MutualReach Forward (λ _. true) links x y → IsIn set y
+HoldsComponents links set = (x y : ℕ) → IsIn set x → Mutual (LinkStep Forward links) x y → IsIn set y
 
 -- a link's number and its ends
 pub record LinkEnds : Type 0 where

@@ -1,7 +1,7 @@
 ghost use Rattle.std.specs.Prelude.{◌≡◌, ◌↔◌, ℕ, ◌+◌, ◌*◌, ◌<◌, ◌≤◌, ◌^◌, Bool, true, List, length, map, IfOk};
 ghost use Rattle.std.specs.List.{concat};
 ghost use Rattle.guppy_search.specs.declared.ix.direction.DependencyDirection.TheVariants.{Forward};
-ghost use Rattle.guppy_search.specs.Reach.{LinkStep, Step, MutualReach};
+ghost use Rattle.guppy_search.specs.Reach.{LinkStep, Step, Mutual};
 ghost use Rattle.guppy_core.specs.Listing.{IsListing};
 ghost use Rattle.guppy_core.specs.Topo.{LeadsOn};
 ghost use Rattle.guppy_core.specs.Sccs.{AreSccs, InOneBlock, InLargeBlock, listed};
@@ -111,7 +111,7 @@ impl<Ix: IndexType> Sccs<Ix> {
         requires sccs { length (concat self.now) ≡ length graph.now.nodes }
         ensures roots { IfOk result (λ roots. AreRoots (LinkStep direction graph.now.links) (InOneBlock self.now) set.now (map Ix.index_of roots.items)) }
         ensures reach { IfOk result (λ roots. (index : List ℕ) → AreSccs (LinkStep Forward graph.now.links) (length graph.now.nodes) index self.now →
-            AreRoots (LinkStep direction graph.now.links) (MutualReach Forward (λ _. true) graph.now.links) set.now (map Ix.index_of roots.items)) }
+            AreRoots (LinkStep direction graph.now.links) (Mutual (LinkStep Forward graph.now.links)) set.now (map Ix.index_of roots.items)) }
     {
         let numbers = self.numbers.as_slice();
         let entered = entered(graph, set, numbers, self.bounds.len(), direction)?;

@@ -1,5 +1,4 @@
 ghost use Rattle.std.specs.Prelude.{◌≡◌, ℕ, ◌<◌, List, length, IfOk, All, map};
-ghost use Rattle.guppy_core.specs.Listing.{IsOnce};
 ghost use Rattle.guppy_core.specs.Sccs.{AreGroups};
 ghost use Rattle.guppy_core.specs.Held.{items_of};
 
@@ -12,7 +11,6 @@ pub(crate) fn group(
     numbers: &[usize],
     count: usize,
 ) -> Result<Vec<Vec<usize>>, AllocError>
-    requires once { IsOnce order.now }
     requires order { All (λ p. p < length numbers.now) order.now }
     requires numbers { All (λ c. c < count) numbers.now }
     ensures { IfOk result (λ blocks. AreGroups order.now numbers.now count (length order.now) (map items_of blocks.items)) }

@@ -1,11 +1,11 @@
-use Rattle.std.proofs.Common.{◌↔◌, ◌<◌, ℕ, List, Bool, true, length, map, subst, sym}
+use Rattle.std.proofs.Common.{◌↔◌, ◌<◌, ℕ, List, Bool, length, map, subst, sym}
 use Rattle.std.specs.Prelude.{All, Contains}
 use Rattle.guppy_search.proofs.Exits.{if_ok}
 use Rattle.guppy_search.specs.declared.ix.direction.DependencyDirection.TheVariants.{Forward}
 use Rattle.guppy_search.specs.declared.graph_core.link.Link.{Link}
 use Rattle.guppy_search.specs.IxSet.{IsIn}
 use Rattle.guppy_core.specs.Listing.{Stands}
-use Rattle.guppy_search.specs.Reach.{LinkStep, MutualReach}
+use Rattle.guppy_search.specs.Reach.{LinkStep, Mutual}
 use Rattle.guppy_core.specs.Sccs.{InOneBlock}
 use Rattle.guppy_search.specs.Walked.{AreWalked, numbers_of}
 use Rattle.guppy_core.proofs.Listings.{all_standing}
@@ -32,9 +32,9 @@ returns g c =
     let are : AreWalked c.args.direction links set (IsIn starts) listed = subst (λ s. AreWalked c.args.direction links s (IsIn starts) listed) c.self.view_is c.in_ok-edges.ensures.walked in
     record {
       walked = walked_from_roots c.args.direction links set (LinkStep c.args.direction links) (InOneBlock c.args.sccs.now) roots starts listed c.in_ok-roots.ensures.roots members are;
-      reach = λ index sccs. walked_from_roots c.args.direction links set (LinkStep c.args.direction links) (MutualReach Forward (λ _. true) links) roots starts listed (c.in_ok-roots.ensures.reach index sccs) members are;
+      reach = λ index sccs. walked_from_roots c.args.direction links set (LinkStep c.args.direction links) (Mutual (LinkStep Forward links)) roots starts listed (c.in_ok-roots.ensures.reach index sccs) members are;
       all = λ index sccs holds. walked_all links set holds (length c.args.graph.now.nodes) (λ p h. rw (← c.requires.nodes) (IsIn-below set p h)) index c.args.sccs.now sccs c.args.direction listed
-          (walked_from_roots c.args.direction links set (LinkStep c.args.direction links) (MutualReach Forward (λ _. true) links) roots starts listed (c.in_ok-roots.ensures.reach index sccs) members are);
+          (walked_from_roots c.args.direction links set (LinkStep c.args.direction links) (Mutual (LinkStep Forward links)) roots starts listed (c.in_ok-roots.ensures.reach index sccs) members are);
       ends = c.in_ok-edges.ensures.ends;
     }
 

@@ -36,7 +36,7 @@ loop-position-preserved c =
     let at = slice_get-get_or c.args.order.now c.loop-position.position-index 0 c.loop-position-test.true in
     let in_numbers = c.requires.order c.loop-position.position-index 0 c.loop-position-test.true in
     let below = c.requires.numbers (get_or c.args.order.now c.loop-position.position-index 0) 0 in_numbers in
-    groups_more c.args.order.now c.args.numbers.now c.loop-position.position-index (get_or c.args.order.now c.loop-position.position-index 0) (get_or c.args.numbers.now (get_or c.args.order.now c.loop-position.position-index 0) 0) c.requires.once at refl c.args.count c.loop-position.blocks.items c.index_mut-block.result.now c.push-in-loop-position.new.self c.loop-position.invariant below c.index_mut-block.ensures.value c.in_ok-push-2.ensures.items
+    groups_more c.args.order.now c.args.numbers.now c.loop-position.position-index (get_or c.args.order.now c.loop-position.position-index 0) (get_or c.args.numbers.now (get_or c.args.order.now c.loop-position.position-index 0) 0) at refl c.args.count c.loop-position.blocks.items c.index_mut-block.result.now c.push-in-loop-position.new.self c.loop-position.invariant below c.index_mut-block.ensures.value c.in_ok-push-2.ensures.items
 
 pub returns : goal.returns
 returns c =

@@ -1,14 +1,14 @@
-use Rattle.std.proofs.Common.{◌≡◌, ◌<◌, ℕ, true, length, get_or, map, arith}
+use Rattle.std.proofs.Common.{◌≡◌, ◌<◌, ℕ, length, get_or, map, arith}
 use Rattle.std.proofs.lemmas.List.{get_or_default}
 use Rattle.std.proofs.lemmas.Result.{IfOk-weaker}
 use Rattle.guppy_search.proofs.Exits.{if_ok}
 use Rattle.guppy_search.specs.declared.ix.direction.DependencyDirection.TheVariants.{Forward}
-use Rattle.guppy_search.specs.Reach.{LinkStep, MutualReach}
+use Rattle.guppy_search.specs.Reach.{LinkStep, Mutual}
 use Rattle.guppy_search.specs.IxSet.{IsIn}
 use Rattle.guppy_core.specs.Sccs.{parts, InOneBlock}
 use Rattle.guppy_core.proofs.Blocks.{next_bound}
 use Rattle.guppy_search.proofs.Members.{IsIn-below}
-use Rattle.guppy_core.proofs.Rooting.{both_ok, roots_by_numbers, roots_same, same_number, same_reach}
+use Rattle.guppy_core.proofs.Rooting.{both_ok, roots_by_numbers, roots_same, same_number}
 use Rattle.guppy_core.proofs.scc.components.Sccs.externals.Goals as goal
 
 pub entered-requires-clause-below : goal.entered-requires-clause-below
@@ -54,13 +54,12 @@ returns-clause-roots g c =
 pub returns-clause-reach : goal.returns-clause-reach
 returns-clause-reach g c =
     let links = c.args.graph.now.links in
-    let n = length c.args.graph.now.nodes in
     let members = c.args.set.now in
     let Step = LinkStep {E = g.row.G-Edge.Denot} c.args.direction links in
     let below : (x : ℕ) → IsIn c.args.set.now x → x < length c.args.graph.now.nodes = λ x i. let low = IsIn-below c.args.set.now x i in let nodes = c.requires.nodes in omega arith in
     IfOk-weaker c.unentered.result _ _ (λ list roots index sccs.
-    roots_same Step (InOneBlock c.args.self.now) (MutualReach {E = g.row.G-Edge.Denot} Forward (λ _. true) links) members (map g.Ix.IndexType.index_of list.items)
-    (λ x y i j. same_reach (LinkStep {E = g.row.G-Edge.Denot} Forward links) n index c.args.self.now sccs x y (below x i) (below y j))
+    roots_same Step (InOneBlock c.args.self.now) (Mutual (LinkStep {E = g.row.G-Edge.Denot} Forward links)) members (map g.Ix.IndexType.index_of list.items)
+    (λ x y i j. sccs.classes x y (below x i) (below y j))
     roots)
     (returns-clause-roots g c)
 

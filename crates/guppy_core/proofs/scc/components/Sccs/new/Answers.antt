@@ -41,7 +41,7 @@ invariant_of-result g c =
     let laid = rw c.as_slice-2.ensures.value at c.in_ok-positions.ensures in
     let numbers = c.in_ok-numbered.ensures.numbers in
     let sccs = sccs_from R (length graph.nodes) c.args.topo.now c.in_ok-numbered.numbered.numbers.items c.in_ok-numbered.numbered.count blocks t numbers groups in
-    let listing = rw (laid.joined, ← numbers.length_is) at (sccs_order R (length graph.nodes) c.args.topo.now blocks sccs).listing in
+    let listing = rw (laid.joined, ← numbers.length_is) at sccs.listing in
     rw laid.parts (laid.joined, laid.cut, numbered_from R (length graph.nodes) c.args.topo.now c.in_ok-numbered.numbered.numbers.items c.in_ok-numbered.numbered.count blocks t numbers groups, listing)
 
 pub returns-clause-sccs : goal.returns-clause-sccs
