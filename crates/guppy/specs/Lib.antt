@@ -30,3 +30,46 @@ pub use Rattle.guppy_graph.specs.Refused
 pub use Rattle.guppy_graph.specs.Sections
 pub use Rattle.guppy_graph.specs.Targets
 pub use Rattle.guppy_graph.specs.Verified
+pub use Rattle.guppy_core.specs.Graph as GraphByPosition
+pub use Rattle.guppy_core.specs.Links as LinksByPosition
+pub use Rattle.guppy_core.specs.Walked as WalkedByPosition
+pub use Rattle.guppy_core.specs.IxSet
+pub use Rattle.guppy_core.specs.Pairs
+pub use Rattle.guppy_core.specs.Fault
+pub use Rattle.guppy_core.specs.Stored
+pub use Rattle.guppy_core.specs.Reach
+pub use Rattle.guppy_core.specs.Resolve
+pub use Rattle.guppy_core.specs.Buffered
+pub use Rattle.guppy_core.specs.Counted
+pub use Rattle.guppy_core.specs.Listing
+pub use Rattle.guppy_core.specs.Finish
+pub use Rattle.guppy_core.specs.Cost
+pub use Rattle.guppy_core.specs.Topo
+pub use Rattle.guppy_core.specs.Mark
+pub use Rattle.guppy_core.specs.Claim
+pub use Rattle.guppy_core.specs.Components
+pub use Rattle.guppy_core.specs.Held
+pub use Rattle.guppy_core.specs.Sccs
+pub use Rattle.guppy_core.specs.Order
+pub use Rattle.guppy_core.specs.Roots
+pub use Rattle.guppy_data.specs.BuildTarget
+pub use Rattle.guppy_data.specs.BuildTargetId
+pub use Rattle.guppy_data.specs.BuildTargetKind
+pub use Rattle.guppy_data.specs.Component
+pub use Rattle.guppy_data.specs.DependencyReq
+pub use Rattle.guppy_data.specs.EnabledStatus
+pub use Rattle.guppy_data.specs.ExternalSource
+pub use Rattle.guppy_data.specs.PackagePublish
+pub use Rattle.guppy_data.specs.PackageSource
+pub use Rattle.guppy_data.specs.Path
+pub use Rattle.guppy_data.specs.Platform
+pub use Rattle.guppy_data.specs.SamePath
+pub use Rattle.guppy_data.specs.SameTargetId
+pub use Rattle.guppy_data.specs.Sorted
+pub use Rattle.guppy_data.specs.TargetName
+pub use Rattle.guppy_data.specs.Ternary
+pub use Rattle.guppy_data.specs.Texts
+pub use Rattle.guppy_data.specs.Utf8Path
+pub use Rattle.guppy_search.specs.declared as SearchTypes
+pub use Rattle.guppy_core.specs.declared as CoreTypes
+pub use Rattle.guppy_data.specs.declared as DataTypes
