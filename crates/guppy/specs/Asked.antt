@@ -15,16 +15,22 @@ asked_about answers = map (λ entry. entry.0) answers
 module _ {F A : Type 0} where
   -- a call of the callback with the graph's package at the position may give the answer
   abbrev pub AnswersAt : (F → PackageMetadata → A → F → Type 0) → GraphData → F → ℕ → A → F → Type 0
-  AnswersAt step graph f p answer g = (m : PackageMetadata) × step f m answer g × (package_in m ≡ (graph, p))
+  AnswersAt step graph f p answer g =
+      (m : PackageMetadata) × step f m answer g × (package_in m ≡ (graph, p))
 
   -- the callback's states over the answers: each step is one of its calls
-  abbrev pub Answers : (F → PackageMetadata → A → F → Type 0) → GraphData → F → List (ℕ × A) → F → Type 0
+  abbrev pub Answers : (F → PackageMetadata → A → F → Type 0) → GraphData → F → List (ℕ × A) → F
+      → Type 0
   Answers step graph = FoldsTo (λ state entry next. AnswersAt step graph state entry.0 entry.1 next)
 
-  -- the callback may be called with the graph's package at each of the positions in turn, after any answers that it may give to those before
-  pub record IsAskable (pre : F → PackageMetadata → Type 0) (step : F → PackageMetadata → A → F → Type 0) (graph : GraphData) (positions : List ℕ) (callback : F) : Type 0 where
+  -- the callback may be called with the graph's package at each of the positions in turn, after any
+  -- answers that it may give to those before
+  pub record IsAskable (pre : F → PackageMetadata → Type 0)
+      (step : F → PackageMetadata → A → F → Type 0) (graph : GraphData) (positions : List ℕ)
+      (callback : F) : Type 0 where
     pub at : (earlier : List (ℕ × A)) (now : F) (p : ℕ) (later : List ℕ) (m : PackageMetadata)
-        → asked_about earlier ++ p ∷ later ≡ positions → Answers step graph callback earlier now → package_in m ≡ (graph, p) → pre now m
+        → asked_about earlier ++ p ∷ later ≡ positions → Answers step graph callback earlier now
+        → package_in m ≡ (graph, p) → pre now m
 
 -- the set has exactly the positions that got the answer
 abbrev pub AreAnswered : {A : Type 0} → List (ℕ × A) → A → List Bool → Type 0

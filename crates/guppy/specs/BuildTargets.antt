@@ -10,7 +10,8 @@ use Rattle.guppy_data.specs.declared.views.build_target.BuildTarget.{BuildTarget
 
 -- the package has a library, and a procedural macro is made of it
 abbrev pub IsProcMacro : PackageRecord → Type 0
-IsProcMacro r = Any (λ t. (recorded_id t.id ≡ Library) × (recorded_kind t.kind ≡ ProcMacro)) r.build_targets.items
+IsProcMacro r = Any (λ t. (recorded_id t.id ≡ Library)
+    × (recorded_kind t.kind ≡ ProcMacro)) r.build_targets.items
 
 -- the package has a build script
 abbrev pub HasBuildScript : PackageRecord → Type 0
@@ -26,4 +27,5 @@ NoTargetWith targets id = All (λ t. recorded_id t.id ≢ id) targets
 
 -- the package's target with the ID, if there is one
 abbrev pub IsTargetOf : PackageRecord → TargetId → Option BuildTarget → Type 0
-IsTargetOf r id found = MatchOption found (NoTargetWith r.build_targets.items id) (λ t. IsTargetWith r.build_targets.items id (seen_target t))
+IsTargetOf r id found = MatchOption found (NoTargetWith r.build_targets.items id)
+    (λ t. IsTargetWith r.build_targets.items id (seen_target t))

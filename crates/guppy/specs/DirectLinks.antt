@@ -11,7 +11,8 @@ use Rattle.guppy_graph.specs.Graph.{GraphData}
 
 -- the links that leave the package in the direction, ascending by number
 abbrev pub links_leaving : PackageMetadata → DependencyDirection → List (Bor GraphData × ℕ)
-links_leaving m d = map (λ n. (graph_of m, n)) (links_at d (graph_of m).now.links (package_position m))
+links_leaving m d =
+    map (λ n. (graph_of m, n)) (links_at d (graph_of m).now.links (package_position m))
 
 -- the link leaves the one position in the direction, and leads to the other
 abbrev pub IsLinkFrom : GraphData → DependencyDirection → ℕ → ℕ → ℕ → Type 0
@@ -19,10 +20,14 @@ IsLinkFrom g d p q n = IsSomeAnd (slice_get g.links n) (λ l. (near_end d l ≡ 
 
 -- the link leaves the position in the direction, and leads to the package with the ID
 abbrev pub IsLinkTo : GraphData → DependencyDirection → ℕ → List ℕ → ℕ → Type 0
-IsLinkTo g d p id n = IsSomeAnd (slice_get g.links n) (λ l. (near_end d l ≡ p) × HasId g.packages id (far_end d l))
+IsLinkTo g d p id n =
+    IsSomeAnd (slice_get g.links n) (λ l. (near_end d l ≡ p) × HasId g.packages id (far_end d l))
 
--- the link that leaves the package in the direction and leads to the one with the ID, if there is one
-abbrev pub IsLinkBetween : PackageMetadata → DependencyDirection → List ℕ → Option PackageLink → Type 0
+-- the link that leaves the package in the direction and leads to the one with the ID, if there is
+-- one
+abbrev pub IsLinkBetween : PackageMetadata → DependencyDirection → List ℕ → Option PackageLink
+    → Type 0
 IsLinkBetween m d id found = MatchOption found
     ((n : ℕ) → ¬ IsLinkTo (graph_of m).now d (package_position m) id n)
-    (λ l. (link_graph l ≡ graph_of m) × IsLinkTo (graph_of m).now d (package_position m) id (link_number l))
+    (λ l. (link_graph l ≡ graph_of m)
+    × IsLinkTo (graph_of m).now d (package_position m) id (link_number l))

@@ -14,14 +14,16 @@ use Rattle.guppy.specs.Features.{numbered_feature, numbered_dep}
 abbrev pub names_left : NamedFeatures → List (List ℕ)
 names_left s = map string_bytes s.rest
 
-abbrev pub features_left : NamedFeaturesFull → List (FeatureIndexInPackage × List ℕ × List NamedFeatureDep)
+abbrev pub features_left : NamedFeaturesFull
+    → List (FeatureIndexInPackage × List ℕ × List NamedFeatureDep)
 features_left s = map numbered_feature (enumerate_from s.place s.rest)
 
 abbrev pub deps_left : OptionalDepsFull → List (FeatureIndexInPackage × List ℕ)
 deps_left s = map numbered_dep (enumerate_from s.place (iter_rest s.rest))
 
 -- a named feature is seen as its place, its name and what it switches on
-abbrev pub feature_seen : FeatureIndexInPackage × Bor (List ℕ) × Bor (List NamedFeatureDep) → FeatureIndexInPackage × List ℕ × List NamedFeatureDep
+abbrev pub feature_seen : FeatureIndexInPackage × Bor (List ℕ) × Bor (List NamedFeatureDep)
+    → FeatureIndexInPackage × List ℕ × List NamedFeatureDep
 feature_seen f = (f.0, f.1.now, f.2.now)
 
 -- an optional dependency is seen as its place and its name

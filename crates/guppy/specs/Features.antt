@@ -16,7 +16,8 @@ abbrev pub HasFeature : PackageRecord → List ℕ → Type 0
 HasFeature r name = Contains (map string_bytes (keys r.named_features)) name
 
 -- a named feature with its place, its name and what it switches on
-abbrev pub numbered_feature : ℕ × (String Global × Vec NamedFeatureDep Global) → FeatureIndexInPackage × List ℕ × List NamedFeatureDep
+abbrev pub numbered_feature : ℕ × (String Global × Vec NamedFeatureDep Global)
+    → FeatureIndexInPackage × List ℕ × List NamedFeatureDep
 numbered_feature f = (Named f.0, string_bytes f.1.0, f.1.1.items)
 
 -- an optional dependency with its place and its name

@@ -14,7 +14,8 @@ abbrev pub cycles_of : GraphData → List (List (List ℕ))
 cycles_of g = map (ids_at g.packages) (cyclic_components g)
 
 abbrev pub cycles_left : AllCycles → List (List (List ℕ))
-cycles_left s = map (ids_at s.graph.now.packages) (filter (is_cyclic_component s.graph.now.links) s.rest)
+cycles_left s =
+    map (ids_at s.graph.now.packages) (filter (is_cyclic_component s.graph.now.links) s.rest)
 
 abbrev pub cycle_left : CycleIds → List (List ℕ)
 cycle_left s = ids_at s.graph.now.packages (map ix_position (iter_rest s.rest))

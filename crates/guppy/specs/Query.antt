@@ -19,13 +19,15 @@ pub record QueryData : Type 0 where
   pub direction : DependencyDirection
 
 -- each ID is a package's, and the positions are those of these packages
-pub record AreNamed (packages : List PackageRecord) (ids : List (List ℕ)) (positions : List ℕ) : Type 0 where
+pub record AreNamed (packages : List PackageRecord) (ids : List (List ℕ))
+    (positions : List ℕ) : Type 0 where
   pub known : All (IsKnown packages) ids
   pub there : (p : ℕ) (id : List ℕ) → Contains ids id → HasId packages id p → Contains positions p
   pub named : (p : ℕ) → Contains positions p → (id : List ℕ) × Contains ids id × HasId packages id p
 
 -- each text names a package, and the set has exactly the packages that they name
-pub record IsSetNamed (Names : List ℕ → ℕ → Type 0) (packages : List PackageRecord) (texts : List (List ℕ)) (set : List Bool) : Type 0 where
+pub record IsSetNamed (Names : List ℕ → ℕ → Type 0) (packages : List PackageRecord)
+    (texts : List (List ℕ)) (set : List Bool) : Type 0 where
   pub count_is : length set ≡ length packages
   pub known : All (λ text. (p : ℕ) × Names text p) texts
   pub members : (p : ℕ) → IsIn set p ↔ ((text : List ℕ) × Contains texts text × Names text p)
@@ -39,7 +41,8 @@ abbrev pub IncludesId : SetData → List ℕ → Type 0
 IncludesId s id = (p : ℕ) × HasId s.graph.packages id p × IsIn s.included p
 
 -- the set has exactly the positions of packages at which P holds
-pub record IsSetWhere (packages : List PackageRecord) (P : ℕ → Type 0) (set : List Bool) : Type 0 where
+pub record IsSetWhere (packages : List PackageRecord) (P : ℕ → Type 0)
+    (set : List Bool) : Type 0 where
   pub count_is : length set ≡ length packages
   pub members : (p : ℕ) → IsIn set p ↔ P p
 

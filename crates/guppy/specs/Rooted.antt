@@ -13,17 +13,22 @@ use Rattle.guppy_graph.specs.Graph.{GraphData}
 use Rattle.guppy.specs.Query.{SetData}
 use Rattle.guppy.specs.Listed.{id_of}
 
--- the positions of the set's roots, ascending: those whose component no link inside the set enters, in the direction, from outside it; a component is a class of mutual reach over all links of the graph
+-- the positions of the set's roots, ascending: those whose component no link inside the set enters,
+-- in the direction, from outside it; a component is a class of mutual reach over all links of the
+-- graph
 abbrev pub AreRootsOf : DependencyDirection → SetData → List ℕ → Type 0
-AreRootsOf d s = AreRoots (LinkStep d s.graph.links) (Mutual (LinkStep Forward s.graph.links)) s.included
+AreRootsOf d s =
+    AreRoots (LinkStep d s.graph.links) (Mutual (LinkStep Forward s.graph.links)) s.included
 
 -- the packages are the set's roots
 abbrev pub AreRootPackages : DependencyDirection → SetData → List (GraphData × ℕ) → Type 0
-AreRootPackages d s packages = (roots : List ℕ) × AreRootsOf d s roots × (packages ≡ map (λ p. (s.graph, p)) roots)
+AreRootPackages d s packages =
+    (roots : List ℕ) × AreRootsOf d s roots × (packages ≡ map (λ p. (s.graph, p)) roots)
 
 -- the IDs are those of the set's roots
 abbrev pub AreRootIds : DependencyDirection → SetData → List (List ℕ) → Type 0
-AreRootIds d s ids = (packages : List (GraphData × ℕ)) × AreRootPackages d s packages × (ids ≡ filter_map id_of packages)
+AreRootIds d s ids = (packages : List (GraphData × ℕ)) × AreRootPackages d s packages
+    × (ids ≡ filter_map id_of packages)
 
 -- the roots that are still to come
 abbrev pub roots_left : RootPackages → List (GraphData × ℕ)

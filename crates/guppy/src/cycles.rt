@@ -43,10 +43,14 @@ impl<'g> Cycles<'g> {
     /// logarithm of the packages, and with the links that leave the first package. Takes memory only
     /// for that error's copy of the ID.
     pub fn is_cyclic(self, a: &PackageId, b: &PackageId) -> Result<bool, Error>
-        ensures known { OnOk result (IsKnown (cycles_packages self.entry) a.now × IsKnown (cycles_packages self.entry) b.now) }
-        ensures answer { IfOk result (λ cyclic. IsTrue cyclic ↔ AreCyclic (cycles_graph self.entry).now a.now b.now) }
-        ensures answered { IsKnown (cycles_packages self.entry) a.now → IsKnown (cycles_packages self.entry) b.now → IsOk result }
-        ensures unknown { IfErr result (NamesId (IsFirstUnknown (cycles_packages self.entry) (a.now ∷ b.now ∷ []))) }
+        ensures known { OnOk result (IsKnown (cycles_packages self.entry) a.now
+            × IsKnown (cycles_packages self.entry) b.now) }
+        ensures answer { IfOk result
+            (λ cyclic. IsTrue cyclic ↔ AreCyclic (cycles_graph self.entry).now a.now b.now) }
+        ensures answered { IsKnown (cycles_packages self.entry) a.now
+            → IsKnown (cycles_packages self.entry) b.now → IsOk result }
+        ensures unknown { IfErr result
+            (NamesId (IsFirstUnknown (cycles_packages self.entry) (a.now ∷ b.now ∷ []))) }
     {
         let (from, to) = self.graph.pair_of(a, b)?;
         Ok(self.graph.have_cycle(from, to))
@@ -62,8 +66,11 @@ impl<'g> Cycles<'g> {
     /// components, and of the links that leave those with one package.
     pub fn all_cycles(self) -> AllCycles<'g>
         ensures left { cycles_left result ≡ cycles_of (cycles_graph self.entry).now }
-        ensures common { (a b : List ℕ) → AreOnOne (cycles_left result) a b ↔ AreCyclic (cycles_graph self.entry).now a b }
-        ensures ordered { IsOrdered (length (cycles_packages self.entry)) (cycles_graph self.entry).now.links (cycles_graph self.entry).now.index (cycles_graph self.entry).now.components }
+        ensures common { (a b : List ℕ) → AreOnOne (cycles_left result) a b
+            ↔ AreCyclic (cycles_graph self.entry).now a b }
+        ensures ordered { IsOrdered (length (cycles_packages self.entry))
+            (cycles_graph self.entry).now.links (cycles_graph self.entry).now.index
+            (cycles_graph self.entry).now.components }
     {
         AllCycles {
             graph: self.graph,
@@ -98,9 +105,11 @@ fn first_cyclic<'g>(
     components: &mut AllSccs<'g, PackageIx>,
 ) -> Option<&'g [PackageIx]>
     requires { All (All (λ p. p < length graph.now.packages)) components.old }
-    ensures first { YieldsFirstBy (λ component. map ix_position component.now) (filter (is_cyclic_component graph.now.links)) components.old result components.new }
+    ensures first { YieldsFirstBy (λ component. map ix_position component.now)
+        (filter (is_cyclic_component graph.now.links)) components.old result components.new }
     ensures below { All (All (λ p. p < length graph.now.packages)) components.new }
-    ensures found { IfSome result (λ component. All (λ p. p < length graph.now.packages) (map ix_position component.now)) }
+    ensures found { IfSome result
+        (λ component. All (λ p. p < length graph.now.packages) (map ix_position component.now)) }
 {
     while let Some(component) = components.next() {
         if is_cyclic_component(graph, component) {
@@ -116,9 +125,11 @@ fn last_cyclic<'g>(
     components: &mut AllSccs<'g, PackageIx>,
 ) -> Option<&'g [PackageIx]>
     requires { All (All (λ p. p < length graph.now.packages)) components.old }
-    ensures last { YieldsLastBy (λ component. map ix_position component.now) (filter (is_cyclic_component graph.now.links)) components.old result components.new }
+    ensures last { YieldsLastBy (λ component. map ix_position component.now)
+        (filter (is_cyclic_component graph.now.links)) components.old result components.new }
     ensures below { All (All (λ p. p < length graph.now.packages)) components.new }
-    ensures found { IfSome result (λ component. All (λ p. p < length graph.now.packages) (map ix_position component.now)) }
+    ensures found { IfSome result
+        (λ component. All (λ p. p < length graph.now.packages) (map ix_position component.now)) }
 {
     while let Some(component) = components.next_back() {
         if is_cyclic_component(graph, component) {

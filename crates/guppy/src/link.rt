@@ -30,7 +30,8 @@ impl<'g> PackageLink<'g> {
 
     // The link between positions, with its record.
     fn link(self) -> &'g Link<LinkRecord>
-        ensures at { slice_get (link_graph self.entry).now.links (link_number self.entry) ≡ Some result.now }
+        ensures at { slice_get (link_graph self.entry).now.links (link_number self.entry)
+            ≡ Some result.now }
         ensures from { result.now.from < length (link_graph self.entry).now.packages }
         ensures to { result.now.to < length (link_graph self.entry).now.packages }
     {
@@ -63,7 +64,8 @@ impl<'g> PackageLink<'g> {
     pub fn endpoints(self) -> (PackageMetadata<'g>, PackageMetadata<'g>)
         ensures from_graph { graph_of result.0 ≡ link_graph self.entry }
         ensures to_graph { graph_of result.1 ≡ link_graph self.entry }
-        ensures positions { OfLink self.entry (λ l. (package_position result.0 ≡ l.from) × (package_position result.1 ≡ l.to)) }
+        ensures positions { OfLink self.entry
+            (λ l. (package_position result.0 ≡ l.from) × (package_position result.1 ≡ l.to)) }
     {
         (self.from(), self.to())
     }
@@ -98,7 +100,8 @@ impl<'g> PackageLink<'g> {
 
     /// The registry that is asked for.
     pub fn registry(self) -> Option<&'g str>
-        ensures { OfLink self.entry (λ l. option_copied result ≡ option_map string_bytes l.edge.registry) }
+        ensures { OfLink self.entry (λ l. option_copied result
+            ≡ option_map string_bytes l.edge.registry) }
     {
         text_of(&self.link().edge.registry)
     }

@@ -51,7 +51,8 @@ impl<'g> PackageMetadata<'g> {
 
     // The record of the package.
     fn record(self) -> &'g PackageRecord
-        ensures { slice_get (graph_packages self.entry) (package_position self.entry) ≡ Some result.now }
+        ensures { slice_get (graph_packages self.entry) (package_position self.entry)
+            ≡ Some result.now }
     {
         self.graph.package_at(self.position)
     }
@@ -86,14 +87,16 @@ impl<'g> PackageMetadata<'g> {
 
     /// The description.
     pub fn description(self) -> Option<&'g str>
-        ensures { OfPackage self.entry (λ r. option_copied result ≡ option_map string_bytes r.description) }
+        ensures { OfPackage self.entry
+            (λ r. option_copied result ≡ option_map string_bytes r.description) }
     {
         text_of(&self.record().description)
     }
 
     /// The license, as an SPDX expression.
     pub fn license(self) -> Option<&'g str>
-        ensures { OfPackage self.entry (λ r. option_copied result ≡ option_map string_bytes r.license) }
+        ensures { OfPackage self.entry
+            (λ r. option_copied result ≡ option_map string_bytes r.license) }
     {
         text_of(&self.record().license)
     }
@@ -149,21 +152,24 @@ impl<'g> PackageMetadata<'g> {
 
     /// The URL of the repository.
     pub fn repository(self) -> Option<&'g str>
-        ensures { OfPackage self.entry (λ r. option_copied result ≡ option_map string_bytes r.repository) }
+        ensures { OfPackage self.entry
+            (λ r. option_copied result ≡ option_map string_bytes r.repository) }
     {
         text_of(&self.record().repository)
     }
 
     /// The URL of the homepage.
     pub fn homepage(self) -> Option<&'g str>
-        ensures { OfPackage self.entry (λ r. option_copied result ≡ option_map string_bytes r.homepage) }
+        ensures { OfPackage self.entry
+            (λ r. option_copied result ≡ option_map string_bytes r.homepage) }
     {
         text_of(&self.record().homepage)
     }
 
     /// The URL of the documentation.
     pub fn documentation(self) -> Option<&'g str>
-        ensures { OfPackage self.entry (λ r. option_copied result ≡ option_map string_bytes r.documentation) }
+        ensures { OfPackage self.entry
+            (λ r. option_copied result ≡ option_map string_bytes r.documentation) }
     {
         text_of(&self.record().documentation)
     }
@@ -184,7 +190,8 @@ impl<'g> PackageMetadata<'g> {
 
     /// The native library that the package links to.
     pub fn links(self) -> Option<&'g str>
-        ensures { OfPackage self.entry (λ r. option_copied result ≡ option_map string_bytes r.links) }
+        ensures { OfPackage self.entry
+            (λ r. option_copied result ≡ option_map string_bytes r.links) }
     {
         text_of(&self.record().links)
     }
@@ -198,7 +205,8 @@ impl<'g> PackageMetadata<'g> {
 
     /// The binary that `cargo run` runs.
     pub fn default_run(self) -> Option<&'g str>
-        ensures { OfPackage self.entry (λ r. option_copied result ≡ option_map string_bytes r.default_run) }
+        ensures { OfPackage self.entry
+            (λ r. option_copied result ≡ option_map string_bytes r.default_run) }
     {
         text_of(&self.record().default_run)
     }

@@ -33,9 +33,14 @@ impl<'g> Model for PackageQuery<'g> {
 
     ghost Value = { QueryData };
 
-    ghost coded = { Prim.hlevel (codes, of_package.the_row.coded, of_link.the_row.coded, of_workspace.the_row.coded) };
+    ghost coded = { Prim.hlevel
+        (codes, of_package.the_row.coded, of_link.the_row.coded, of_workspace.the_row.coded) };
 
-    ghost view = { λ q. record { graph = q.initials.graph; initials = q.initials.included; direction = q.direction } };
+    ghost view = { λ q. record {
+      graph = q.initials.graph;
+      initials = q.initials.included;
+      direction = q.direction;
+    } };
 }
 
 impl<'g> PackageQuery<'g> {
@@ -98,7 +103,8 @@ impl<'g> Model for PackageLinkContext<'g> {
 
     ghost Value = { QueryData };
 
-    ghost coded = { Prim.hlevel (codes, of_package.the_row.coded, of_link.the_row.coded, of_workspace.the_row.coded) };
+    ghost coded = { Prim.hlevel
+        (codes, of_package.the_row.coded, of_link.the_row.coded, of_workspace.the_row.coded) };
 
     ghost view = { λ c. c.query };
 }

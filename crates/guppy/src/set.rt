@@ -41,7 +41,8 @@ impl<'g> Model for PackageSet<'g> {
 
     ghost Value = { SetData };
 
-    ghost coded = { Prim.hlevel (codes, of_package.the_row.coded, of_link.the_row.coded, of_workspace.the_row.coded) };
+    ghost coded = { Prim.hlevel
+        (codes, of_package.the_row.coded, of_link.the_row.coded, of_workspace.the_row.coded) };
 
     ghost view = { λ s. record { graph = s.graph.now; included = s.core } };
 
@@ -71,7 +72,8 @@ impl<'g> PackageSet<'g> {
         ensures known { OnOk result (IsKnown self.now.graph.packages id.now) }
         ensures answer { IfOk result (λ contains. IsTrue contains ↔ IncludesId self.now id.now) }
         ensures answered { IsKnown self.now.graph.packages id.now → IsOk result }
-        ensures unknown { IfErr result (NamesId (IsFirstUnknown self.now.graph.packages (id.now ∷ []))) }
+        ensures unknown { IfErr result
+            (NamesId (IsFirstUnknown self.now.graph.packages (id.now ∷ []))) }
     {
         let ix = self.graph.ix_of(id)?;
         Ok(self.core.contains(ix))

@@ -91,7 +91,8 @@ impl<'g> Workspace<'g> {
     /// Whether a member has the path, as paths are equal. Time grows with the logarithm of the
     /// members.
     pub fn contains_path(self, path: Utf8Path<'_>) -> bool
-        ensures { IsTrue result ↔ IsMemberPath (workspace_packages self.entry) (path_text path.entry) }
+        ensures { IsTrue result ↔ IsMemberPath (workspace_packages self.entry)
+            (path_text path.entry) }
     {
         self.graph.position_of_path(path).is_some()
     }

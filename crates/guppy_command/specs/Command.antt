@@ -4,7 +4,9 @@ use Rattle.std.specs.Str.{bytes_eq}
 use Rattle.guppy_search.specs.declared.ix.direction.DependencyDirection.{DependencyDirection}
 use Rattle.guppy_search.specs.declared.ix.direction.DependencyDirection.TheVariants.{Forward, Reverse}
 
--- the packages that these reach in a direction, whether the first depends on the second, the packages in their order, the roots of all packages or the links walked from them in a direction, the cycles, or whether the graph is a verified one
+-- the packages that these reach in a direction, whether the first depends on the second, the
+-- packages in their order, the roots of all packages or the links walked from them in a direction,
+-- the cycles, or whether the graph is a verified one
 pub data Command : Type 0 where
   reach : DependencyDirection → List (List ℕ) → Command
   depends : List ℕ → List ℕ → Command
@@ -16,11 +18,13 @@ pub data Command : Type 0 where
 
 -- `forward` or `reverse`
 abbrev pub direction_of : List ℕ → Option DependencyDirection
-direction_of word = if bytes_eq word (codes "forward") then Some Forward else (if bytes_eq word (codes "reverse") then Some Reverse else None)
+direction_of word = if bytes_eq word (codes "forward") then Some Forward else
+    (if bytes_eq word (codes "reverse") then Some Reverse else None)
 
 -- `forward ID..` or `reverse ID..`, with one ID or more
 abbrev pub reach_of : List (List ℕ) → Option Command
-reach_of (word ∷ id ∷ ids) = option_map (λ direction. reach direction (id ∷ ids)) (direction_of word)
+reach_of (word ∷ id ∷ ids) =
+    option_map (λ direction. reach direction (id ∷ ids)) (direction_of word)
 reach_of _ = None
 
 -- `A B`

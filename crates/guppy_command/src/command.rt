@@ -70,7 +70,8 @@ fn depends_of(words: &[String]) -> Option<Command<'_>>
 
 // The command, where no words are behind it.
 fn alone<'a>(command: Command<'a>, words: &[String]) -> Option<Command<'a>>
-    ensures { option_map command_shown result ≡ alone (command_shown command.entry) (map string_bytes words.now) }
+    ensures { option_map command_shown result
+        ≡ alone (command_shown command.entry) (map string_bytes words.now) }
 {
     if words.is_empty() {
         Some(command)

@@ -12,7 +12,8 @@ pub record IsRooted (R : ℕ → ℕ → Type 0) (order : List ℕ) (x : ℕ) : 
   pub from_root : Walk R root x
   pub last : (y : ℕ) → Walk R x y → StandsBefore order (place + 1) y
 
--- those that walks from the starts reach, each once: of a step from u to v, where v does not reach u, v stands first; and each has a root
+-- those that walks from the starts reach, each once: of a step from u to v, where v does not reach
+-- u, v stands first; and each has a root
 pub record IsFinishList (R : ℕ → ℕ → Type 0) (IsStart : ℕ → Type 0) (order : List ℕ) : Type 0 where
   pub once : (i j x : ℕ) → slice_get order i ≡ Some x → slice_get order j ≡ Some x → i ≡ j
   pub reached : (x : ℕ) → Stands order x ↔ ReachedFrom R IsStart x

@@ -3,7 +3,8 @@ use Rattle.std.specs.Prelude.{ℕ, ◌<◌, List}
 use Rattle.guppy_search.specs.Reach.{Walk, Mutual}
 use Rattle.guppy_core.specs.Listing.{IsListing, Precedes}
 
--- the order has the positions below n, component by component, dependents first, each component by the index
+-- the order has the positions below n, component by component, dependents first, each component by
+-- the index
 pub record IsOrder (R : ℕ → ℕ → Type 0) (n : ℕ) (index order : List ℕ) : Type 0 where
   -- each position stands there once
   pub listing : IsListing n order

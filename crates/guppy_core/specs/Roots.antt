@@ -3,11 +3,14 @@ use Rattle.std.specs.Prelude.{◌≡◌, ◌↔◌, ℕ, Bool, List, slice_index
 use Rattle.guppy_search.specs.IxSet.{IsIn}
 use Rattle.guppy_core.specs.Listing.{Stands, Ascends}
 
--- A step is a link that leads from one position to another in a direction; Same says who is in one component with x.
+-- A step is a link that leads from one position to another in a direction; Same says who is in one
+-- component with x.
 
--- a step from this position, which is outside x's component, leads to one of the component that is in the set
+-- a step from this position, which is outside x's component, leads to one of the component that is
+-- in the set
 abbrev pub EntersFrom : (ℕ → ℕ → Type 0) → (ℕ → ℕ → Type 0) → List Bool → ℕ → ℕ → Type 0
-EntersFrom Step Same set near x = (far : ℕ) × Step near far × IsIn set far × Same x far × (¬ Same x near)
+EntersFrom Step Same set near x =
+    (far : ℕ) × Step near far × IsIn set far × Same x far × (¬ Same x near)
 
 -- a step inside the set leads to x's component from outside it
 abbrev pub IsEntered : (ℕ → ℕ → Type 0) → (ℕ → ℕ → Type 0) → List Bool → ℕ → Type 0

@@ -10,7 +10,8 @@ use Rattle.guppy_core.specs.Listing.{Stands, StandsBefore, IsListing, Precedes}
 abbrev pub KeepsOrder : List ℕ → List ℕ → Type 0
 KeepsOrder order block = (x y : ℕ) → Precedes block x y → Precedes order x y
 
--- the block with the number c: those before the place m of the order that have the number, in that order
+-- the block with the number c: those before the place m of the order that have the number, in that
+-- order
 pub record IsGroup (order numbers : List ℕ) (m c : ℕ) (block : List ℕ) : Type 0 where
   pub members : (x : ℕ) → Stands block x ↔ (StandsBefore order m x × (slice_index numbers x ≡ c))
   pub keeps : KeepsOrder order block
@@ -26,7 +27,8 @@ InOneBlock blocks x y =
     (c : ℕ) × (b : List ℕ) × (slice_get blocks c ≡ Some b) × Stands b x × Stands b y
 
 -- the blocks are the components of the positions below n, dependents first, each in the given order
-pub record AreSccs (R : ℕ → ℕ → Type 0) (n : ℕ) (order : List ℕ) (blocks : List (List ℕ)) : Type 0 where
+pub record AreSccs (R : ℕ → ℕ → Type 0) (n : ℕ) (order : List ℕ)
+    (blocks : List (List ℕ)) : Type 0 where
   -- one behind another they have each position once
   pub listing : IsListing n (concat blocks)
   -- two positions stand in one block exactly where walks lead both ways
@@ -41,7 +43,8 @@ pub record AreSccs (R : ℕ → ℕ → Type 0) (n : ℕ) (order : List ℕ) (bl
 
 -- x stands in a block with another
 abbrev pub InLargeBlock : List (List ℕ) → ℕ → Type 0
-InLargeBlock blocks x = (c : ℕ) × (b : List ℕ) × (slice_get blocks c ≡ Some b) × Stands b x × (1 < length b)
+InLargeBlock blocks x =
+    (c : ℕ) × (b : List ℕ) × (slice_get blocks c ≡ Some b) × Stands b x × (1 < length b)
 
 -- the parts of a list from a on, between one bound and the next
 abbrev pub parts_from : {X : Type 0} → ℕ → List ℕ → List X → List (List X)
@@ -55,7 +58,8 @@ parts (a ∷ bounds) xs = parts_from a bounds xs
 
 -- no bound is below the one before it, and none but perhaps the first is above n
 abbrev pub AreBounds : List ℕ → ℕ → Type 0
-AreBounds bounds n = (c : ℕ) → c + 1 < length bounds → (slice_index bounds c ≤ slice_index bounds (c + 1)) × (slice_index bounds (c + 1) ≤ n)
+AreBounds bounds n = (c : ℕ) → c + 1 < length bounds
+    → (slice_index bounds c ≤ slice_index bounds (c + 1)) × (slice_index bounds (c + 1) ≤ n)
 
 -- the list is cut into parts that have all of it
 pub record IsCut {X : Type 0} (xs : List X) (bounds : List ℕ) : Type 0 where
@@ -66,8 +70,10 @@ pub record IsCut {X : Type 0} (xs : List X) (bounds : List ℕ) : Type 0 where
 -- each number below the length has its place in the blocks, where number says which block it is
 pub record AreNumbered (blocks : List (List ℕ)) (numbers : List ℕ) : Type 0 where
   pub count : length numbers ≡ length (concat blocks)
-  pub stands : (x : ℕ) → x < length numbers → (b : List ℕ) × (slice_get blocks (slice_index numbers x) ≡ Some b) × Stands b x
-  pub only : (c : ℕ) (b : List ℕ) (x : ℕ) → slice_get blocks c ≡ Some b → Stands b x → slice_index numbers x ≡ c
+  pub stands : (x : ℕ) → x < length numbers → (b : List ℕ)
+      × (slice_get blocks (slice_index numbers x) ≡ Some b) × Stands b x
+  pub only : (c : ℕ) (b : List ℕ) (x : ℕ) → slice_get blocks c ≡ Some b → Stands b x
+      → slice_index numbers x ≡ c
 
 -- the positions that are still to come, in the order in which they come, and the direction
 pub record NodesLeft : Type 0 where

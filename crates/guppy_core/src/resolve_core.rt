@@ -148,7 +148,9 @@ impl<G: GraphSpec> ResolveCore<G> {
         filter: T,
     ) -> Result<Self, AllocError>
         requires count { length initials.now ≡ length graph.now.nodes }
-        requires ready { IsAskable (T.can_discover graph.now) (T.can_filter graph.now) (Answers (T.discovers graph.now) (T.filters graph.now)) (length graph.now.nodes) (length graph.now.links) filter }
+        requires ready { IsAskable (T.can_discover graph.now) (T.can_filter graph.now)
+            (Answers (T.discovers graph.now) (T.filters graph.now)) (length graph.now.nodes)
+            (length graph.now.links) filter }
         ensures count { IfOk result (λ set. length set ≡ length graph.now.nodes) }
         ensures judged { IfOk result (λ set. (trace : List (Question × List ℕ)) × (last : T)
             × JudgesBuffered direction graph.now.links initials.now trace set
@@ -168,13 +170,18 @@ impl<G: GraphSpec> ResolveCore<G> {
         filter: &mut T,
     ) -> Result<Self, AllocError>
         requires count { length initials.now ≡ length graph.now.nodes }
-        requires ready { IsAskable (T.can_discover graph.now) (T.can_filter graph.now) (Answers (T.discovers graph.now) (T.filters graph.now)) (length graph.now.nodes) (length graph.now.links) filter.old }
+        requires ready { IsAskable (T.can_discover graph.now) (T.can_filter graph.now)
+            (Answers (T.discovers graph.now) (T.filters graph.now)) (length graph.now.nodes)
+            (length graph.now.links) filter.old }
         ensures count { IfOk result (λ set. length set ≡ length graph.now.nodes) }
         ensures judged { IfOk result (λ set. (trace : List (Question × List ℕ))
             × JudgesBuffered direction graph.now.links initials.now trace set
-            × Asks (Answers (T.discovers graph.now) (T.filters graph.now)) filter.old trace filter.new) }
+            × Asks (Answers (T.discovers graph.now)
+            (T.filters graph.now)) filter.old trace filter.new) }
         ensures refused { OnErr result ((filter.new ≡ filter.old)
-            ⊎ EndsInError (Answers (T.discovers graph.now) (T.filters graph.now)) direction graph.now.links initials.now filter.old filter.new) }
+            ⊎ EndsInError (Answers (T.discovers graph.now)
+            (T.filters graph.now)) direction graph.now.links initials.now filter.old
+            filter.new) }
         ensures same_place { T.place filter.new ≡ T.place filter.old }
     {
         let included = reachable_buffered_mut(graph, initials, direction, filter)?;
@@ -191,7 +198,8 @@ impl<G: GraphSpec> ResolveCore<G> {
     ) -> Result<Self, AllocError>
         requires can { I.can_next ixs }
         requires ends { IsFinite (I.remaining ixs) }
-        requires below { HoldsAlong I.next_gives ixs (All (λ x. G.Ix.index_of x < length graph.now.nodes)) }
+        requires below { HoldsAlong I.next_gives ixs
+            (All (λ x. G.Ix.index_of x < length graph.now.nodes)) }
         ensures count { IfOk result (λ set. length set ≡ length graph.now.nodes) }
         ensures members { IfOk result (λ set. (xs : List G.Ix) × Drains I.next_gives ixs xs
             × ((p : ℕ) → IsIn set p ↔ Contains (map G.Ix.index_of xs) p)) }
@@ -305,9 +313,13 @@ impl<G: GraphSpec> ResolveCore<G> {
     ) -> Result<Vec<G::Ix>, AllocError>
         requires nodes { length self.now ≡ length graph.now.nodes }
         requires sccs { length (concat sccs.now) ≡ length graph.now.nodes }
-        ensures roots { IfOk result (λ roots. AreRoots (LinkStep direction graph.now.links) (InOneBlock sccs.now) self.now (map G.Ix.index_of roots.items)) }
-        ensures reach { IfOk result (λ roots. (index : List ℕ) → AreSccs (LinkStep Forward graph.now.links) (length graph.now.nodes) index sccs.now →
-            AreRoots (LinkStep direction graph.now.links) (Mutual (LinkStep Forward graph.now.links)) self.now (map G.Ix.index_of roots.items)) }
+        ensures roots { IfOk result (λ roots. AreRoots (LinkStep direction graph.now.links)
+            (InOneBlock sccs.now) self.now (map G.Ix.index_of roots.items)) }
+        ensures reach { IfOk result (λ roots. (index : List ℕ)
+            → AreSccs (LinkStep Forward graph.now.links) (length graph.now.nodes) index sccs.now →
+            AreRoots (LinkStep direction graph.now.links)
+            (Mutual (LinkStep Forward graph.now.links)) self.now
+            (map G.Ix.index_of roots.items)) }
     {
         sccs.externals(graph, &self.included, direction)
     }
@@ -330,12 +342,17 @@ impl<G: GraphSpec> ResolveCore<G> {
         requires nodes { length self.now ≡ length graph.now.nodes }
         requires sccs { length (concat sccs.now) ≡ length graph.now.nodes }
         ensures walked { IfOk result (λ left. AreWalked direction graph.now.links self.now
-            (IsRoot (LinkStep direction graph.now.links) (InOneBlock sccs.now) self.now) (numbers_of left)) }
-        ensures reach { IfOk result (λ left. (index : List ℕ) → AreSccs (LinkStep Forward graph.now.links) (length graph.now.nodes) index sccs.now →
+            (IsRoot (LinkStep direction graph.now.links) (InOneBlock sccs.now) self.now)
+            (numbers_of left)) }
+        ensures reach { IfOk result (λ left. (index : List ℕ)
+            → AreSccs (LinkStep Forward graph.now.links) (length graph.now.nodes) index sccs.now →
             AreWalked direction graph.now.links self.now
-            (IsRoot (LinkStep direction graph.now.links) (Mutual (LinkStep Forward graph.now.links)) self.now) (numbers_of left)) }
-        ensures all { IfOk result (λ left. (index : List ℕ) → AreSccs (LinkStep Forward graph.now.links) (length graph.now.nodes) index sccs.now →
-            HoldsComponents graph.now.links self.now → (n : ℕ) → Contains (numbers_of left) n ↔ IsLinkInside graph.now.links self.now n) }
+            (IsRoot (LinkStep direction graph.now.links)
+            (Mutual (LinkStep Forward graph.now.links)) self.now) (numbers_of left)) }
+        ensures all { IfOk result (λ left. (index : List ℕ)
+            → AreSccs (LinkStep Forward graph.now.links) (length graph.now.nodes) index sccs.now →
+            HoldsComponents graph.now.links self.now → (n : ℕ) → Contains (numbers_of left) n
+            ↔ IsLinkInside graph.now.links self.now n) }
         ensures ends { IfOk result (All (λ l. LinkIs graph.now.links l.from l.to l.number)) }
     {
         let roots = self.roots(graph, sccs, direction)?;
@@ -356,7 +373,8 @@ impl<G: GraphSpec> ResolveCore<G> {
 fn set_of<G: GraphSpec>(graph: &Graph<G>, ixs: &[G::Ix]) -> Result<IxSet<G>, AllocError>
     requires { All (λ ix. G.Ix.index_of ix < length graph.now.nodes) ixs.now }
     ensures count { IfOk result (λ set. length set ≡ length graph.now.nodes) }
-    ensures members { IfOk result (λ set. (p : ℕ) → IsIn set p ↔ Contains (map G.Ix.index_of ixs.now) p) }
+    ensures members { IfOk result
+        (λ set. (p : ℕ) → IsIn set p ↔ Contains (map G.Ix.index_of ixs.now) p) }
 {
     let set = IxSet::from_ixs(graph.alloc(), ixs.iter().copied(), graph.node_count())?;
     Ok(set)

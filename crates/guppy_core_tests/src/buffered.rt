@@ -43,7 +43,8 @@ impl IndexType for StageIx {
         self.stage as usize
     }
 
-    ghost one_index = { λ a b same. ap (λ (n : ℕ). let p : StageIx = record { stage = n } in p) same };
+    ghost one_index = { λ a b same. ap
+        (λ (n : ℕ). let p : StageIx = record { stage = n } in p) same };
 }
 
 #[derive(Clone, Copy, PartialEq)]

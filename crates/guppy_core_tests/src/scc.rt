@@ -32,7 +32,8 @@ pub(crate) struct Ordered {
 /// The index by the links that aren't dev-only, the components, and the looks for both.
 pub(crate) fn make_ordered(graph: &Graph<DevLinks>) -> Result<Ordered, AllocError>
     ensures index { IfOk result (λ ordered. length ordered.topo ≡ length graph.now.nodes) }
-    ensures components { IfOk result (λ ordered. length (concat ordered.sccs) ≡ length graph.now.nodes) }
+    ensures components { IfOk result
+        (λ ordered. length (concat ordered.sccs) ≡ length graph.now.nodes) }
 {
     let mut counted = CountedGraph::new(graph);
     let _node_count = counted.node_count();

@@ -19,7 +19,8 @@ feature_names part = map string_bytes (keys part.feature_targets)
 
 -- the status of a feature in one part, never where the part hasn't the name
 abbrev pub status_of_feature : DepRequiredOrOptional → List ℕ → Status
-status_of_feature part name = option_map_or recorded_status (get_by_text part.feature_targets name) Never
+status_of_feature part name =
+    option_map_or recorded_status (get_by_text part.feature_targets name) Never
 
 -- the names that are still to come
 abbrev pub names_left : Features → List (List ℕ)

@@ -29,18 +29,22 @@ IsCutAt marker text before after = (text ≡ before ++ (marker ++ after)) × Lac
 -- the text before the last `#` names this repository and asks this of it
 abbrev pub IsRequest : List ℕ → List ℕ → Request → Type 0
 IsRequest text repository (Branch branch) = IsCutAt (codes "?branch=") text repository branch
-IsRequest text repository (Tag tag) = Lacks (codes "?branch=") text × IsCutAt (codes "?tag=") text repository tag
+IsRequest text repository (Tag tag) =
+    Lacks (codes "?branch=") text × IsCutAt (codes "?tag=") text repository tag
 IsRequest text repository (Rev rev) =
-    Lacks (codes "?branch=") text × Lacks (codes "?tag=") text × IsCutAt (codes "?rev=") text repository rev
+    Lacks (codes "?branch=") text × Lacks (codes "?tag=") text
+    × IsCutAt (codes "?rev=") text repository rev
 IsRequest text repository Default =
-    Lacks (codes "?branch=") text × Lacks (codes "?tag=") text × Lacks (codes "?rev=") text × (text ≡ repository)
+    Lacks (codes "?branch=") text × Lacks (codes "?tag=") text × Lacks (codes "?rev=") text
+    × (text ≡ repository)
 
 -- the text is that of the source
 abbrev pub IsSource : List ℕ → Source → Type 0
 IsSource text (Registry url) = text ≡ codes "registry+" ++ url
 IsSource text (Sparse url) = text ≡ codes "sparse+" ++ url
 IsSource text (Git repository request resolved) =
-    (front : List ℕ) × (text ≡ codes "git+" ++ (front ++ (codes "#" ++ resolved))) × Lacks (codes "#") resolved × IsRequest front repository request
+    (front : List ℕ) × (text ≡ codes "git+" ++ (front ++ (codes "#" ++ resolved)))
+    × Lacks (codes "#") resolved × IsRequest front repository request
 
 -- the parts that are seen
 abbrev pub seen_request : GitReq → Request

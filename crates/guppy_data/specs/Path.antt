@@ -19,7 +19,8 @@ is_slash b = b == byte "/"
 
 -- what stands between two slashes: an empty piece and `.` name nothing
 abbrev pub part_of : List ℕ → List Part
-part_of piece = if bytes_eq piece (codes "") || bytes_eq piece (codes ".") then [] else if bytes_eq piece (codes "..") then Parent ∷ [] else Name piece ∷ []
+part_of piece = if bytes_eq piece (codes "") || bytes_eq piece (codes ".") then []
+    else if bytes_eq piece (codes "..") then Parent ∷ [] else Name piece ∷ []
 
 -- the components of a text cut at its slashes
 abbrev pub parts : List ℕ → List Part
@@ -27,7 +28,8 @@ parts bs = flat_map part_of (slice_split is_slash bs)
 
 -- a slash at the front is the root, and else a first piece `.` the current directory
 abbrev pub lead : List ℕ → Option Part
-lead bs = if starts_with nat_eq bs (codes "/") then Some Root else if bytes_eq bs (codes ".") || starts_with nat_eq bs (codes "./") then Some Current else None
+lead bs = if starts_with nat_eq bs (codes "/") then Some Root else if bytes_eq bs
+    (codes ".") || starts_with nat_eq bs (codes "./") then Some Current else None
 
 abbrev pub components : List ℕ → List Part
 components bs = cons_option (lead bs) (parts bs)
@@ -49,7 +51,8 @@ name_of (Name bs) = bs
 abbrev pub part_cmp : Part → Part → Ordering
 part_cmp = then_cmp (on rank_of nat_cmp) (on name_of (slice_cmp nat_cmp))
 
--- by the lists of components: of two that differ the first difference decides, and a list that begins another is less
+-- by the lists of components: of two that differ the first difference decides, and a list that
+-- begins another is less
 abbrev pub path_cmp : List ℕ → List ℕ → Ordering
 path_cmp = on components (slice_cmp part_cmp)
 

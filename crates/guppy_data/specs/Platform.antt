@@ -37,7 +37,8 @@ module _ {P : Type 0} (answer : List ℕ → P → Option Bool) where
   status_value Always (OnPlatforms (platform ∷ platforms)) = Enabled
   status_value (Dependent texts) OnAny = Enabled
   status_value (Dependent texts) OnAlways = Disabled
-  status_value (Dependent texts) (OnPlatforms platforms) = greatest (map (texts_value texts) platforms)
+  status_value (Dependent texts) (OnPlatforms platforms) =
+      greatest (map (texts_value texts) platforms)
 
 -- the status of a list of texts
 abbrev pub status_of_texts : List (List ℕ) → Status

@@ -17,5 +17,6 @@ same_id (Benchmark x) (Benchmark y) h = ap Benchmark (exact_bytes x y h)
 same_id a b h = absurd (cc)
 
 -- IDs that are equal feed a hasher alike
-pub hashed_alike : (a b : TargetId) → eq_by_cmp target_id_cmp a b ≡ true → target_id_hash a ≡ target_id_hash b
+pub hashed_alike : (a b : TargetId) → eq_by_cmp target_id_cmp a b ≡ true
+    → target_id_hash a ≡ target_id_hash b
 hashed_alike a b h = ap target_id_hash (tells_apart same_id a b h)

@@ -7,4 +7,5 @@ use Rattle.guppy_data.specs.BuildTargetId.{id_name, recorded_id}
 
 -- the name in the ID, or else, of a library or build script, the library's name
 abbrev pub target_name : BuildTargetRecord → Option (List ℕ)
-target_name target = option_or (id_name (recorded_id target.id)) (option_map string_bytes target.lib_name)
+target_name target =
+    option_or (id_name (recorded_id target.id)) (option_map string_bytes target.lib_name)

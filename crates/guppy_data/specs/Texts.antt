@@ -22,28 +22,38 @@ use Rattle.guppy_data.specs.declared.texts.error.Error.TheVariants.{PackageGraph
 abbrev pub construct_fault_text : ConstructFault → List ℕ
 construct_fault_text TooManyPackages = codes "too many packages"
 construct_fault_text (RepeatedPackageId p) = codes "repeated package ID at package " ++ decimal p
-construct_fault_text (RepeatedBuildTarget p t) = codes "repeated build target " ++ (decimal t ++ (codes " in package " ++ decimal p))
-construct_fault_text (UnnamedBuildTarget p t) = codes "build target " ++ (decimal t ++ (codes " in package " ++ (decimal p ++ codes " has no name")))
-construct_fault_text (RepeatedWorkspacePath p) = codes "repeated workspace path at package " ++ decimal p
-construct_fault_text (RepeatedWorkspaceName p) = codes "repeated workspace name at package " ++ decimal p
+construct_fault_text (RepeatedBuildTarget p t) =
+    codes "repeated build target " ++ (decimal t ++ (codes " in package " ++ decimal p))
+construct_fault_text (UnnamedBuildTarget p t) = codes "build target "
+    ++ (decimal t ++ (codes " in package " ++ (decimal p ++ codes " has no name")))
+construct_fault_text (RepeatedWorkspacePath p) =
+    codes "repeated workspace path at package " ++ decimal p
+construct_fault_text (RepeatedWorkspaceName p) =
+    codes "repeated workspace name at package " ++ decimal p
 construct_fault_text (UnknownDefaultMember i) = codes "unknown default member " ++ decimal i
 construct_fault_text TooManyLinks = codes "too many links"
 construct_fault_text (UnknownLinkEnd l) = codes "unknown package at link " ++ decimal l
 construct_fault_text (RepeatedLink l) = codes "repeated link " ++ decimal l
 
 abbrev pub verify_fault_text : VerifyFault → List ℕ
-verify_fault_text (TargetKind p t) = codes "build target " ++ (decimal t ++ (codes " in package " ++ (decimal p ++ codes " does not match its kind")))
+verify_fault_text (TargetKind p t) = codes "build target "
+    ++ (decimal t ++ (codes " in package " ++ (decimal p ++ codes " does not match its kind")))
 verify_fault_text (Version l) = codes "version does not match requirement at link " ++ decimal l
 verify_fault_text (NoSection l) = codes "no section at link " ++ decimal l
 
 abbrev pub error_text : Error → List ℕ
-error_text (PackageGraphConstructError f) = codes "failed to construct package graph: " ++ construct_fault_text f
+error_text (PackageGraphConstructError f) =
+    codes "failed to construct package graph: " ++ construct_fault_text f
 error_text (UnknownPackageId id) = codes "unknown package ID: " ++ id
-error_text (UnknownFeatureId id feature) = codes "unknown feature ID: '" ++ (id ++ (codes "/" ++ (string_bytes feature ++ codes "'")))
+error_text (UnknownFeatureId id feature) =
+    codes "unknown feature ID: '" ++ (id ++ (codes "/" ++ (string_bytes feature ++ codes "'")))
 error_text (UnknownWorkspacePath path) = codes "unknown workspace path: " ++ path
-error_text (UnknownWorkspaceName name) = codes "unknown workspace package name: " ++ string_bytes name
-error_text (PackageGraphInternalError f) = codes "internal error in package graph: " ++ verify_fault_text f
-error_text (FeatureGraphInternalError text) = codes "internal error in feature graph: " ++ string_bytes text
+error_text (UnknownWorkspaceName name) =
+    codes "unknown workspace package name: " ++ string_bytes name
+error_text (PackageGraphInternalError f) =
+    codes "internal error in package graph: " ++ verify_fault_text f
+error_text (FeatureGraphInternalError text) =
+    codes "internal error in feature graph: " ++ string_bytes text
 error_text OutOfMemory = codes "out of memory"
 
 abbrev pub dependency_kind_text : DependencyKind → List ℕ
@@ -54,8 +64,10 @@ dependency_kind_text Build = codes "build"
 abbrev pub named_feature_text : NamedFeatureDep → List ℕ
 named_feature_text (NamedFeature f) = string_bytes f
 named_feature_text (OptionalDependency d) = codes "dep:" ++ string_bytes d
-named_feature_text (DependencyNamedFeature d f false) = string_bytes d ++ (codes "/" ++ string_bytes f)
-named_feature_text (DependencyNamedFeature d f true) = string_bytes d ++ (codes "?/" ++ string_bytes f)
+named_feature_text (DependencyNamedFeature d f false) =
+    string_bytes d ++ (codes "/" ++ string_bytes f)
+named_feature_text (DependencyNamedFeature d f true) =
+    string_bytes d ++ (codes "?/" ++ string_bytes f)
 
 -- the names in a row, with `, ` between each two
 abbrev pub joined_text : {A : Type 0} → List (String A) → List ℕ
@@ -65,9 +77,14 @@ abbrev pub set_text : {A : Type 0} → List (String A) → List ℕ
 set_text names = codes "{" ++ (joined_text names ++ codes "}")
 
 abbrev pub build_stage_text : FeatureBuildStage → List ℕ
-build_stage_text (AddNamedFeatureEdges id f) = codes "for package '" ++ (id ++ (codes "', while adding named feature edges from '" ++ (string_bytes f ++ codes "'")))
-build_stage_text (AddDependencyEdges id d) = codes "for package '" ++ (id ++ (codes "', while adding edges for dependency '" ++ (string_bytes d ++ codes "'")))
+build_stage_text (AddNamedFeatureEdges id f) = codes "for package '"
+    ++ (id ++ (codes "', while adding named feature edges from '" ++ (string_bytes f ++ codes "'")))
+build_stage_text (AddDependencyEdges id d) = codes "for package '"
+    ++ (id ++ (codes "', while adding edges for dependency '" ++ (string_bytes d ++ codes "'")))
 
 abbrev pub warning_text : FeatureGraphWarning → List ℕ
-warning_text (MissingFeature stage id f) = build_stage_text stage ++ (codes ": for package '" ++ (id ++ (codes "', missing feature '" ++ (string_bytes f ++ codes "'"))))
-warning_text (SelfLoop id f) = codes "for package '" ++ (id ++ (codes "', self-loop detected for named feature '" ++ (string_bytes f ++ codes "'")))
+warning_text (MissingFeature stage id f) = build_stage_text stage
+    ++ (codes ": for package '" ++
+    (id ++ (codes "', missing feature '" ++ (string_bytes f ++ codes "'"))))
+warning_text (SelfLoop id f) = codes "for package '"
+    ++ (id ++ (codes "', self-loop detected for named feature '" ++ (string_bytes f ++ codes "'")))

@@ -12,7 +12,8 @@ use Rattle.guppy_graph.specs.Targets.{AreTargetsDistinct, AreTargetsNamed, IsFir
 use Rattle.guppy_graph.specs.Links.{AreEndsKnown, DistinctPairsBelow, IsFirstUnknownEnd, IsFirstRepeatedLink}
 
 -- the packages and the workspace break no rule
-pub record ArePackagesAccepted (packages : List PackageRecord) (workspace : WorkspaceRecord) : Type 0 where
+pub record ArePackagesAccepted (packages : List PackageRecord)
+    (workspace : WorkspaceRecord) : Type 0 where
   pub few_packages : length packages ≤ 4294967295
   pub distinct_ids : DifferBelow (HasId packages) (length packages)
   pub distinct_targets : All AreTargetsDistinct packages
@@ -22,20 +23,23 @@ pub record ArePackagesAccepted (packages : List PackageRecord) (workspace : Work
   pub known_members : All (IsKnown packages) workspace.default_members.items
 
 -- the records break no rule
-pub record IsAccepted (packages : List PackageRecord) (links : List LinkRecord) (workspace : WorkspaceRecord) : Type 0 where
+pub record IsAccepted (packages : List PackageRecord) (links : List LinkRecord)
+    (workspace : WorkspaceRecord) : Type 0 where
   pub packages_accepted : ArePackagesAccepted packages workspace
   pub few_links : length links ≤ 4294967295
   pub known_ends : All (AreEndsKnown packages) links
   pub distinct_pairs : DistinctPairsBelow links (length links)
 
 -- the default member is the first that is no package
-pub record IsFirstUnknownMember (packages : List PackageRecord) (members : List (List ℕ)) (i : ℕ) : Type 0 where
+pub record IsFirstUnknownMember (packages : List PackageRecord) (members : List (List ℕ))
+    (i : ℕ) : Type 0 where
   pub id : List ℕ
   pub found : slice_get members i ≡ Some id
   pub unknown : IsKnown packages id → ⊥
   pub before : All (IsKnown packages) (take i members)
 
-module _ (packages : List PackageRecord) (links : List LinkRecord) (workspace : WorkspaceRecord) where
+module _ (packages : List PackageRecord) (links : List LinkRecord)
+    (workspace : WorkspaceRecord) where
   -- X holds, and each rule before it is kept
   abbrev pub AfterCount : Type 0 → Type 0
   AfterCount X = (length packages ≤ 4294967295) × X
@@ -72,7 +76,8 @@ module _ (packages : List PackageRecord) (links : List LinkRecord) (workspace : 
   IsFirstFault (UnnamedBuildTarget p t) = AfterTargets (IsFirstUnnamedTarget packages p t)
   IsFirstFault (RepeatedWorkspacePath p) = AfterNamedTargets (IsFirstRepeat (HasPath packages) p)
   IsFirstFault (RepeatedWorkspaceName p) = AfterPaths (IsFirstRepeat (HasName packages) p)
-  IsFirstFault (UnknownDefaultMember i) = AfterNames (IsFirstUnknownMember packages workspace.default_members.items i)
+  IsFirstFault (UnknownDefaultMember i) =
+      AfterNames (IsFirstUnknownMember packages workspace.default_members.items i)
   IsFirstFault TooManyLinks = AfterMembers (4294967295 < length links)
   IsFirstFault (UnknownLinkEnd l) = AfterLinkCount (IsFirstUnknownEnd packages links l)
   IsFirstFault (RepeatedLink l) = AfterEnds (IsFirstRepeatedLink links l)

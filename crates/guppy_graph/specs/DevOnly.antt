@@ -11,7 +11,8 @@ is_never (Dependent texts) = false
 
 -- neither the required nor the optional part of the section has a status other than never
 abbrev pub is_absent : DependencyReqImpl → Bool
-is_absent section = is_never (recorded_status section.required.build_if) && is_never (recorded_status section.optional.build_if)
+is_absent section = is_never (recorded_status section.required.build_if) && is_never
+    (recorded_status section.optional.build_if)
 
 -- neither the normal nor the build section has a status other than never, also where no section has
 abbrev pub is_dev_only : LinkRecord → Bool

@@ -11,7 +11,8 @@ use Rattle.guppy_graph.specs.Indexes.{AreIndexes}
 use Rattle.guppy_graph.specs.Links.{AreEndsNamed, AreLinksOf}
 use Rattle.guppy_graph.specs.Ordered.{IsOrdered}
 
--- the packages by position, the links by number with positions as their ends, the workspace, the positions by the index, and the components in their order
+-- the packages by position, the links by number with positions as their ends, the workspace, the
+-- positions by the index, and the components in their order
 pub record GraphData : Type 0 where
   pub packages : List PackageRecord
   pub links : List (Link LinkRecord)
@@ -19,15 +20,18 @@ pub record GraphData : Type 0 where
   pub index : List ℕ
   pub components : List (List ℕ)
 
--- the packages and the workspace break no rule, the links lie between the packages, and the order is one by the links
+-- the packages and the workspace break no rule, the links lie between the packages, and the order
+-- is one by the links
 pub record IsPackageGraph (g : GraphData) : Type 0 where
-  pub graph : IsGraph (let v : GraphValue PackageRecord LinkRecord = record { nodes = g.packages; links = g.links } in v)
+  pub graph : IsGraph (let v : GraphValue PackageRecord LinkRecord =
+      record { nodes = g.packages; links = g.links } in v)
   pub accepted : ArePackagesAccepted g.packages g.workspace
   pub ends : All (AreEndsNamed g.packages) g.links
   pub ordered : IsOrdered (length g.packages) g.links g.index g.components
 
 -- the graph holds exactly these records
-pub record Holds (g : GraphData) (packages : List PackageRecord) (links : List LinkRecord) (workspace : WorkspaceRecord) : Type 0 where
+pub record Holds (g : GraphData) (packages : List PackageRecord) (links : List LinkRecord)
+    (workspace : WorkspaceRecord) : Type 0 where
   pub packages_are : g.packages ≡ packages
   pub links_are : AreLinksOf packages links g.links
   pub workspace_is : g.workspace ≡ workspace

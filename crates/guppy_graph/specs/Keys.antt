@@ -22,7 +22,8 @@ module _ (order : List ℕ → List ℕ → Ordering) (key_at : ℕ → Option (
 
   -- the positions ascend by key, and then by position
   abbrev pub Ascends : List ℕ → Type 0
-  Ascends index = IsSortedBy (λ a b. is_lt (then_cmp (on (λ p. or_empty (key_at p)) order) nat_cmp a b)) index
+  Ascends index =
+      IsSortedBy (λ a b. is_lt (then_cmp (on (λ p. or_empty (key_at p)) order) nat_cmp a b)) index
 
   -- the position at the place has the key of the one before it in the index
   abbrev pub HasKeyBefore : List ℕ → ℕ → Type 0

@@ -15,7 +15,8 @@ abbrev pub AreEndsNamed : List PackageRecord → Link LinkRecord → Type 0
 AreEndsNamed packages l = HasId packages l.edge.from l.from × HasId packages l.edge.to l.to
 
 -- the links are those of the records, with ends in place of IDs
-pub record AreLinksOf (packages : List PackageRecord) (records : List LinkRecord) (links : List (Link LinkRecord)) : Type 0 where
+pub record AreLinksOf (packages : List PackageRecord) (records : List LinkRecord)
+    (links : List (Link LinkRecord)) : Type 0 where
   pub records_are : map (λ l. l.edge) links ≡ records
   pub ends : All (AreEndsNamed packages) links
 
@@ -24,7 +25,8 @@ abbrev pub AreEndsAt : List PackageRecord → LinkRecord × (ℕ × ℕ) → Typ
 AreEndsAt packages p = HasId packages p.0.from p.1.0 × HasId packages p.0.to p.1.1
 
 -- the pairs are the positions of the records' ends
-pub record AreEndsOf (packages : List PackageRecord) (records : List LinkRecord) (ends : List (ℕ × ℕ)) : Type 0 where
+pub record AreEndsOf (packages : List PackageRecord) (records : List LinkRecord)
+    (ends : List (ℕ × ℕ)) : Type 0 where
   pub count : length ends ≡ length records
   pub named : All (AreEndsAt packages) (zip records ends)
 
@@ -33,7 +35,8 @@ abbrev pub link_of : LinkRecord × (ℕ × ℕ) → Link LinkRecord
 link_of p = record { from = p.1.0; to = p.1.1; edge = p.0 }
 
 -- the link is the first with an end that is no package
-pub record IsFirstUnknownEnd (packages : List PackageRecord) (records : List LinkRecord) (link : ℕ) : Type 0 where
+pub record IsFirstUnknownEnd (packages : List PackageRecord) (records : List LinkRecord)
+    (link : ℕ) : Type 0 where
   pub record_ : LinkRecord
   pub found : slice_get records link ≡ Some record_
   pub unknown : AreEndsKnown packages record_ → ⊥
@@ -41,7 +44,9 @@ pub record IsFirstUnknownEnd (packages : List PackageRecord) (records : List Lin
 
 -- the links below the number k have different pairs of ends
 abbrev pub DistinctPairsBelow : List LinkRecord → ℕ → Type 0
-DistinctPairsBelow records k = (i j : ℕ) (a b : LinkRecord) → i < k → j < k → slice_get records i ≡ Some a → slice_get records j ≡ Some b → a.from ≡ b.from → a.to ≡ b.to → i ≡ j
+DistinctPairsBelow records k = (i j : ℕ) (a b : LinkRecord) → i < k → j < k
+    → slice_get records i ≡ Some a → slice_get records j ≡ Some b → a.from ≡ b.from → a.to ≡ b.to
+    → i ≡ j
 
 -- the link has the ends of an earlier one, and no link before it has
 pub record IsFirstRepeatedLink (records : List LinkRecord) (link : ℕ) : Type 0 where

@@ -58,4 +58,5 @@ pub record AreMembersByPath (packages : List PackageRecord) (members : List ℕ)
 -- exactly the members, each once, strictly ascending by name
 pub record AreMembersByName (packages : List PackageRecord) (members : List ℕ) : Type 0 where
   pub permutation : IsPermutation (members_of packages) members
-  pub ascend : IsStrictlySortedBy (slice_cmp nat_cmp) (map (λ p. or_empty (name_at packages p)) members)
+  pub ascend : IsStrictlySortedBy (slice_cmp nat_cmp)
+      (map (λ p. or_empty (name_at packages p)) members)

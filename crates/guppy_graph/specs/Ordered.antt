@@ -18,10 +18,13 @@ is_firm r = not (is_dev_only r)
 abbrev pub FirmStep : List (Link LinkRecord) → ℕ → ℕ → Type 0
 FirmStep links = Step Forward is_firm links
 
--- the index is one over the links that aren't dev-only, and the components, end to end, are an order of the n positions
-pub record IsOrdered (n : ℕ) (links : List (Link LinkRecord)) (index : List ℕ) (components : List (List ℕ)) : Type 0 where
+-- the index is one over the links that aren't dev-only, and the components, end to end, are an
+-- order of the n positions
+pub record IsOrdered (n : ℕ) (links : List (Link LinkRecord)) (index : List ℕ)
+    (components : List (List ℕ)) : Type 0 where
   pub index_is : IsTopo (FirmStep links) n index
   pub components_are : AreSccs (LinkStep Forward links) n index components
   pub order_is : IsOrder (LinkStep Forward links) n index (concat components)
-  -- where the links that aren't dev-only have no cycle but self-links, each between different packages leads on
+  -- where the links that aren't dev-only have no cycle but self-links, each between different
+  -- packages leads on
   pub leads_on : HasNoCycle (FirmStep links) → LeadsOn (FirmStep links) (concat components)

@@ -10,7 +10,9 @@ use Rattle.guppy_graph.specs.Links.{AreLinksOf}
 use Rattle.guppy_graph.specs.Accepted.{IsAccepted}
 
 -- the graph of accepted records, and its indexes
-pub record AreParts (packages : List PackageRecord) (links : List LinkRecord) (workspace : WorkspaceRecord) (g : GraphValue PackageRecord LinkRecord) (i : Indexes) : Type 0 where
+pub record AreParts (packages : List PackageRecord) (links : List LinkRecord)
+    (workspace : WorkspaceRecord) (g : GraphValue PackageRecord LinkRecord)
+    (i : Indexes) : Type 0 where
   pub nodes_are : g.nodes ≡ packages
   pub links_are : AreLinksOf packages links g.links
   pub graph : IsGraph g

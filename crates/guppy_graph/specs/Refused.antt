@@ -63,7 +63,8 @@ NamesName P (FeatureGraphInternalError text) = ⊥
 NamesName P OutOfMemory = Unit {0}
 
 -- the text is the first of the list that isn't known
-pub record IsFirstNot (Known : List ℕ → Type 0) (texts : List (List ℕ)) (text : List ℕ) : Type 0 where
+pub record IsFirstNot (Known : List ℕ → Type 0) (texts : List (List ℕ))
+    (text : List ℕ) : Type 0 where
   pub before : List (List ℕ)
   pub after : List (List ℕ)
   pub place : texts ≡ before ++ text ∷ after
@@ -71,7 +72,8 @@ pub record IsFirstNot (Known : List ℕ → Type 0) (texts : List (List ℕ)) (t
   pub unknown : Known text → ⊥
 
 -- the list ends in the text, the first of it that isn't known
-pub record EndsInFirstNot (Known : List ℕ → Type 0) (texts : List (List ℕ)) (text : List ℕ) : Type 0 where
+pub record EndsInFirstNot (Known : List ℕ → Type 0) (texts : List (List ℕ))
+    (text : List ℕ) : Type 0 where
   pub before : List (List ℕ)
   pub place : texts ≡ before ++ text ∷ []
   pub known : All Known before

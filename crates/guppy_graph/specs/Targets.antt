@@ -31,7 +31,8 @@ AreTargetsDistinct r = DifferBelow (HasTarget r.build_targets.items) (length r.b
 abbrev pub AreTargetsNamed : PackageRecord → Type 0
 AreTargetsNamed r = All IsNamed r.build_targets.items
 
--- the target is the first of its package that has the ID of an earlier one, and the packages before have no such target
+-- the target is the first of its package that has the ID of an earlier one, and the packages before
+-- have no such target
 pub record IsFirstRepeatedTarget (packages : List PackageRecord) (p t : ℕ) : Type 0 where
   pub record_ : PackageRecord
   pub found : slice_get packages p ≡ Some record_
@@ -45,7 +46,8 @@ pub record IsFirstUnnamed (targets : List BuildTargetRecord) (t : ℕ) : Type 0 
   pub unnamed : IsNamed target → ⊥
   pub before : All IsNamed (take t targets)
 
--- the target is the first of its package that lacks its name, and the packages before have no such target
+-- the target is the first of its package that lacks its name, and the packages before have no such
+-- target
 pub record IsFirstUnnamedTarget (packages : List PackageRecord) (p t : ℕ) : Type 0 where
   pub record_ : PackageRecord
   pub found : slice_get packages p ≡ Some record_

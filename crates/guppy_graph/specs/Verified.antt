@@ -25,13 +25,15 @@ use Rattle.guppy_graph.specs.Sections.{section_of}
 abbrev pub IsStar : VersionReq → Type 0
 IsStar req = req_of (codes "*") ≡ Ok (map comparator_view req.comparators.items)
 
--- the requirement is the one read from `*`, which accepts every version, pre-releases too, or it matches the version
+-- the requirement is the one read from `*`, which accepts every version, pre-releases too, or it
+-- matches the version
 abbrev pub Accepts : VersionReq → Version → Type 0
 Accepts req version = IsStar req ⊎ (matches_all req.comparators.items version ≡ true)
 
 -- the package that the link leads to has a version that the link accepts
 abbrev pub HasVersion : List PackageRecord → Link LinkRecord → Type 0
-HasVersion packages l = IsSomeAnd (slice_get packages l.to) (λ r. Accepts l.edge.version_req r.version)
+HasVersion packages l =
+    IsSomeAnd (slice_get packages l.to) (λ r. Accepts l.edge.version_req r.version)
 
 -- some section of the link has a status other than never
 abbrev pub HasSection : LinkRecord → Type 0
@@ -58,7 +60,8 @@ HasFittingKind target = FitsId (recorded_id target.id) (recorded_kind target.kin
 abbrev pub AreKindsFitting : PackageRecord → Type 0
 AreKindsFitting r = All HasFittingKind r.build_targets.items
 
--- each link's target has a version that the link accepts, each link has a section, and each build target is of a kind that its ID allows
+-- each link's target has a version that the link accepts, each link has a section, and each build
+-- target is of a kind that its ID allows
 pub record IsVerified (g : GraphData) : Type 0 where
   pub versions : All (HasVersion g.packages) g.links
   pub sections : All (λ l. HasSection l.edge) g.links
@@ -71,7 +74,8 @@ pub record IsFirstWithout {A : Type 0} (P : A → Type 0) (items : List A) (plac
   pub lacks : P item → ⊥
   pub before : All P (take place items)
 
--- in the order of the IDs, at the place stands the package's first target that is of a kind that its ID doesn't allow
+-- in the order of the IDs, at the place stands the package's first target that is of a kind that
+-- its ID doesn't allow
 pub record IsFirstMisfit (r : PackageRecord) (place : ℕ) : Type 0 where
   pub listed : List BuildTargetRecord
   pub by_id : AreTargetsById r.build_targets.items listed
@@ -103,7 +107,8 @@ module _ (g : GraphData) where
 
   -- the fault is of the first target of the package, by ID, that breaks a rule
   abbrev pub IsTargetFault : ℕ → VerifyFault → Type 0
-  IsTargetFault p fault = (place : ℕ) × (fault ≡ WrongKind p place) × IsSomeAnd (slice_get g.packages p) (λ r. IsFirstMisfit r place)
+  IsTargetFault p fault = (place : ℕ) × (fault ≡ WrongKind p place)
+      × IsSomeAnd (slice_get g.packages p) (λ r. IsFirstMisfit r place)
 
   -- the fault is of the first link that leaves the package, by number, that breaks a rule
   pub record IsLeavingLinkFault (p : ℕ) (fault : VerifyFault) : Type 0 where
@@ -111,9 +116,11 @@ module _ (g : GraphData) where
     pub first : IsFirstWithout IsLinkVerified (links_at Forward g.links p) place
     pub tells : IsLinkFault first.item fault
 
-  -- the fault is the first of the package: one of its targets, or, where they break no rule, of the links that leave it
+  -- the fault is the first of the package: one of its targets, or, where they break no rule, of the
+  -- links that leave it
   abbrev pub IsPackageFault : ℕ → VerifyFault → Type 0
-  IsPackageFault p fault = IsTargetFault p fault ⊎ (AreKindsFittingAt p × IsLeavingLinkFault p fault)
+  IsPackageFault p fault =
+      IsTargetFault p fault ⊎ (AreKindsFittingAt p × IsLeavingLinkFault p fault)
 
   -- the fault is the first of the first package that has one
   pub record IsFirstVerifyFault (fault : VerifyFault) : Type 0 where

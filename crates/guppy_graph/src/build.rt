@@ -55,7 +55,8 @@ fn first_with_repeated_target(
     indexes: &[Vec<usize>],
 ) -> Option<(usize, usize)>
     requires { AreTargetIndexes packages.now indexes.now }
-    ensures { MatchOption result (All AreTargetsDistinct packages.now) (λ p. IsFirstRepeatedTarget packages.now p.0 p.1) }
+    ensures { MatchOption result (All AreTargetsDistinct packages.now)
+        (λ p. IsFirstRepeatedTarget packages.now p.0 p.1) }
 {
     for (position, record) in packages.iter().enumerate() {
         let index = indexes[position].as_slice();
@@ -90,7 +91,8 @@ fn first_unnamed(targets: &[BuildTargetRecord]) -> Option<usize>
 
 // The first package and its first target that lacks its name.
 fn first_with_unnamed_target(packages: &[PackageRecord]) -> Option<(usize, usize)>
-    ensures { MatchOption result (All AreTargetsNamed packages.now) (λ p. IsFirstUnnamedTarget packages.now p.0 p.1) }
+    ensures { MatchOption result (All AreTargetsNamed packages.now)
+        (λ p. IsFirstUnnamedTarget packages.now p.0 p.1) }
 {
     for (position, record) in packages.iter().enumerate() {
         if let Some(target) = first_unnamed(record.build_targets.as_slice()) {
@@ -107,7 +109,8 @@ fn first_unknown_member(
     members: &[PackageId],
 ) -> Option<usize>
     requires { IsIdIndex packages.now by_id.now }
-    ensures { MatchOption result (All (IsKnown packages.now) members.now) (IsFirstUnknownMember packages.now members.now) }
+    ensures { MatchOption result (All (IsKnown packages.now) members.now)
+        (IsFirstUnknownMember packages.now members.now) }
 {
     for (index, id) in members.iter().enumerate() {
         if position_of_id(packages, by_id, id).is_none() {
@@ -136,7 +139,8 @@ fn indexes_by_target(alloc: Global, packages: &[PackageRecord]) -> Result<Vec<Ve
     ensures made { IfOk result (λ indexes. AreTargetIndexes packages.now indexes.items) }
     ensures accepted { OnOk result (All AreTargetsDistinct packages.now) }
     ensures refused { IfErr result (TellsFault (λ fault. (p t : ℕ)
-        × (fault ≡ ConstructFault.RepeatedBuildTarget p t) × IsFirstRepeatedTarget packages.now p t)) }
+        × (fault ≡ ConstructFault.RepeatedBuildTarget p t)
+        × IsFirstRepeatedTarget packages.now p t)) }
 {
     let by_target = target_indexes(alloc, packages)?;
     if let Some((package, target)) = first_with_repeated_target(packages, by_target.as_slice()) {
@@ -149,7 +153,8 @@ fn indexes_by_target(alloc: Global, packages: &[PackageRecord]) -> Result<Vec<Ve
 fn check_target_names(packages: &[PackageRecord]) -> Result<(), Error>
     ensures accepted { OnOk result (All AreTargetsNamed packages.now) }
     ensures refused { IfErr result (TellsFault (λ fault. (p t : ℕ)
-        × (fault ≡ ConstructFault.UnnamedBuildTarget p t) × IsFirstUnnamedTarget packages.now p t)) }
+        × (fault ≡ ConstructFault.UnnamedBuildTarget p t)
+        × IsFirstUnnamedTarget packages.now p t)) }
 {
     if let Some((package, target)) = first_with_unnamed_target(packages) {
         return Err(ConstructFault::UnnamedBuildTarget { package, target }.into());
@@ -167,7 +172,8 @@ fn index_by_path(
     ensures made { IfOk result (λ index. IsPathIndex packages.now index.items) }
     ensures accepted { OnOk result (DifferBelow (HasPath packages.now) (length packages.now)) }
     ensures refused { IfErr result (TellsFault (λ fault. (p : ℕ)
-        × (fault ≡ ConstructFault.RepeatedWorkspacePath p) × IsFirstRepeat (HasPath packages.now) p)) }
+        × (fault ≡ ConstructFault.RepeatedWorkspacePath p)
+        × IsFirstRepeat (HasPath packages.now) p)) }
 {
     let by_path = index_from(alloc, &Paths(packages), by_id)?;
     if let Some(package) = first_repeat(&Paths(packages), by_path.as_slice()) {
@@ -186,7 +192,8 @@ fn index_by_name(
     ensures made { IfOk result (λ index. IsNameIndex packages.now index.items) }
     ensures accepted { OnOk result (DifferBelow (HasName packages.now) (length packages.now)) }
     ensures refused { IfErr result (TellsFault (λ fault. (p : ℕ)
-        × (fault ≡ ConstructFault.RepeatedWorkspaceName p) × IsFirstRepeat (HasName packages.now) p)) }
+        × (fault ≡ ConstructFault.RepeatedWorkspaceName p)
+        × IsFirstRepeat (HasName packages.now) p)) }
 {
     let by_name = index_from(alloc, &Names(packages), by_id)?;
     if let Some(package) = first_repeated_name(packages, by_name.as_slice()) {
@@ -204,7 +211,8 @@ fn check_members(
     requires { IsIdIndex packages.now by_id.now }
     ensures accepted { OnOk result (All (IsKnown packages.now) members.now) }
     ensures refused { IfErr result (TellsFault (λ fault. (i : ℕ)
-        × (fault ≡ ConstructFault.UnknownDefaultMember i) × IsFirstUnknownMember packages.now members.now i)) }
+        × (fault ≡ ConstructFault.UnknownDefaultMember i)
+        × IsFirstUnknownMember packages.now members.now i)) }
 {
     if let Some(index) = first_unknown_member(packages, by_id, members) {
         return Err(ConstructFault::UnknownDefaultMember { index }.into());
@@ -220,7 +228,8 @@ pub(crate) fn indexes_of(
 ) -> Result<Indexes, Error>
     ensures made { IfOk result (AreIndexes packages.now) }
     ensures accepted { OnOk result (ArePackagesAccepted packages.now workspace.now) }
-    ensures refused { IfErr result (λ e. (links : List LinkRecord) → IsRefusal packages.now links workspace.now e) }
+    ensures refused { IfErr result
+        (λ e. (links : List LinkRecord) → IsRefusal packages.now links workspace.now e) }
 {
     if packages.len() > LIMIT {
         return Err(ConstructFault::TooManyPackages.into());
@@ -250,7 +259,8 @@ pub(crate) fn ends_of(
     requires { IsIdIndex packages.now by_id.now }
     ensures ok { IfOk result (λ ends. AreEndsOf packages.now records.now ends.items) }
     ensures err { IfErr result (TellsFault (λ fault. (link : ℕ)
-        × (fault ≡ ConstructFault.UnknownLinkEnd link) × IsFirstUnknownEnd packages.now records.now link)) }
+        × (fault ≡ ConstructFault.UnknownLinkEnd link)
+        × IsFirstUnknownEnd packages.now records.now link)) }
 {
     let mut ends = Vec::with_capacity(alloc, records.len())?;
     for (number, entry) in records.iter().enumerate() {

@@ -48,11 +48,26 @@ impl Model for RecordGraph {
 
     ghost Value = { GraphData };
 
-    ghost coded = { Prim.hlevel (codes, of_package.the_row.coded, of_link.the_row.coded, of_workspace.the_row.coded) };
+    ghost coded = { Prim.hlevel
+        (codes, of_package.the_row.coded, of_link.the_row.coded, of_workspace.the_row.coded) };
 
-    ghost view = { λ g. record { packages = g.graph.nodes; links = g.graph.links; workspace = g.workspace; index = g.order.topo; components = g.order.sccs } };
+    ghost view = { λ g. record {
+      packages = g.graph.nodes;
+      links = g.graph.links;
+      workspace = g.workspace;
+      index = g.order.topo;
+      components = g.order.sccs;
+    } };
 
-    ghost invariant = { λ g. IsStored (let d : GraphData = record { packages = g.graph.nodes; links = g.graph.links; workspace = g.workspace; index = g.order.topo; components = g.order.sccs } in d) g.indexes g.order.looks };
+    ghost invariant = { λ g. IsStored
+        (let d : GraphData = record {
+          packages = g.graph.nodes;
+          links = g.graph.links;
+          workspace = g.workspace;
+          index = g.order.topo;
+          components = g.order.sccs;
+        } in d) g.indexes
+        g.order.looks };
 }
 
 /// The error of a fault that checked parts can still have.
@@ -179,9 +194,11 @@ impl RecordGraph {
     /// `UnknownPackageId` tells the first of the two IDs that is no package's. Time grows with
     /// packages and links. Takes memory for a number and two bits a package.
     pub fn depends_on(&self, a: &PackageId, b: &PackageId) -> Result<bool, Error>
-        ensures known { OnOk result (IsKnown self.now.packages a.now × IsKnown self.now.packages b.now) }
+        ensures known { OnOk result (IsKnown self.now.packages a.now
+            × IsKnown self.now.packages b.now) }
         ensures answer { IfOk result (λ depends. IsTrue depends ↔ DependsOn self.now a.now b.now) }
-        ensures unknown { IfErr result (NamesId (IsFirstUnknown self.now.packages (a.now ∷ b.now ∷ []))) }
+        ensures unknown { IfErr result
+            (NamesId (IsFirstUnknown self.now.packages (a.now ∷ b.now ∷ []))) }
     {
         let (from, to) = self.pair_of(a, b)?;
         let initials = IxSet::from_ixs(self.alloc(), iter::once(from), self.package_count())?;
@@ -196,10 +213,14 @@ impl RecordGraph {
     /// logarithm of the packages, and with the links that leave the first package. Takes memory only
     /// for that error's copy of the ID.
     pub fn directly_depends_on(&self, a: &PackageId, b: &PackageId) -> Result<bool, Error>
-        ensures known { OnOk result (IsKnown self.now.packages a.now × IsKnown self.now.packages b.now) }
-        ensures answer { IfOk result (λ depends. IsTrue depends ↔ DirectlyDependsOn self.now a.now b.now) }
-        ensures answered { IsKnown self.now.packages a.now → IsKnown self.now.packages b.now → IsOk result }
-        ensures unknown { IfErr result (NamesId (IsFirstUnknown self.now.packages (a.now ∷ b.now ∷ []))) }
+        ensures known { OnOk result (IsKnown self.now.packages a.now
+            × IsKnown self.now.packages b.now) }
+        ensures answer { IfOk result
+            (λ depends. IsTrue depends ↔ DirectlyDependsOn self.now a.now b.now) }
+        ensures answered { IsKnown self.now.packages a.now → IsKnown self.now.packages b.now
+            → IsOk result }
+        ensures unknown { IfErr result
+            (NamesId (IsFirstUnknown self.now.packages (a.now ∷ b.now ∷ []))) }
     {
         let (from, to) = self.pair_of(a, b)?;
         Ok(self.graph.find_link(from, to).is_some())
@@ -218,7 +239,8 @@ impl RecordGraph {
     pub fn have_cycle(&self, from: PackageIx, to: PackageIx) -> bool
         requires first { ix_position from < length self.now.packages }
         requires second { ix_position to < length self.now.packages }
-        ensures { IsTrue result ↔ HaveCycle (LinkStep DependencyDirection.Forward self.now.links) (ix_position from) (ix_position to) }
+        ensures { IsTrue result ↔ HaveCycle (LinkStep DependencyDirection.Forward self.now.links)
+            (ix_position from) (ix_position to) }
     {
         if from != to {
             return self.order.sccs.is_same_scc(from, to);
@@ -237,7 +259,8 @@ impl RecordGraph {
     /// The places of the build targets of the package at the position, in the order of their IDs.
     pub fn targets_by_id(&self, position: usize) -> &[usize]
         requires { position < length self.now.packages }
-        ensures { IsSomeAnd (slice_get self.now.packages position) (λ r. IsTargetIndex r.build_targets.items result.now) }
+        ensures { IsSomeAnd (slice_get self.now.packages position)
+            (λ r. IsTargetIndex r.build_targets.items result.now) }
     {
         self.indexes.by_target[position].as_slice()
     }
@@ -245,7 +268,8 @@ impl RecordGraph {
     /// The build targets of the package at the position: each has its name, and no two have one ID.
     pub fn targets_of(&self, position: usize) -> &[BuildTargetRecord]
         requires { position < length self.now.packages }
-        ensures targets { IsSomeAnd (slice_get self.now.packages position) (λ r. result.now ≡ r.build_targets.items) }
+        ensures targets { IsSomeAnd (slice_get self.now.packages position)
+            (λ r. result.now ≡ r.build_targets.items) }
         ensures named { All IsNamed result.now }
         ensures distinct { DifferBelow (HasTarget result.now) (length result.now) }
     {
@@ -285,7 +309,8 @@ impl RecordGraph {
     /// The position of the package with the ID, if there is one. Time grows with the logarithm of the
     /// packages. Takes no memory.
     pub fn find_ix(&self, id: &PackageId) -> Option<PackageIx>
-        ensures found { MatchOption result (IsKnown self.now.packages id.now → ⊥) (λ ix. HasId self.now.packages id.now (ix_position ix)) }
+        ensures found { MatchOption result (IsKnown self.now.packages id.now → ⊥)
+            (λ ix. HasId self.now.packages id.now (ix_position ix)) }
         ensures graph { IsPackageGraph self.now }
     {
         match position_of_id(self.graph.nodes(), self.indexes.by_id.as_slice(), id) {
@@ -311,8 +336,10 @@ impl RecordGraph {
     pub fn pair_of(&self, a: &PackageId, b: &PackageId) -> Result<(PackageIx, PackageIx), Error>
         ensures first { IfOk result (λ pair. HasId self.now.packages a.now (ix_position pair.0)) }
         ensures second { IfOk result (λ pair. HasId self.now.packages b.now (ix_position pair.1)) }
-        ensures known { IsKnown self.now.packages a.now → IsKnown self.now.packages b.now → IsOk result }
-        ensures unknown { IfErr result (NamesId (IsFirstUnknown self.now.packages (a.now ∷ b.now ∷ []))) }
+        ensures known { IsKnown self.now.packages a.now → IsKnown self.now.packages b.now
+            → IsOk result }
+        ensures unknown { IfErr result
+            (NamesId (IsFirstUnknown self.now.packages (a.now ∷ b.now ∷ []))) }
         ensures graph { IsPackageGraph self.now }
     {
         let from = self.ix_of(a)?;
@@ -323,7 +350,8 @@ impl RecordGraph {
     /// The position of the package with the ID. Time grows with the logarithm of the packages. Takes
     /// no memory.
     pub fn position_of_id(&self, id: &PackageId) -> Option<usize>
-        ensures { MatchOption result (¬ IsKnown self.now.packages id.now) (HasId self.now.packages id.now) }
+        ensures { MatchOption result (¬ IsKnown self.now.packages id.now)
+            (HasId self.now.packages id.now) }
     {
         position_of_id(self.graph.nodes(), self.indexes.by_id.as_slice(), id)
     }
@@ -353,7 +381,8 @@ impl RecordGraph {
     /// The position of the workspace member with the path. Time grows with the logarithm of the
     /// members. Takes no memory.
     pub fn position_of_path(&self, path: Utf8Path<'_>) -> Option<usize>
-        ensures { MatchOption result (¬ IsMemberPath self.now.packages (path_text path.entry)) (HasPath self.now.packages (path_text path.entry)) }
+        ensures { MatchOption result (¬ IsMemberPath self.now.packages (path_text path.entry))
+            (HasPath self.now.packages (path_text path.entry)) }
     {
         position_of_path(self.graph.nodes(), self.indexes.by_path.as_slice(), path)
     }
@@ -361,7 +390,8 @@ impl RecordGraph {
     /// The position of the workspace member with the name. Time grows with the logarithm of the
     /// members. Takes no memory.
     pub fn position_of_name(&self, name: &str) -> Option<usize>
-        ensures { MatchOption result (¬ IsMemberName self.now.packages name.now) (HasName self.now.packages name.now) }
+        ensures { MatchOption result (¬ IsMemberName self.now.packages name.now)
+            (HasName self.now.packages name.now) }
     {
         position_of_name(self.graph.nodes(), self.indexes.by_name.as_slice(), name)
     }

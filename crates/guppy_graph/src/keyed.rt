@@ -42,7 +42,8 @@ pub(crate) trait KeyedByText: Keyed {
 
 // The positions that have keys, ascending.
 fn keyed_positions<S: Keyed>(alloc: Global, source: &S) -> Result<Vec<usize>, AllocError>
-    ensures { IfOk result (λ positions. positions.items ≡ keyed (S.key_at source.now) (S.count source.now)) }
+    ensures { IfOk result (λ positions. positions.items
+        ≡ keyed (S.key_at source.now) (S.count source.now)) }
 {
     (0..source.position_count())
         .filter(
@@ -59,7 +60,8 @@ fn keyed_of<S: Keyed>(
     source: &S,
     positions: &[usize],
 ) -> Result<Vec<usize>, AllocError>
-    ensures { IfOk result (λ kept. kept.items ≡ filter (λ p. is_some (S.key_at source.now p)) positions.now) }
+    ensures { IfOk result (λ kept. kept.items
+        ≡ filter (λ p. is_some (S.key_at source.now p)) positions.now) }
 {
     positions
         .iter()
@@ -79,7 +81,8 @@ fn sorted<S: Keyed>(source: &S, mut positions: Vec<usize>) -> Vec<usize>
 {
     positions.sort_unstable_by(
         |a: &usize, b: &usize| -> Ordering
-            ensures { result ≡ then_cmp (on (λ p. or_empty (S.key_at source.entry.now p)) S.order) nat_cmp a.now b.now }
+            ensures { result ≡ then_cmp (on
+                (λ p. or_empty (S.key_at source.entry.now p)) S.order) nat_cmp a.now b.now }
         { source.compare(*a, *b).then(a.cmp(b)) },
     );
     positions
@@ -87,7 +90,8 @@ fn sorted<S: Keyed>(source: &S, mut positions: Vec<usize>) -> Vec<usize>
 
 /// The positions that have keys, in the order of the keys.
 pub(crate) fn index_of<S: Keyed>(alloc: Global, source: &S) -> Result<Vec<usize>, AllocError>
-    ensures { IfOk result (λ index. IsIndex S.order (S.key_at source.now) (S.count source.now) index.items) }
+    ensures { IfOk result (λ index. IsIndex S.order (S.key_at source.now)
+        (S.count source.now) index.items) }
 {
     Ok(sorted(source, keyed_positions(alloc, source)?))
 }
@@ -100,7 +104,8 @@ pub(crate) fn index_from<S: Keyed>(
     positions: &[usize],
 ) -> Result<Vec<usize>, AllocError>
     requires { IsPermutation (range_with_len 0 (S.count source.now)) positions.now }
-    ensures { IfOk result (λ index. IsIndex S.order (S.key_at source.now) (S.count source.now) index.items) }
+    ensures { IfOk result (λ index. IsIndex S.order (S.key_at source.now)
+        (S.count source.now) index.items) }
 {
     Ok(sorted(source, keyed_of(alloc, source, positions)?))
 }
@@ -114,7 +119,8 @@ pub(crate) fn position_of<S: KeyedByText>(source: &S, index: &[usize], text: &st
 {
     let place = index.partition_point(
         |p: &usize| -> bool
-            ensures { result ≡ is_lt (S.order (or_empty (S.key_at source.entry.now p.now)) text.entry.now) }
+            ensures { result ≡ is_lt (S.order
+                (or_empty (S.key_at source.entry.now p.now)) text.entry.now) }
         { source.compare_to(*p, text).is_lt() },
     );
     match index.get(place) {

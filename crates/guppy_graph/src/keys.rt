@@ -91,7 +91,8 @@ pub(crate) fn position_of_id(
     id: &PackageId,
 ) -> Option<usize>
     requires { IsIdIndex packages.now by_id.now }
-    ensures { MatchOption result (NoneBelow (HasId packages.now) id.now (length packages.now)) (IsFirstWith (HasId packages.now) id.now) }
+    ensures { MatchOption result (NoneBelow (HasId packages.now) id.now (length packages.now))
+        (IsFirstWith (HasId packages.now) id.now) }
 {
     position_of(&Ids(packages), by_id, id.repr())
 }
@@ -103,7 +104,8 @@ pub(crate) fn position_of_path(
     path: Utf8Path<'_>,
 ) -> Option<usize>
     requires { IsPathIndex packages.now by_path.now }
-    ensures { MatchOption result (¬ IsMemberPath packages.now (path_text path.entry)) (HasPath packages.now (path_text path.entry)) }
+    ensures { MatchOption result (¬ IsMemberPath packages.now (path_text path.entry))
+        (HasPath packages.now (path_text path.entry)) }
 {
     position_of(&Paths(packages), by_path, path.as_str())
 }
@@ -115,7 +117,8 @@ pub(crate) fn position_of_name(
     name: &str,
 ) -> Option<usize>
     requires { IsNameIndex packages.now by_name.now }
-    ensures { MatchOption result (¬ IsMemberName packages.now name.now) (HasName packages.now name.now) }
+    ensures { MatchOption result (¬ IsMemberName packages.now name.now)
+        (HasName packages.now name.now) }
 {
     position_of(&Names(packages), by_name, name)
 }
@@ -123,7 +126,8 @@ pub(crate) fn position_of_name(
 /// The first package with the ID of an earlier one.
 pub(crate) fn first_repeated_id(packages: &[PackageRecord], by_id: &[usize]) -> Option<usize>
     requires { IsIdIndex packages.now by_id.now }
-    ensures { MatchOption result (DifferBelow (HasId packages.now) (length packages.now)) (IsFirstRepeat (HasId packages.now)) }
+    ensures { MatchOption result (DifferBelow (HasId packages.now) (length packages.now))
+        (IsFirstRepeat (HasId packages.now)) }
 {
     first_repeat(&Ids(packages), by_id)
 }
@@ -131,7 +135,8 @@ pub(crate) fn first_repeated_id(packages: &[PackageRecord], by_id: &[usize]) -> 
 /// The first workspace member with the name of an earlier one.
 pub(crate) fn first_repeated_name(packages: &[PackageRecord], by_name: &[usize]) -> Option<usize>
     requires { IsNameIndex packages.now by_name.now }
-    ensures { MatchOption result (DifferBelow (HasName packages.now) (length packages.now)) (IsFirstRepeat (HasName packages.now)) }
+    ensures { MatchOption result (DifferBelow (HasName packages.now) (length packages.now))
+        (IsFirstRepeat (HasName packages.now)) }
 {
     first_repeat(&Names(packages), by_name)
 }
@@ -139,7 +144,8 @@ pub(crate) fn first_repeated_name(packages: &[PackageRecord], by_name: &[usize])
 /// The first target with the ID of an earlier one.
 pub(crate) fn first_repeated_target(targets: &[BuildTargetRecord], index: &[usize]) -> Option<usize>
     requires { IsTargetIndex targets.now index.now }
-    ensures { MatchOption result (DifferBelow (HasTarget targets.now) (length targets.now)) (IsFirstRepeat (HasTarget targets.now)) }
+    ensures { MatchOption result (DifferBelow (HasTarget targets.now) (length targets.now))
+        (IsFirstRepeat (HasTarget targets.now)) }
 {
     first_repeat(&TargetIds(targets), index)
 }

@@ -20,7 +20,8 @@ pub(crate) struct Order {
 
 /// The order of the graph's packages. Looks at each link at most four times.
 pub(crate) fn order_of(graph: &Graph<Packages>) -> Result<Order, AllocError>
-    ensures ordered { IfOk result (λ o. IsOrdered (length graph.now.nodes) graph.now.links o.topo o.sccs) }
+    ensures ordered { IfOk result
+        (λ o. IsOrdered (length graph.now.nodes) graph.now.links o.topo o.sccs) }
     ensures looks { IfOk result (λ o. o.looks ≤ 4 * length graph.now.links) }
 {
     let mut counted = CountedGraph::new(graph);

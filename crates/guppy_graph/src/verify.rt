@@ -30,7 +30,9 @@ impl RecordGraph {
     /// Time grows with build targets, links, and the comparators of their requirements. Takes no memory.
     pub fn verify(&self) -> Result<(), Error>
         ensures verified { IsOk result ↔ IsVerified self.now }
-        ensures fault { IfErr result (λ e. (fault : VerifyFault) × (e ≡ Error.PackageGraphInternalError fault) × IsFirstVerifyFault self.now fault) }
+        ensures fault { IfErr result
+            (λ e. (fault : VerifyFault) × (e ≡ Error.PackageGraphInternalError fault)
+            × IsFirstVerifyFault self.now fault) }
     {
         for position in 0..self.graph().node_count() {
             if let Some(fault) = self.fault_of_package(position) {
@@ -43,7 +45,8 @@ impl RecordGraph {
     // The first fault of the package at the position.
     fn fault_of_package(&self, position: usize) -> Option<VerifyFault>
         requires { position < length self.now.packages }
-        ensures { MatchOption result (IsPackageVerified self.now position) (IsPackageFault self.now position) }
+        ensures { MatchOption result (IsPackageVerified self.now position)
+            (IsPackageFault self.now position) }
     {
         match self.misfit_of_package(position) {
             Some(target) => Some(VerifyFault::TargetKind {
@@ -59,7 +62,8 @@ impl RecordGraph {
     fn misfit_of_package(&self, position: usize) -> Option<usize>
         requires { position < length self.now.packages }
         ensures { MatchOption result (AreKindsFittingAt self.now position)
-            (λ place. IsSomeAnd (slice_get self.now.packages position) (λ r. IsFirstMisfit r place)) }
+            (λ place. IsSomeAnd (slice_get self.now.packages position)
+            (λ r. IsFirstMisfit r place)) }
     {
         first_misfit(self.targets_of(position), self.targets_by_id(position))
     }
@@ -67,7 +71,9 @@ impl RecordGraph {
     // The first fault of the links that leave the package at the position.
     fn fault_of_links(&self, position: usize) -> Option<VerifyFault>
         requires { position < length self.now.packages }
-        ensures { MatchOption result (All (IsLinkVerified self.now) (links_at DependencyDirection.Forward self.now.links position))
+        ensures { MatchOption result
+            (All (IsLinkVerified self.now)
+            (links_at DependencyDirection.Forward self.now.links position))
             (IsLeavingLinkFault self.now position) }
     {
         let ix = self.ix_at(position);
@@ -82,7 +88,8 @@ impl RecordGraph {
     // The first fault of the link with the number.
     fn fault_of_link(&self, number: usize) -> Option<VerifyFault>
         requires { number < length self.now.links }
-        ensures { MatchOption result (IsLinkVerified self.now number) (IsLinkFault self.now number) }
+        ensures { MatchOption result (IsLinkVerified self.now number)
+            (IsLinkFault self.now number) }
     {
         let link = self.link_at(number);
         if !accepts(&link.edge.version_req, &self.package_at(link.to).version) {
@@ -137,7 +144,8 @@ fn has_fitting_kind(target: &BuildTargetRecord) -> bool
 // Where in the list of places stands that of the first target of a kind that its ID doesn't allow.
 fn first_misfit(targets: &[BuildTargetRecord], places: &[usize]) -> Option<usize>
     requires { All (λ p. p < length targets.now) places.now }
-    ensures { MatchOption result (All (λ p. IsSomeAnd (slice_get targets.now p) HasFittingKind) places.now)
+    ensures { MatchOption result
+        (All (λ p. IsSomeAnd (slice_get targets.now p) HasFittingKind) places.now)
         (IsFirstWithout (λ p. IsSomeAnd (slice_get targets.now p) HasFittingKind) places.now) }
 {
     for (place, position) in places.iter().enumerate() {

@@ -10,7 +10,8 @@ use Rattle.guppy_input.specs.Records.{AreRecordsOf}
 
 -- the records of some entries become those of these entries after them
 abbrev pub AddsEntries : Records → Records → List Entry → Type 0
-AddsEntries old new added = (entries : List Entry) → AreRecordsOf entries old.packages.items old.links.items old.workspace
+AddsEntries old new added =
+    (entries : List Entry) → AreRecordsOf entries old.packages.items old.links.items old.workspace
     → AreRecordsOf (entries ++ added) new.packages.items new.links.items new.workspace
 
 abbrev pub IsWantOfMemory : Error → Type 0

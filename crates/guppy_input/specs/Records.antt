@@ -75,7 +75,8 @@ pub record IsRequired (status : Status) (r : DependencyReqImpl) : Type 0 where
   pub required : IsAskedFor status r.required
   pub optional : IsAskedFor Never r.optional
 
--- a link in the line's section, named after the package that it leads to, of which every version will do: `*` has no comparator
+-- a link in the line's section, named after the package that it leads to, of which every version
+-- will do: `*` has no comparator
 pub record IsLinkOf (line : LinkLine) (r : LinkRecord) : Type 0 where
   pub from : r.from ≡ line.from
   pub to : r.to ≡ line.to
@@ -96,8 +97,10 @@ pub record IsWorkspace (r : WorkspaceRecord) : Type 0 where
   pub metadata_table : r.metadata_table ≡ Null
   pub default_members : r.default_members.items ≡ []
 
--- the packages are those of the package lines and the links those of the link lines, each in their order
-pub record AreRecordsOf (entries : List Entry) (packages : List PackageRecord) (links : List LinkRecord) (workspace : WorkspaceRecord) : Type 0 where
+-- the packages are those of the package lines and the links those of the link lines, each in their
+-- order
+pub record AreRecordsOf (entries : List Entry) (packages : List PackageRecord)
+    (links : List LinkRecord) (workspace : WorkspaceRecord) : Type 0 where
   pub packages_are : AllZip IsPackageOf (filter_map package_of entries) packages
   pub links_are : AllZip IsLinkOf (filter_map link_of entries) links
   pub workspace_is : IsWorkspace workspace

@@ -13,7 +13,8 @@ pub data Entry : Type 0 where
 
 abbrev pub section_of : List ℕ → Option DependencyKind
 section_of word = if bytes_eq word (codes "normal") then Some Normal
-    else (if bytes_eq word (codes "build") then Some Build else (if bytes_eq word (codes "dev") then Some Development else None))
+    else (if bytes_eq word (codes "build") then Some Build else
+    (if bytes_eq word (codes "dev") then Some Development else None))
 
 -- what stands before, between and after the spaces
 unfoldable pub words : List ℕ → List (List ℕ)
@@ -32,7 +33,8 @@ abbrev pub entry_of_words : List (List ℕ) → Option Entry
 entry_of_words (word ∷ id ∷ []) =
     if bytes_eq word (codes "package") && not (is_empty id) then Some (a_package id) else None
 entry_of_words (word ∷ from ∷ to ∷ section ∷ []) =
-    if bytes_eq word (codes "link") && (not (is_empty from) && not (is_empty to)) then option_map (a_link from to) (section_of section) else None
+    if bytes_eq word (codes "link") && (not (is_empty from) && not (is_empty to)) then option_map
+    (a_link from to) (section_of section) else None
 entry_of_words _ = None
 
 abbrev pub entry_of_text : List ℕ → Option Entry

@@ -48,7 +48,8 @@ fn next_line(text: &[u8]) -> Option<(&[u8], &[u8])>
 // Adds what this line says, which is nothing where it is empty.
 fn add_line(records: &mut Records, alloc: Global, line: &[u8], number: u64) -> Result<(), RunFault>
     ensures good { OnOk result (is_good line.now ≡ true) }
-    ensures added { OnOk result (AddsEntries records.old records.new (option_to_list (entry_of line.now))) }
+    ensures added { OnOk result (AddsEntries records.old records.new
+        (option_to_list (entry_of line.now))) }
     ensures err { IfErr result (IsLineFault line.now number) }
 {
     if line.is_empty() {
@@ -65,7 +66,8 @@ fn add_line(records: &mut Records, alloc: Global, line: &[u8], number: u64) -> R
 /// memory for the records, and time linear in the input's length.
 pub fn records_of(alloc: Global, text: &[u8]) -> Result<Records, RunFault>
     ensures good { OnOk result (IsAllGood text.now) }
-    ensures ok { IfOk result (λ r. AreRecordsOf (entries_of text.now) r.packages.items r.links.items r.workspace) }
+    ensures ok { IfOk result (λ r. AreRecordsOf
+        (entries_of text.now) r.packages.items r.links.items r.workspace) }
     ensures err { IfErr result (IsReadingFault text.now) }
 {
     let mut records = Records::new(alloc)?;

@@ -32,7 +32,8 @@ pub fn read_all<R: Source>(alloc: Global, reader: &mut R) -> Result<Vec<u8>, Run
 /// Writes all the bytes, or a beginning of them where a write fails.
 pub fn write_all<W: Sink>(writer: &mut W, bytes: &[u8]) -> Result<(), DeviceFault>
     ensures ok { OnOk result (Appends (W.written writer.old) (W.written writer.new) bytes.now) }
-    ensures begun { (front rest : List ℕ) × (bytes.now ≡ front ++ rest) × Appends (W.written writer.old) (W.written writer.new) front }
+    ensures begun { (front rest : List ℕ) × (bytes.now ≡ front ++ rest)
+        × Appends (W.written writer.old) (W.written writer.new) front }
     ensures failed { MarksFault (W.has_failed writer.old) (W.has_failed writer.new) result }
 {
     let mut at = 0;

@@ -40,12 +40,15 @@ IsAscending = IsStrictlySortedBy (slice_cmp nat_cmp)
 abbrev pub IsNamed : GraphData → List (List ℕ) → ℕ → Type 0
 IsNamed g ids p = (id : List ℕ) × Contains ids id × HasId g.packages id p
 
--- the ID is that of a package to which links lead in the direction from those named, or of one of these
+-- the ID is that of a package to which links lead in the direction from those named, or of one of
+-- these
 abbrev pub IsReached : DependencyDirection → GraphData → List (List ℕ) → List ℕ → Type 0
-IsReached direction g ids id = (p : ℕ) × HasId g.packages id p × ReachedFrom (LinkStep direction g.links) (IsNamed g ids) p
+IsReached direction g ids id =
+    (p : ℕ) × HasId g.packages id p × ReachedFrom (LinkStep direction g.links) (IsNamed g ids) p
 
 -- the IDs of the reached packages, one a line
-pub record IsReachAnswer (direction : DependencyDirection) (g : GraphData) (ids : List (List ℕ)) (output : List ℕ) : Type 0 where
+pub record IsReachAnswer (direction : DependencyDirection) (g : GraphData) (ids : List (List ℕ))
+    (output : List ℕ) : Type 0 where
   pub known : All (IsKnown g.packages) ids
   pub reached : List (List ℕ)
   pub ascending : IsAscending reached
@@ -73,7 +76,8 @@ abbrev pub all_of : GraphData → SetData
 all_of g = record { graph = g; included = replicate (length g.packages) true }
 
 -- the IDs of the roots of all packages, by position, one a line
-pub record IsRootsAnswer (direction : DependencyDirection) (g : GraphData) (output : List ℕ) : Type 0 where
+pub record IsRootsAnswer (direction : DependencyDirection) (g : GraphData)
+    (output : List ℕ) : Type 0 where
   pub root_ids : List (List ℕ)
   pub exact : AreRootIds direction (all_of g) root_ids
   pub printed : output ≡ lines_of root_ids
@@ -91,13 +95,16 @@ ends_of None = []
 abbrev pub link_text : GraphData × ℕ → List ℕ
 link_text link = joined (ids_at link.0.packages (ends_of (slice_get link.0.links link.1)))
 
--- the links that are walked from the roots of all packages, in an order that the walk allows, one a line
-pub record IsLinksAnswer (direction : DependencyDirection) (g : GraphData) (output : List ℕ) : Type 0 where
+-- the links that are walked from the roots of all packages, in an order that the walk allows, one a
+-- line
+pub record IsLinksAnswer (direction : DependencyDirection) (g : GraphData)
+    (output : List ℕ) : Type 0 where
   pub walked : List (GraphData × ℕ)
   pub exact : AreWalkedLinks direction (all_of g) walked
   pub printed : output ≡ lines_of (map link_text walked)
 
--- the cycles in an order of the packages, one a line: two IDs stand on one line exactly where their packages are cyclic
+-- the cycles in an order of the packages, one a line: two IDs stand on one line exactly where their
+-- packages are cyclic
 pub record IsCyclesAnswer (g : GraphData) (output : List ℕ) : Type 0 where
   pub ordered : IsOrdered (length g.packages) g.links g.index g.components
   pub common : (a b : List ℕ) → AreOnOne (cycles_of g) a b ↔ AreCyclic g a b

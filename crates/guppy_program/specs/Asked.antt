@@ -22,11 +22,13 @@ IsInputAnswer command input output = OfLoaded input (λ g. IsAnswer command g ou
 -- the library refuses the input or the command so, or memory ran out
 abbrev pub IsInputRefusal : Command → List ℕ → Error → Type 0
 IsInputRefusal command input (PackageGraphConstructError fault) = IsRecordFault input fault
-IsInputRefusal command input (UnknownPackageId id) = OfLoaded input (λ g. IsFirstUnknownNamed command g id)
+IsInputRefusal command input (UnknownPackageId id) =
+    OfLoaded input (λ g. IsFirstUnknownNamed command g id)
 IsInputRefusal command input (UnknownFeatureId id feature) = ⊥
 IsInputRefusal command input (UnknownWorkspacePath path) = ⊥
 IsInputRefusal command input (UnknownWorkspaceName name) = ⊥
-IsInputRefusal command input (PackageGraphInternalError fault) = OfLoaded input (λ g. IsVerifyFault command g fault)
+IsInputRefusal command input (PackageGraphInternalError fault) =
+    OfLoaded input (λ g. IsVerifyFault command g fault)
 IsInputRefusal command input (FeatureGraphInternalError text) = ⊥
 IsInputRefusal command input OutOfMemory = Unit {0}
 
@@ -40,12 +42,15 @@ IsInputFault command input OutputFailed = ⊥
 
 -- the source could not be read, or there is such a fault of all that it had, or memory ran out
 abbrev pub IsSourceFault : Command → Option (List ℕ) → Option (List ℕ) → RunFault → Type 0
-IsSourceFault command old new (Library (PackageGraphConstructError fault)) = OfWholeInput old new (λ input. IsRecordFault input fault)
-IsSourceFault command old new (Library (UnknownPackageId id)) = OfWholeInput old new (λ input. OfLoaded input (λ g. IsFirstUnknownNamed command g id))
+IsSourceFault command old new (Library (PackageGraphConstructError fault)) =
+    OfWholeInput old new (λ input. IsRecordFault input fault)
+IsSourceFault command old new (Library (UnknownPackageId id)) =
+    OfWholeInput old new (λ input. OfLoaded input (λ g. IsFirstUnknownNamed command g id))
 IsSourceFault command old new (Library (UnknownFeatureId id feature)) = ⊥
 IsSourceFault command old new (Library (UnknownWorkspacePath path)) = ⊥
 IsSourceFault command old new (Library (UnknownWorkspaceName name)) = ⊥
-IsSourceFault command old new (Library (PackageGraphInternalError fault)) = OfWholeInput old new (λ input. OfLoaded input (λ g. IsVerifyFault command g fault))
+IsSourceFault command old new (Library (PackageGraphInternalError fault)) =
+    OfWholeInput old new (λ input. OfLoaded input (λ g. IsVerifyFault command g fault))
 IsSourceFault command old new (Library (FeatureGraphInternalError text)) = ⊥
 IsSourceFault command old new (Library OutOfMemory) = Unit {0}
 IsSourceFault command old new BadArguments = ⊥

@@ -31,7 +31,8 @@ pub record IsRecordFault (input : List ℕ) (fault : ConstructFault) : Type 0 wh
   pub said : AreRecordsOf (entries_of input) packages links workspace
   pub first : IsFirstFault packages links workspace fault
 
--- the number is that of the first bad line, or every line is good and the error tells the first fault of the records, or memory ran out
+-- the number is that of the first bad line, or every line is good and the error tells the first
+-- fault of the records, or memory ran out
 abbrev pub IsLoadFault : List ℕ → RunFault → Type 0
 IsLoadFault input (Library error) = TellsFault (IsRecordFault input) error
 IsLoadFault input BadArguments = ⊥

@@ -9,7 +9,10 @@ use Rattle.guppy_program.specs.declared.process.Ending.{Ending}
 abbrev pub fault_line : RunFault → List ℕ
 fault_line fault = codes "error: " ++ fault_text fault ++ codes "\n"
 
--- after an answer the status is 0 and nothing is told; after a fault it is the fault's, and the sink for faults gets the fault's line, if it was written whole
-abbrev pub EndsIn : {T E : Type 0} → (E → Option (List ℕ)) → E → E → Result T RunFault → Ending → Type 0
+-- after an answer the status is 0 and nothing is told; after a fault it is the fault's, and the
+-- sink for faults gets the fault's line, if it was written whole
+abbrev pub EndsIn : {T E : Type 0} → (E → Option (List ℕ)) → E → E → Result T RunFault → Ending
+    → Type 0
 EndsIn written old new (Ok x) ending = (ending.status ≡ 0) × (ending.is_told ≡ true) × (new ≡ old)
-EndsIn written old new (Err fault) ending = (ending.status ≡ status_of fault) × (ending.is_told ≡ true → Appends (written old) (written new) (fault_line fault))
+EndsIn written old new (Err fault) ending = (ending.status ≡ status_of fault)
+    × (ending.is_told ≡ true → Appends (written old) (written new) (fault_line fault))

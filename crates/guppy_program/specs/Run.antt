@@ -29,7 +29,8 @@ IsAnswered args input P = (output : List ℕ) × IsProgramAnswer args input outp
 abbrev pub IsBegun : List (List ℕ) → List ℕ → (List ℕ → Type 0) → Type 0
 IsBegun args input P = (front rest : List ℕ) × IsProgramAnswer args input (front ++ rest) × P front
 
--- every line is good, the records are accepted, and the ID is the first of the command that is no package's
+-- every line is good, the records are accepted, and the ID is the first of the command that is no
+-- package's
 pub record IsUnknownId (args : List (List ℕ)) (input id : List ℕ) : Type 0 where
   pub command : Command
   pub asked : command_of args ≡ Some command
@@ -37,7 +38,8 @@ pub record IsUnknownId (args : List (List ℕ)) (input id : List ℕ) : Type 0 w
   pub loaded : IsLoaded input graph
   pub first : IsFirstUnknownNamed command graph id
 
--- every line is good, the records are accepted, and the fault is the first of the graph, which the command asks for
+-- every line is good, the records are accepted, and the fault is the first of the graph, which the
+-- command asks for
 pub record IsFaultFound (args : List (List ℕ)) (input : List ℕ) (fault : VerifyFault) : Type 0 where
   pub command : Command
   pub asked : command_of args ≡ Some command
@@ -51,12 +53,15 @@ OfWholeInput old new P = IsAtEnd new × IfSome old P
 
 -- the library refuses the input or the command so, or memory ran out
 abbrev pub IsLibraryRefusal : List (List ℕ) → Option (List ℕ) → Option (List ℕ) → Error → Type 0
-IsLibraryRefusal args old new (PackageGraphConstructError fault) = OfWholeInput old new (λ input. IsRecordFault input fault)
-IsLibraryRefusal args old new (UnknownPackageId id) = OfWholeInput old new (λ input. IsUnknownId args input id)
+IsLibraryRefusal args old new (PackageGraphConstructError fault) =
+    OfWholeInput old new (λ input. IsRecordFault input fault)
+IsLibraryRefusal args old new (UnknownPackageId id) =
+    OfWholeInput old new (λ input. IsUnknownId args input id)
 IsLibraryRefusal args old new (UnknownFeatureId id feature) = ⊥
 IsLibraryRefusal args old new (UnknownWorkspacePath path) = ⊥
 IsLibraryRefusal args old new (UnknownWorkspaceName name) = ⊥
-IsLibraryRefusal args old new (PackageGraphInternalError fault) = OfWholeInput old new (λ input. IsFaultFound args input fault)
+IsLibraryRefusal args old new (PackageGraphInternalError fault) =
+    OfWholeInput old new (λ input. IsFaultFound args input fault)
 IsLibraryRefusal args old new (FeatureGraphInternalError text) = ⊥
 IsLibraryRefusal args old new OutOfMemory = Unit {0}
 
@@ -69,14 +74,22 @@ WritesNothing old new (Err (BadLine n)) = new ≡ old
 WritesNothing old new (Err InputFailed) = new ≡ old
 WritesNothing old new (Err OutputFailed) = Unit {0}
 
--- what a run of the program did to its source and its sink, and what came of it; the fields are the clauses of `run`
-pub record IsRun {T R W : Type 0} (left : R → Option (List ℕ)) (input_failed : R → Bool) (written : W → Option (List ℕ)) (output_failed : W → Bool) (args : List (List ℕ)) (reader reader' : R) (writer writer' : W) (outcome : Result T RunFault) : Type 0 where
-  pub ok : OnOk outcome (OfWholeInput (left reader) (left reader') (λ input. IsAnswered args input (Appends (written writer) (written writer'))))
+-- what a run of the program did to its source and its sink, and what came of it; the fields are the
+-- clauses of `run`
+pub record IsRun {T R W : Type 0} (left : R → Option (List ℕ)) (input_failed : R → Bool)
+    (written : W → Option (List ℕ)) (output_failed : W → Bool) (args : List (List ℕ))
+    (reader reader' : R) (writer writer' : W) (outcome : Result T RunFault) : Type 0 where
+  pub ok : OnOk outcome (OfWholeInput (left reader) (left reader')
+      (λ input. IsAnswered args input (Appends (written writer) (written writer'))))
   pub arguments : IsErrOf outcome BadArguments ↔ IsNone (command_of args)
   pub arguments_read : IsErrOf outcome BadArguments → reader' ≡ reader
-  pub bad_line : (n : ℕ) → outcome ≡ Err (BadLine n) → OfWholeInput (left reader) (left reader') (λ input. IsFirstBadLine input n)
-  pub library : (error : Error) → outcome ≡ Err (Library error) → IsLibraryRefusal args (left reader) (left reader') error
+  pub bad_line : (n : ℕ) → outcome ≡ Err (BadLine n)
+      → OfWholeInput (left reader) (left reader') (λ input. IsFirstBadLine input n)
+  pub library : (error : Error) → outcome ≡ Err (Library error)
+      → IsLibraryRefusal args (left reader) (left reader') error
   pub input_fails : input_failed reader' ≡ is_input_fault outcome
   pub output_fails : output_failed writer' ≡ is_output_fault outcome
   pub refused : WritesNothing writer writer' outcome
-  pub begun : IsErrOf outcome OutputFailed → OfWholeInput (left reader) (left reader') (λ input. IsBegun args input (Appends (written writer) (written writer')))
+  pub begun : IsErrOf outcome OutputFailed
+      → OfWholeInput (left reader) (left reader')
+      (λ input. IsBegun args input (Appends (written writer) (written writer')))

@@ -47,7 +47,8 @@ fn reached<'g>(
     ensures graph { IfOk result (λ set. set.graph ≡ graph.now) }
     ensures count { IfOk result (λ set. length set.included ≡ length graph.now.packages) }
     ensures known { OnOk result (All (IsKnown graph.now.packages) ids.now) }
-    ensures exact { IfOk result (λ set. (id : List ℕ) → IncludesId set id ↔ IsReached direction graph.now ids.now id) }
+    ensures exact { IfOk result (λ set. (id : List ℕ) → IncludesId set id
+        ↔ IsReached direction graph.now ids.now id) }
     ensures err { IfErr result (NamesId (IsFirstUnknown graph.now.packages ids.now)) }
 {
     graph.query_directed(ids.iter(), direction)?.resolve()
@@ -59,8 +60,10 @@ fn reach(
     direction: DependencyDirection,
     words: &[String],
 ) -> Result<String, Error>
-    ensures ok { IfOk result (λ text. IsReachAnswer direction graph.now (map string_bytes words.now) (string_bytes text)) }
-    ensures err { IfErr result (NamesId (IsFirstUnknown graph.now.packages (map string_bytes words.now))) }
+    ensures ok { IfOk result (λ text. IsReachAnswer direction graph.now (map string_bytes words.now)
+        (string_bytes text)) }
+    ensures err { IfErr result (NamesId
+        (IsFirstUnknown graph.now.packages (map string_bytes words.now))) }
 {
     let ids = ids_of(alloc, words)?;
     let set = reached(graph, direction, &ids)?;
@@ -76,8 +79,10 @@ fn truth_line(answer: bool) -> &'static str
 }
 
 fn depends(alloc: Global, graph: &PackageGraph, from: &str, to: &str) -> Result<String, Error>
-    ensures ok { IfOk result (λ text. IsDependsAnswer graph.now from.now to.now (string_bytes text)) }
-    ensures err { IfErr result (NamesId (IsFirstUnknown graph.now.packages (from.now ∷ to.now ∷ []))) }
+    ensures ok { IfOk result (λ text. IsDependsAnswer graph.now from.now to.now
+        (string_bytes text)) }
+    ensures err { IfErr result (NamesId
+        (IsFirstUnknown graph.now.packages (from.now ∷ to.now ∷ []))) }
 {
     let from = id_of(alloc, from)?;
     let to = id_of(alloc, to)?;
@@ -112,7 +117,8 @@ fn roots(
 
 // Writes the IDs of the packages that the link goes from and to, parted by a space, on a line.
 fn push_link(text: &mut String, link: PackageLink<'_>) -> Result<(), AllocError>
-    ensures { OnOk result (string_bytes text.new ≡ string_bytes text.old ++ line_of (link_text (link_in link.entry))) }
+    ensures { OnOk result (string_bytes text.new ≡ string_bytes text.old
+        ++ line_of (link_text (link_in link.entry))) }
 {
     text.push_str(link.from().id().repr())?;
     text.push(' ')?;
@@ -174,7 +180,8 @@ fn verify(alloc: Global, graph: &PackageGraph) -> Result<String, Error>
 /// Takes memory for the answer, and for some numbers a package and a link. Time grows with packages and
 /// links, and for `reach` with the packages printed times the logarithm of their number.
 pub fn answer(alloc: Global, graph: &PackageGraph, command: &Command<'_>) -> Result<String, Error>
-    ensures ok { IfOk result (λ text. IsAnswer (command_shown command.now) graph.now (string_bytes text)) }
+    ensures ok { IfOk result (λ text. IsAnswer (command_shown command.now) graph.now
+        (string_bytes text)) }
     ensures err { IfErr result (IsCommandRefusal (command_shown command.now) graph.now) }
 {
     match command {

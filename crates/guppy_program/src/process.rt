@@ -31,7 +31,8 @@ impl<E: Sink> fmt::Write for Lines<'_, E> {
     ghost use Rattle.std.specs.Prelude.{◌≡◌};
     ghost use Rattle.std.specs.Io.KnownBytes.{Appends};
 
-    ghost write_str_gives = { λ s text t. (t.sink.ghost_name ≡ s.sink.ghost_name) × Appends (E.written s.sink.now) (E.written t.sink.now) text };
+    ghost write_str_gives = { λ s text t. (t.sink.ghost_name ≡ s.sink.ghost_name)
+        × Appends (E.written s.sink.now) (E.written t.sink.now) text };
 
     fn write_str(&mut self, text: &str) -> fmt::Result {
         match write_all(self.sink, text.as_bytes()) {
@@ -43,7 +44,8 @@ impl<E: Sink> fmt::Write for Lines<'_, E> {
 
 // Tells the fault in one line, and answers whether it was written whole.
 fn tell<E: Sink>(fault: &RunFault, errors: &mut E) -> bool
-    ensures { result ≡ true → Appends (E.written errors.old) (E.written errors.new) (fault_line fault.now) }
+    ensures { result ≡ true → Appends (E.written errors.old) (E.written errors.new)
+        (fault_line fault.now) }
 {
     let mut lines = Lines { sink: errors };
     let told = writeln!(lines, "error: {fault}");
@@ -75,8 +77,10 @@ fn outcome_of<R: Source, W: Sink>(
 ) -> Result<(), RunFault>
     requires input_works { R.has_failed reader.old ≡ false }
     requires output_works { W.has_failed writer.old ≡ false }
-    ensures ran { IfOk args (λ list. IsRun R.left R.has_failed W.written W.has_failed (map string_bytes list.items) reader.old reader.new writer.old writer.new result) }
-    ensures no_arguments { IfErr args (λ fault. (reader.new ≡ reader.old) × (writer.new ≡ writer.old) × (result ≡ Err fault)) }
+    ensures ran { IfOk args (λ list. IsRun R.left R.has_failed W.written W.has_failed
+        (map string_bytes list.items) reader.old reader.new writer.old writer.new result) }
+    ensures no_arguments { IfErr args
+        (λ fault. (reader.new ≡ reader.old) × (writer.new ≡ writer.old) × (result ≡ Err fault)) }
 {
     match args {
         Ok(args) => run(alloc, &args, reader, writer),
@@ -101,11 +105,13 @@ pub fn run_process<R: Source, W: Sink, E: Sink>(
 
     // What `run` says holds of an outcome, and the process ends as this outcome says.
     ensures ran { IfOk args (λ list. (outcome : Result (Unit {0}) RunFault)
-        × IsRun R.left R.has_failed W.written W.has_failed (map string_bytes list.items) reader.old reader.new writer.old writer.new outcome
+        × IsRun R.left R.has_failed W.written W.has_failed
+        (map string_bytes list.items) reader.old reader.new writer.old writer.new outcome
         × EndsIn E.written errors.old errors.new outcome result) }
 
     // There are no arguments, so nothing was read or written.
-    ensures no_arguments { IfErr args (λ fault. (reader.new ≡ reader.old) × (writer.new ≡ writer.old)
+    ensures no_arguments { IfErr args
+        (λ fault. (reader.new ≡ reader.old) × (writer.new ≡ writer.old)
         × EndsIn {T = Unit {0}} E.written errors.old errors.new (Err fault) result) }
 {
     let outcome = outcome_of(alloc, args, reader, writer);

@@ -19,7 +19,8 @@ use std::alloc::Global;
 
 // What the command prints of the graph that the input says.
 fn answer_input(alloc: Global, command: &Command<'_>, input: &[u8]) -> Result<String, RunFault>
-    ensures ok { IfOk result (λ text. IsInputAnswer (command_shown command.now) input.now (string_bytes text)) }
+    ensures ok { IfOk result (λ text. IsInputAnswer (command_shown command.now) input.now
+        (string_bytes text)) }
     ensures err { IfErr result (IsInputFault (command_shown command.now) input.now) }
 {
     let graph = load(alloc, input)?;
@@ -35,7 +36,8 @@ fn answer_source<R: Source>(
     requires { R.has_failed reader.old ≡ false }
     ensures ok { IfOk result (λ text. OfWholeInput (R.left reader.old) (R.left reader.new) (λ input.
         IsInputAnswer (command_shown command.now) input (string_bytes text))) }
-    ensures err { IfErr result (IsSourceFault (command_shown command.now) (R.left reader.old) (R.left reader.new)) }
+    ensures err { IfErr result (IsSourceFault (command_shown command.now) (R.left reader.old)
+        (R.left reader.new)) }
     ensures failed { R.has_failed reader.new ≡ is_input_fault result }
 {
     let input = read_all(alloc, reader)?;
@@ -46,7 +48,8 @@ fn answer_source<R: Source>(
 fn print<W: Sink>(writer: &mut W, text: &str) -> Result<(), RunFault>
     requires { W.has_failed writer.old ≡ false }
     ensures ok { OnOk result (Appends (W.written writer.old) (W.written writer.new) text.now) }
-    ensures begun { (front rest : List ℕ) × (text.now ≡ front ++ rest) × Appends (W.written writer.old) (W.written writer.new) front }
+    ensures begun { (front rest : List ℕ) × (text.now ≡ front ++ rest)
+        × Appends (W.written writer.old) (W.written writer.new) front }
     ensures err { IfErr result (λ fault. fault ≡ RunFault.OutputFailed) }
     ensures failed { W.has_failed writer.new ≡ is_output_fault result }
 {
@@ -78,10 +81,12 @@ pub fn run<R: Source, W: Sink>(
 
     // All input was read, and what was written is an answer to it.
     ensures ok { OnOk result (OfWholeInput (R.left reader.old) (R.left reader.new) (λ input.
-        IsAnswered (map string_bytes args.now) input (Appends (W.written writer.old) (W.written writer.new)))) }
+        IsAnswered (map string_bytes args.now) input
+        (Appends (W.written writer.old) (W.written writer.new)))) }
 
     // The arguments are no command, and nothing was read.
-    ensures arguments { IsErrOf result RunFault.BadArguments ↔ IsNone (command_of (map string_bytes args.now)) }
+    ensures arguments { IsErrOf result RunFault.BadArguments
+        ↔ IsNone (command_of (map string_bytes args.now)) }
     ensures arguments_read { IsErrOf result RunFault.BadArguments → reader.new ≡ reader.old }
 
     // All input was read, and this is its first bad line.
@@ -100,8 +105,10 @@ pub fn run<R: Source, W: Sink>(
 
     // A refusal writes nothing, and a write that fails leaves a beginning of an answer.
     ensures refused { WritesNothing writer.old writer.new result }
-    ensures begun { IsErrOf result RunFault.OutputFailed → OfWholeInput (R.left reader.old) (R.left reader.new) (λ input.
-        IsBegun (map string_bytes args.now) input (Appends (W.written writer.old) (W.written writer.new))) }
+    ensures begun { IsErrOf result RunFault.OutputFailed
+        → OfWholeInput (R.left reader.old) (R.left reader.new) (λ input.
+        IsBegun (map string_bytes args.now) input
+        (Appends (W.written writer.old) (W.written writer.new))) }
 {
     let Some(command) = command_of(args) else {
         return Err(RunFault::BadArguments);

@@ -13,7 +13,8 @@ pub data Question : Type 0 where
   discover : ℕ → Question
   filter : ℕ → Question
 
--- A trace is a list of questions, each with the links that were handed back, in the order in which they were asked.
+-- A trace is a list of questions, each with the links that were handed back, in the order in which
+-- they were asked.
 
 -- the question was asked
 abbrev pub IsAsked : List (Question × List ℕ) → Question → Type 0
@@ -21,43 +22,55 @@ IsAsked trace question = (handed : List ℕ) × Contains trace (question, handed
 
 -- one of the links leads to the position
 abbrev pub IsFarEnd : {E : Type 0} → DependencyDirection → List (Link E) → List ℕ → ℕ → Type 0
-IsFarEnd {E} d links numbers p = (n : ℕ) × (l : Link E) × Contains numbers n × (slice_get links n ≡ Some l) × (far_end d l ≡ p)
+IsFarEnd {E} d links numbers p =
+    (n : ℕ) × (l : Link E) × Contains numbers n × (slice_get links n ≡ Some l) × (far_end d l ≡ p)
 
 -- the position is an initial one, or a link that was handed back leads to it
-abbrev pub IsFound : {E : Type 0} → DependencyDirection → List (Link E) → List Bool → List (Question × List ℕ) → ℕ → Type 0
+abbrev pub IsFound : {E : Type 0} → DependencyDirection → List (Link E) → List Bool
+    → List (Question × List ℕ) → ℕ → Type 0
 IsFound d links initials trace p =
-    IsIn initials p ⊎ ((entry : Question × List ℕ) × Contains trace entry × IsFarEnd d links entry.1 p)
+    IsIn initials p ⊎ ((entry : Question × List ℕ) × Contains trace entry
+    × IsFarEnd d links entry.1 p)
 
--- the question may come after these: about a position that was found, or about a link that leaves one that was discovered
-abbrev pub IsTimely : {E : Type 0} → DependencyDirection → List (Link E) → List Bool → List (Question × List ℕ) → Question → Type 0
+-- the question may come after these: about a position that was found, or about a link that leaves
+-- one that was discovered
+abbrev pub IsTimely : {E : Type 0} → DependencyDirection → List (Link E) → List Bool
+    → List (Question × List ℕ) → Question → Type 0
 IsTimely d links initials before (discover p) = IsFound d links initials before p
 IsTimely d links initials before (filter n) = LeavesOne d links (λ p. IsAsked before (discover p)) n
 
 -- no question is asked twice, and none too early
-pub record IsOrderly {E : Type 0} (d : DependencyDirection) (links : List (Link E)) (initials : List Bool) (trace : List (Question × List ℕ)) : Type 0 where
+pub record IsOrderly {E : Type 0} (d : DependencyDirection) (links : List (Link E))
+    (initials : List Bool) (trace : List (Question × List ℕ)) : Type 0 where
   pub once : EachAfter (λ before entry. ¬ IsAsked before entry.0) trace
   pub timely : EachAfter (λ before entry. IsTimely d links initials before entry.0) trace
 
 -- the trace and the set judge a buffered resolve from the initial positions
-pub record JudgesBuffered {E : Type 0} (d : DependencyDirection) (links : List (Link E)) (initials : List Bool) (trace : List (Question × List ℕ)) (set : List Bool) : Type 0 where
-  -- the set has the initial positions, those to which links lead that were handed back, and no other
+pub record JudgesBuffered {E : Type 0} (d : DependencyDirection) (links : List (Link E))
+    (initials : List Bool) (trace : List (Question × List ℕ)) (set : List Bool) : Type 0 where
+  -- the set has the initial positions, those to which links lead that were handed back, and no
+  -- other
   pub included : (p : ℕ) → IsIn set p ↔ IsFound d links initials trace p
   -- exactly the positions of the set are discovered
   pub discovered : (p : ℕ) → IsAsked trace (discover p) ↔ IsIn set p
   -- exactly the links that leave the set are asked about
   pub filtered : (n : ℕ) → IsAsked trace (filter n) ↔ LeavesOne d links (IsIn set) n
-  -- each once, a position after it was found, and a link after the position that it leaves was discovered
+  -- each once, a position after it was found, and a link after the position that it leaves was
+  -- discovered
   pub orderly : IsOrderly d links initials trace
 
--- What a filter says to a position or a link: at a state the links that it may hand back, or none where it answers an error, each with the state that it leaves.
+-- What a filter says to a position or a link: at a state the links that it may hand back, or none
+-- where it answers an error, each with the state that it leaves.
 
 -- what it says to a question
-abbrev pub Answers : {T : Type 0} → (T → ℕ → Option (List ℕ) → T → Type 0) → (T → ℕ → Option (List ℕ) → T → Type 0) → T → Question → Option (List ℕ) → T → Type 0
+abbrev pub Answers : {T : Type 0} → (T → ℕ → Option (List ℕ) → T → Type 0)
+    → (T → ℕ → Option (List ℕ) → T → Type 0) → T → Question → Option (List ℕ) → T → Type 0
 Answers discovers filters s (discover p) answer t = discovers s p answer t
 Answers discovers filters s (filter n) answer t = filters s n answer t
 
 -- the filter's states over the trace: each step is one that it may take
-abbrev pub Asks : {T : Type 0} → (T → Question → Option (List ℕ) → T → Type 0) → T → List (Question × List ℕ) → T → Type 0
+abbrev pub Asks : {T : Type 0} → (T → Question → Option (List ℕ) → T → Type 0) → T
+    → List (Question × List ℕ) → T → Type 0
 Asks answers = FoldsTo (λ s entry t. answers s entry.0 (Some entry.1) t)
 
 -- the question is about a position below the one count, or about a link below the other
@@ -70,15 +83,22 @@ pub record AskedOnce (nodes links : ℕ) (trace : List (Question × List ℕ)) :
   pub once : EachAfter (λ before entry. ¬ IsAsked before entry.0) trace
   pub about : (question : Question) → IsAsked trace question → IsAbout nodes links question
 
--- a filter may be asked about each of so many positions and links once, in any order: after it answered other such questions
-pub record IsAskable {T : Type 0} (can_discover can_filter : T → ℕ → Type 0) (answers : T → Question → Option (List ℕ) → T → Type 0) (nodes links : ℕ) (first : T) : Type 0 where
-  pub at_position : (earlier : List (Question × List ℕ)) (now : T) (p : ℕ) → AskedOnce nodes links earlier → ¬ IsAsked earlier (discover p)
+-- a filter may be asked about each of so many positions and links once, in any order: after it
+-- answered other such questions
+pub record IsAskable {T : Type 0} (can_discover can_filter : T → ℕ → Type 0)
+    (answers : T → Question → Option (List ℕ) → T → Type 0) (nodes links : ℕ)
+    (first : T) : Type 0 where
+  pub at_position : (earlier : List (Question × List ℕ)) (now : T) (p : ℕ)
+      → AskedOnce nodes links earlier → ¬ IsAsked earlier (discover p)
       → Asks answers first earlier now → p < nodes → can_discover now p
-  pub at_link : (earlier : List (Question × List ℕ)) (now : T) (n : ℕ) → AskedOnce nodes links earlier → ¬ IsAsked earlier (filter n)
+  pub at_link : (earlier : List (Question × List ℕ)) (now : T) (n : ℕ)
+      → AskedOnce nodes links earlier → ¬ IsAsked earlier (filter n)
       → Asks answers first earlier now → n < links → can_filter now n
 
 -- the last question was answered by an error; it and those before it are in order
-pub record EndsInError {E T : Type 0} (answers : T → Question → Option (List ℕ) → T → Type 0) (d : DependencyDirection) (links : List (Link E)) (initials : List Bool) (first last : T) : Type 0 where
+pub record EndsInError {E T : Type 0} (answers : T → Question → Option (List ℕ) → T → Type 0)
+    (d : DependencyDirection) (links : List (Link E)) (initials : List Bool)
+    (first last : T) : Type 0 where
   pub trace : List (Question × List ℕ)
   pub question : Question
   pub state : T
@@ -88,8 +108,10 @@ pub record EndsInError {E T : Type 0} (answers : T → Question → Option (List
   pub new : ¬ IsAsked trace question
   pub timely : IsTimely d links initials trace question
 
--- the positions that following the links adds to a set: those to which they lead and that it lacks, each once
-pub record Adds {E : Type 0} (d : DependencyDirection) (links : List (Link E)) (numbers : List ℕ) (set : List Bool) (added : List ℕ) (after : List Bool) : Type 0 where
+-- the positions that following the links adds to a set: those to which they lead and that it lacks,
+-- each once
+pub record Adds {E : Type 0} (d : DependencyDirection) (links : List (Link E)) (numbers : List ℕ)
+    (set : List Bool) (added : List ℕ) (after : List Bool) : Type 0 where
   pub once : EachAfter (λ before p. ¬ Contains before p) added
   pub lacked : (p : ℕ) → Contains added p → ¬ IsIn set p
   pub led_to : (p : ℕ) → Contains added p → IsFarEnd d links numbers p
@@ -105,6 +127,9 @@ module _ {V F : Type 0} where
   abbrev pub CallsOn : (F → Bor V → ℕ → Bool → F → Type 0) → V → F → ℕ → Bool → F → Type 0
   CallsOn step graph f n answer t = (r : Bor V) × (r.now ≡ graph) × step f r n answer t
 
--- the link alone where the answer is true, and otherwise none; memory for it was refused only where it is true
-abbrev pub HandsBackIf : {F : Type 0} → (F → ℕ → Bool → F → Type 0) → F → ℕ → Option (List ℕ) → F → Type 0
-HandsBackIf calls f n answer t = MatchOption answer (calls f n true t) (λ handed. (b : Bool) × calls f n b t × (handed ≡ (if b then n ∷ [] else [])))
+-- the link alone where the answer is true, and otherwise none; memory for it was refused only where
+-- it is true
+abbrev pub HandsBackIf : {F : Type 0} → (F → ℕ → Bool → F → Type 0) → F → ℕ → Option (List ℕ) → F
+    → Type 0
+HandsBackIf calls f n answer t = MatchOption answer (calls f n true t)
+    (λ handed. (b : Bool) × calls f n b t × (handed ≡ (if b then n ∷ [] else [])))

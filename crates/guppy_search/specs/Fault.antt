@@ -10,6 +10,8 @@ use Rattle.guppy_search.specs.Pairs.{IsFirstRepeat, IsFirstUnknown}
 abbrev pub IsFault : {E : Type 0} → ℕ → List (Link E) → GraphFault → Type 0
 IsFault n links TooManyNodes = 4294967295 < n
 IsFault n links TooManyLinks = (n ≤ 4294967295) × (4294967295 < length links)
-IsFault n links (UnknownEnd k) = (n ≤ 4294967295) × (length links ≤ 4294967295) × IsFirstUnknown n links k
-IsFault n links (RepeatedLink k) = (n ≤ 4294967295) × (length links ≤ 4294967295) × All (EndsBelow n) links × IsFirstRepeat links k
+IsFault n links (UnknownEnd k) =
+    (n ≤ 4294967295) × (length links ≤ 4294967295) × IsFirstUnknown n links k
+IsFault n links (RepeatedLink k) =
+    (n ≤ 4294967295) × (length links ≤ 4294967295) × All (EndsBelow n) links × IsFirstRepeat links k
 IsFault n links OutOfMemory = Unit {0}

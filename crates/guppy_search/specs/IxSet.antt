@@ -3,7 +3,8 @@ use Rattle.std.specs.Prelude.{◌≡◌, ◌⊎◌, ◌↔◌, ℕ, ◌+◌, ◌
 use Rattle.std.specs.Int.{bit_at}
 use Rattle.std.specs.List.{range_with_len}
 
--- A set of positions is the list that has true at the positions in it. Its length is the number of positions that there are.
+-- A set of positions is the list that has true at the positions in it. Its length is the number of
+-- positions that there are.
 
 -- whether the position is in the set
 abbrev pub has : List Bool → ℕ → Bool
@@ -31,7 +32,8 @@ IsDifference s t rest = (p : ℕ) → IsIn rest p ↔ (IsIn s p × (¬ IsIn t p)
 
 -- the positions of the set are those in one of the two and not in the other
 abbrev pub IsSymmetricDifference : List Bool → List Bool → List Bool → Type 0
-IsSymmetricDifference s t either = (p : ℕ) → IsIn either p ↔ ((IsIn s p × (¬ IsIn t p)) ⊎ (IsIn t p × (¬ IsIn s p)))
+IsSymmetricDifference s t either =
+    (p : ℕ) → IsIn either p ↔ ((IsIn s p × (¬ IsIn t p)) ⊎ (IsIn t p × (¬ IsIn s p)))
 
 -- how many positions are in the set
 abbrev pub member_count : List Bool → ℕ
@@ -62,7 +64,8 @@ is_marked words p = bit_at (slice_index words (p / 64)) (p % 64) == 1
 abbrev pub marks_of : List ℕ → ℕ → List Bool
 marks_of words count = map (is_marked words) (range_with_len 0 count)
 
--- the words have a bit for each position and no other bit is set, len counts the bits that are set, and the positions in the set fit an index
+-- the words have a bit for each position and no other bit is set, len counts the bits that are set,
+-- and the positions in the set fit an index
 pub record IsBitSet (words : List ℕ) (count len : ℕ) : Type 0 where
   pub room : length words ≡ count / 64 + 1
   pub small : count < 2 ^ 64

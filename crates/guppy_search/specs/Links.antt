@@ -22,7 +22,8 @@ far_end Reverse l = l.from
 -- the numbers of the elements that pass, ascending, where the first has the number i
 abbrev pub numbers_where : {A : Type 0} → (A → Bool) → ℕ → List A → List ℕ
 numbers_where p i [] = []
-numbers_where p i (x ∷ xs) = if p x then i ∷ numbers_where p (i + 1) xs else numbers_where p (i + 1) xs
+numbers_where p i (x ∷ xs) =
+    if p x then i ∷ numbers_where p (i + 1) xs else numbers_where p (i + 1) xs
 
 -- the numbers of the links that leave the position in the direction, ascending
 abbrev pub links_at : {E : Type 0} → DependencyDirection → List (Link E) → ℕ → List ℕ

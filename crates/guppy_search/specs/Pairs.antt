@@ -6,10 +6,12 @@ use Rattle.guppy_search.specs.Links.{SamePair, EndsBelow, is_unknown}
 
 -- the first i links of the row lead elsewhere
 abbrev pub NoneTo : {E : Type 0} → List (Link E) → ℕ → List ℕ → ℕ → Type 0
-NoneTo {E} links to row i = (k : ℕ) (l : Link E) → k < i → slice_get links (slice_index row k) ≡ Some l → l.to ≡ to → ⊥
+NoneTo {E} links to row i =
+    (k : ℕ) (l : Link E) → k < i → slice_get links (slice_index row k) ≡ Some l → l.to ≡ to → ⊥
 
 -- the link n is the first of the row that leads there
-pub record IsFirstTo {E : Type 0} (links : List (Link E)) (to : ℕ) (row : List ℕ) (n : ℕ) : Type 0 where
+pub record IsFirstTo {E : Type 0} (links : List (Link E)) (to : ℕ) (row : List ℕ)
+    (n : ℕ) : Type 0 where
   pub place : ℕ
   pub within : place < length row
   pub at : slice_index row place ≡ n
@@ -24,7 +26,8 @@ to_at {E} links n = slice_index (map (λ (l : Link E). l.to) links) n
 
 -- the first i links of the row lead to different positions
 abbrev pub LeadApart : {E : Type 0} → List (Link E) → List ℕ → ℕ → Type 0
-LeadApart links row i = (j k : ℕ) → j < k → k < i → to_at links (slice_index row j) ≢ to_at links (slice_index row k)
+LeadApart links row i =
+    (j k : ℕ) → j < k → k < i → to_at links (slice_index row j) ≢ to_at links (slice_index row k)
 
 -- the link n is the first of the row that leads where an earlier one of the row does
 pub record IsFirstAgain {E : Type 0} (links : List (Link E)) (row : List ℕ) (n : ℕ) : Type 0 where
@@ -38,7 +41,8 @@ pub record IsFirstAgain {E : Type 0} (links : List (Link E)) (row : List ℕ) (n
 
 -- the links with numbers below k have different pairs
 abbrev pub SinglesBelow : {E : Type 0} → List (Link E) → ℕ → Type 0
-SinglesBelow {E} links k = (i j : ℕ) (a b : Link E) → i < k → j < k → slice_get links i ≡ Some a → slice_get links j ≡ Some b → SamePair a b → i ≡ j
+SinglesBelow {E} links k = (i j : ℕ) (a b : Link E) → i < k → j < k → slice_get links i ≡ Some a
+    → slice_get links j ≡ Some b → SamePair a b → i ≡ j
 
 -- the link k has the pair of an earlier one, and no link before k has
 pub record IsFirstRepeat {E : Type 0} (links : List (Link E)) (k : ℕ) : Type 0 where

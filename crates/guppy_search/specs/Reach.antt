@@ -6,7 +6,8 @@ use Rattle.guppy_search.specs.Links.{near_end, far_end}
 use Rattle.guppy_search.specs.IxSet.{IsIn}
 
 -- a kept link leads from a to b in this direction
-pub record Step {E : Type 0} (d : DependencyDirection) (keep : E → Bool) (links : List (Link E)) (a b : ℕ) : Type 0 where
+pub record Step {E : Type 0} (d : DependencyDirection) (keep : E → Bool) (links : List (Link E))
+    (a b : ℕ) : Type 0 where
   pub number : ℕ
   pub link : Link E
   pub found : slice_get links number ≡ Some link
@@ -32,8 +33,10 @@ abbrev pub ReachedFrom : (ℕ → ℕ → Type 0) → (ℕ → Type 0) → ℕ �
 ReachedFrom R IsStart b = (a : ℕ) × IsStart a × Walk R a b
 
 -- the set is what a plain resolve includes: what walks over links reach from the initial positions
-abbrev pub IsPlainResolve : {E : Type 0} → DependencyDirection → List (Link E) → List Bool → List Bool → Type 0
-IsPlainResolve d links initials set = (p : ℕ) → IsIn set p ↔ ReachedFrom (LinkStep d links) (IsIn initials) p
+abbrev pub IsPlainResolve : {E : Type 0} → DependencyDirection → List (Link E) → List Bool
+    → List Bool → Type 0
+IsPlainResolve d links initials set =
+    (p : ℕ) → IsIn set p ↔ ReachedFrom (LinkStep d links) (IsIn initials) p
 
 -- walks lead both ways
 abbrev pub Mutual : (ℕ → ℕ → Type 0) → ℕ → ℕ → Type 0

@@ -28,23 +28,35 @@ pub record Seeded (initials set : List Bool) (waiting left : List ℕ) : Type 0 
 abbrev pub IsDue : {E : Type 0} → DependencyDirection → List (Link E) → List ℕ → List ℕ → ℕ → Type 0
 IsDue d links waiting left n = LeavesOne d links (Contains waiting) n ⊎ Contains left n
 
--- a search under way, where left are the links still to be shown of the position that is being followed.
-pub record Searching {E : Type 0} (d : DependencyDirection) (links : List (Link E)) (initials : List Bool) (trace : List (ℕ × Bool)) (set : List Bool) (waiting left : List ℕ) : Type 0 where
+-- a search under way, where left are the links still to be shown of the position that is being
+-- followed.
+pub record Searching {E : Type 0} (d : DependencyDirection) (links : List (Link E))
+    (initials : List Bool) (trace : List (ℕ × Bool)) (set : List Bool)
+    (waiting left : List ℕ) : Type 0 where
   pub once : ShownOnce trace
-  pub led_to : EachAfter (λ before entry. LeavesOne d links (IsIncluded d links initials before) entry.0) trace
+  pub led_to : EachAfter (λ before entry. LeavesOne d links
+      (IsIncluded d links initials before) entry.0) trace
   pub included : (p : ℕ) → IsIn set p ↔ IsIncluded d links initials trace p
   pub shown : (n : ℕ) → IsShown trace n → LeavesOne d links (IsIn set) n
-  pub due : (n : ℕ) → LeavesOne d links (IsIn set) n → IsShown trace n ⊎ IsDue d links waiting left n
+  pub due : (n : ℕ) → LeavesOne d links (IsIn set) n → IsShown trace n
+      ⊎ IsDue d links waiting left n
   pub not_yet : (n : ℕ) → IsDue d links waiting left n → ¬ IsShown trace n
   pub row : (n : ℕ) → Contains left n → LeavesOne d links (λ p. IsIn set p × ¬ Contains waiting p) n
   pub ascending : IsAscending left
   pub waits : Waits set waiting
 
 -- these links, shown with these answers, take each search from the one state to the other
-pub record Shows {E : Type 0} (d : DependencyDirection) (links : List (Link E)) (shown : List (ℕ × Bool)) (set : List Bool) (waiting left : List ℕ) (set' : List Bool) (waiting' left' : List ℕ) : Type 0 where
-  pub after : (initials : List Bool) (trace : List (ℕ × Bool)) → Searching d links initials trace set waiting left → Searching d links initials (trace ++ shown) set' waiting' left'
+pub record Shows {E : Type 0} (d : DependencyDirection) (links : List (Link E))
+    (shown : List (ℕ × Bool)) (set : List Bool) (waiting left : List ℕ) (set' : List Bool)
+    (waiting' left' : List ℕ) : Type 0 where
+  pub after : (initials : List Bool) (trace : List (ℕ × Bool))
+      → Searching d links initials trace set waiting left
+      → Searching d links initials (trace ++ shown) set' waiting' left'
 
 -- the visitor may be shown the next link, whatever it was shown on the way there
-pub record MayGoOn {E V : Type 0} (may_call : V → ℕ → Type 0) (calls : V → ℕ → Bool → V → Type 0) (d : DependencyDirection) (links : List (Link E)) (set : List Bool) (waiting left : List ℕ) (visitor : V) : Type 0 where
+pub record MayGoOn {E V : Type 0} (may_call : V → ℕ → Type 0) (calls : V → ℕ → Bool → V → Type 0)
+    (d : DependencyDirection) (links : List (Link E)) (set : List Bool) (waiting left : List ℕ)
+    (visitor : V) : Type 0 where
   pub at : (shown : List (ℕ × Bool)) (now : V) (n : ℕ) (set' : List Bool) (waiting' left' : List ℕ)
-      → Shows d links shown set waiting left set' waiting' left' → Contains left' n → Visits calls visitor shown now → may_call now n
+      → Shows d links shown set waiting left set' waiting' left' → Contains left' n
+      → Visits calls visitor shown now → may_call now n

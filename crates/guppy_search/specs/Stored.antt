@@ -13,18 +13,24 @@ abbrev pub leaving_below : {E : Type 0} → DependencyDirection → List (Link E
 leaving_below d links p = length (numbers_where (λ l. nat_lt (near_end d l) p) 0 links)
 
 -- one place after each position stands where its list goes on behind its numbers among the first i
-pub record AreBegun {E : Type 0} (d : DependencyDirection) (count : ℕ) (links : List (Link E)) (i : ℕ) (bounds : List ℕ) : Type 0 where
+pub record AreBegun {E : Type 0} (d : DependencyDirection) (count : ℕ) (links : List (Link E))
+    (i : ℕ) (bounds : List ℕ) : Type 0 where
   pub count_is : length bounds ≡ count + 1
   pub first : slice_index bounds 0 ≡ 0
-  pub next : (p : ℕ) → p < count → slice_index bounds (p + 1) ≡ leaving_below d links p + length (links_at d (take i links) p)
+  pub next : (p : ℕ) → p < count
+      → slice_index bounds (p + 1) ≡ leaving_below d links p + length (links_at d (take i links) p)
 
 -- the numbers from the bound of each position to the next one are the list of its links
-pub record ListsAre {E : Type 0} (d : DependencyDirection) (count : ℕ) (links : List (Link E)) (bounds numbers : List ℕ) : Type 0 where
+pub record ListsAre {E : Type 0} (d : DependencyDirection) (count : ℕ) (links : List (Link E))
+    (bounds numbers : List ℕ) : Type 0 where
   pub count_is : length bounds ≡ count + 1
-  pub climb : (p : ℕ) → p < count → (slice_index bounds p ≤ slice_index bounds (p + 1)) × (slice_index bounds (p + 1) ≤ length numbers)
-  pub list_is : (p : ℕ) → p < count → slice_range numbers (slice_index bounds p) (slice_index bounds (p + 1)) ≡ links_at d links p
+  pub climb : (p : ℕ) → p < count → (slice_index bounds p ≤ slice_index bounds (p + 1))
+      × (slice_index bounds (p + 1) ≤ length numbers)
+  pub list_is : (p : ℕ) → p < count
+      → slice_range numbers (slice_index bounds p) (slice_index bounds (p + 1)) ≡ links_at d links p
 
-pub record IsStored {N E : Type 0} (nodes : List N) (links : List (Link E)) (forward reverse : LinkLists) : Type 0 where
+pub record IsStored {N E : Type 0} (nodes : List N) (links : List (Link E))
+    (forward reverse : LinkLists) : Type 0 where
   pub graph : IsGraph (let g : GraphValue N E = record { nodes = nodes; links = links } in g)
   pub forward_is : ListsAre Forward (length nodes) links forward.bounds.items forward.numbers.items
   pub reverse_is : ListsAre Reverse (length nodes) links reverse.bounds.items reverse.numbers.items

@@ -10,7 +10,8 @@ pub struct RefusesOnce {
 }
 
 impl PackageLinkVisitor for RefusesOnce {
-    ghost visits = { λ s _ _ answer t. s.has_refused ≡ true → (answer ≡ true) × (t.has_refused ≡ true) };
+    ghost visits = { λ s _ _ answer t. s.has_refused ≡ true → (answer ≡ true)
+        × (t.has_refused ≡ true) };
 
     fn visit_link(&mut self, _cx: &PackageLinkContext<'_>, link: PackageLink<'_>) -> bool {
         if self.has_refused || link.to().name() != "d" {

@@ -34,7 +34,8 @@ impl<'g> PackageMetadata<'g> {
 
     /// The names of the named features, in the order of the record.
     pub fn named_features(self) -> NamedFeatures<'g>
-        ensures { OfPackage self.entry (λ r. names_left result ≡ map string_bytes (keys r.named_features)) }
+        ensures { OfPackage self.entry
+            (λ r. names_left result ≡ map string_bytes (keys r.named_features)) }
     {
         NamedFeatures {
             rest: self.record().named_features.keys(),
@@ -44,7 +45,9 @@ impl<'g> PackageMetadata<'g> {
     /// The named features in the order of the record, each with its place, its name and what it
     /// switches on.
     pub fn named_features_full(self) -> NamedFeaturesFull<'g>
-        ensures { OfPackage self.entry (λ r. features_left result ≡ map numbered_feature (enumerate_from 0 r.named_features.entries)) }
+        ensures { OfPackage self.entry
+            (λ r. features_left result ≡ map numbered_feature
+            (enumerate_from 0 r.named_features.entries)) }
     {
         NamedFeaturesFull {
             place: 0,
@@ -54,7 +57,8 @@ impl<'g> PackageMetadata<'g> {
 
     /// The optional dependencies in the order of the record, each with its place and its name.
     pub fn optional_deps_full(self) -> OptionalDepsFull<'g>
-        ensures { OfPackage self.entry (λ r. deps_left result ≡ map numbered_dep (enumerate_from 0 r.optional_deps.keys)) }
+        ensures { OfPackage self.entry
+            (λ r. deps_left result ≡ map numbered_dep (enumerate_from 0 r.optional_deps.keys)) }
     {
         OptionalDepsFull {
             place: 0,

@@ -61,7 +61,8 @@ impl<'g> PackageMetadata<'g> {
         ensures known { OnOk result (IsKnown (graph_packages self.entry) other_id.now) }
         ensures found { IfOk result (IsLinkBetween self.entry direction other_id.now) }
         ensures answered { IsKnown (graph_packages self.entry) other_id.now → IsOk result }
-        ensures unknown { IfErr result (NamesId (IsFirstUnknown (graph_packages self.entry) (other_id.now ∷ []))) }
+        ensures unknown { IfErr result
+            (NamesId (IsFirstUnknown (graph_packages self.entry) (other_id.now ∷ []))) }
     {
         let other = self.graph.ix_of(other_id)?;
         match self.number_between(other, direction) {
@@ -76,8 +77,11 @@ impl<'g> PackageMetadata<'g> {
     // The number of the link between this package and the other, as `link_between` says.
     fn number_between(self, other: PackageIx, direction: DependencyDirection) -> Option<usize>
         requires { ix_position other < length (graph_packages self) }
-        ensures { MatchOption result ((n : ℕ) → ¬ IsLinkFrom (graph_of self.entry).now direction (package_position self.entry) (ix_position other) n)
-            (IsLinkFrom (graph_of self.entry).now direction (package_position self.entry) (ix_position other)) }
+        ensures { MatchOption result
+            ((n : ℕ) → ¬ IsLinkFrom (graph_of self.entry).now direction
+            (package_position self.entry) (ix_position other) n)
+            (IsLinkFrom (graph_of self.entry).now direction (package_position self.entry)
+            (ix_position other)) }
     {
         let graph = self.graph.graph();
         match direction {
@@ -89,9 +93,11 @@ impl<'g> PackageMetadata<'g> {
     /// The link from this package to the one with the ID, if there is one: `link_between` Forward.
     pub fn link_to(self, other_id: &PackageId) -> Result<Option<PackageLink<'g>>, Error>
         ensures known { OnOk result (IsKnown (graph_packages self.entry) other_id.now) }
-        ensures found { IfOk result (IsLinkBetween self.entry DependencyDirection.Forward other_id.now) }
+        ensures found { IfOk result (IsLinkBetween self.entry DependencyDirection.Forward
+            other_id.now) }
         ensures answered { IsKnown (graph_packages self.entry) other_id.now → IsOk result }
-        ensures unknown { IfErr result (NamesId (IsFirstUnknown (graph_packages self.entry) (other_id.now ∷ []))) }
+        ensures unknown { IfErr result
+            (NamesId (IsFirstUnknown (graph_packages self.entry) (other_id.now ∷ []))) }
     {
         self.link_between(other_id, DependencyDirection::Forward)
     }
@@ -99,9 +105,11 @@ impl<'g> PackageMetadata<'g> {
     /// The link from the package with the ID to this one, if there is one: `link_between` Reverse.
     pub fn link_from(self, other_id: &PackageId) -> Result<Option<PackageLink<'g>>, Error>
         ensures known { OnOk result (IsKnown (graph_packages self.entry) other_id.now) }
-        ensures found { IfOk result (IsLinkBetween self.entry DependencyDirection.Reverse other_id.now) }
+        ensures found { IfOk result (IsLinkBetween self.entry DependencyDirection.Reverse
+            other_id.now) }
         ensures answered { IsKnown (graph_packages self.entry) other_id.now → IsOk result }
-        ensures unknown { IfErr result (NamesId (IsFirstUnknown (graph_packages self.entry) (other_id.now ∷ []))) }
+        ensures unknown { IfErr result
+            (NamesId (IsFirstUnknown (graph_packages self.entry) (other_id.now ∷ []))) }
     {
         self.link_between(other_id, DependencyDirection::Reverse)
     }

@@ -29,7 +29,8 @@ impl<'g> PackageMetadata<'g> {
 
     /// The build targets, each once, strictly ascending by ID. Takes no memory and constant time.
     pub fn build_targets(self) -> BuildTargets<'g>
-        ensures { OfPackage self.entry (λ r. AreTargetsById r.build_targets.items (targets_left result)) }
+        ensures { OfPackage self.entry
+            (λ r. AreTargetsById r.build_targets.items (targets_left result)) }
     {
         BuildTargets {
             targets: self.graph.targets_of(self.position),
@@ -54,7 +55,8 @@ impl<'g> PackageMetadata<'g> {
 }
 
 fn is_macro_library(target: &BuildTargetRecord) -> bool
-    ensures { IsTrue result ↔ ((recorded_id target.now.id ≡ Library) × (recorded_kind target.now.kind ≡ ProcMacro)) }
+    ensures { IsTrue result ↔ ((recorded_id target.now.id ≡ Library)
+        × (recorded_kind target.now.kind ≡ ProcMacro)) }
 {
     matches!(target.id, OwnedBuildTargetId::Library)
         && matches!(target.kind, BuildTargetKindRecord::ProcMacro)

@@ -28,7 +28,8 @@ impl<'g> Model for DependsCache<'g> {
     // The graph that is asked about.
     ghost Value = { GraphData };
 
-    ghost coded = { Prim.hlevel (codes, of_package.the_row.coded, of_link.the_row.coded, of_workspace.the_row.coded) };
+    ghost coded = { Prim.hlevel
+        (codes, of_package.the_row.coded, of_link.the_row.coded, of_workspace.the_row.coded) };
 
     ghost view = { λ c. c.graph.now };
 
@@ -55,10 +56,13 @@ impl<'g> DependsCache<'g> {
     /// packages and links. Takes memory only for that error's copy of the ID.
     pub fn depends_on(&mut self, a: &PackageId, b: &PackageId) -> Result<bool, Error>
         ensures graph { self.new ≡ self.old }
-        ensures known { OnOk result (IsKnown self.old.packages a.now × IsKnown self.old.packages b.now) }
+        ensures known { OnOk result (IsKnown self.old.packages a.now
+            × IsKnown self.old.packages b.now) }
         ensures answer { IfOk result (λ depends. IsTrue depends ↔ DependsOn self.old a.now b.now) }
-        ensures answered { IsKnown self.old.packages a.now → IsKnown self.old.packages b.now → IsOk result }
-        ensures unknown { IfErr result (NamesId (IsFirstUnknown self.old.packages (a.now ∷ b.now ∷ []))) }
+        ensures answered { IsKnown self.old.packages a.now → IsKnown self.old.packages b.now
+            → IsOk result }
+        ensures unknown { IfErr result
+            (NamesId (IsFirstUnknown self.old.packages (a.now ∷ b.now ∷ []))) }
     {
         let (from, to) = self.graph.pair_of(a, b)?;
         let forward = DependencyDirection::Forward;

@@ -30,7 +30,8 @@ impl Model for PackageGraph {
 
     ghost Value = { GraphData };
 
-    ghost coded = { Prim.hlevel (codes, of_package.the_row.coded, of_link.the_row.coded, of_workspace.the_row.coded) };
+    ghost coded = { Prim.hlevel
+        (codes, of_package.the_row.coded, of_link.the_row.coded, of_workspace.the_row.coded) };
 
     ghost view = { λ g. g.records };
 }
@@ -127,7 +128,8 @@ impl PackageGraph {
     /// `UnknownPackageId` tells an ID that is no package's. Time grows with the logarithm of the
     /// packages. Takes memory only for that error's copy of the ID.
     pub fn metadata(&self, id: &PackageId) -> Result<PackageMetadata<'_>, Error>
-        ensures found { IfOk result (λ m. (graph_of m ≡ self.entry) × HasId self.now.packages id.now (package_position m)) }
+        ensures found { IfOk result (λ m. (graph_of m ≡ self.entry)
+            × HasId self.now.packages id.now (package_position m)) }
         ensures known { IsKnown self.now.packages id.now → IsOk result }
         ensures unknown { IfErr result (NamesId (IsFirstUnknown self.now.packages (id.now ∷ []))) }
     {
@@ -144,9 +146,11 @@ impl PackageGraph {
     /// `UnknownPackageId` tells the first of the two IDs that is no package's. Time grows with
     /// packages and links. Takes memory for a number and two bits a package.
     pub fn depends_on(&self, a: &PackageId, b: &PackageId) -> Result<bool, Error>
-        ensures known { OnOk result (IsKnown self.now.packages a.now × IsKnown self.now.packages b.now) }
+        ensures known { OnOk result (IsKnown self.now.packages a.now
+            × IsKnown self.now.packages b.now) }
         ensures answer { IfOk result (λ depends. IsTrue depends ↔ DependsOn self.now a.now b.now) }
-        ensures unknown { IfErr result (NamesId (IsFirstUnknown self.now.packages (a.now ∷ b.now ∷ []))) }
+        ensures unknown { IfErr result
+            (NamesId (IsFirstUnknown self.now.packages (a.now ∷ b.now ∷ []))) }
     {
         self.records.depends_on(a, b)
     }
@@ -158,10 +162,14 @@ impl PackageGraph {
     /// logarithm of the packages, and with the links that leave the first package. Takes memory only
     /// for that error's copy of the ID.
     pub fn directly_depends_on(&self, a: &PackageId, b: &PackageId) -> Result<bool, Error>
-        ensures known { OnOk result (IsKnown self.now.packages a.now × IsKnown self.now.packages b.now) }
-        ensures answer { IfOk result (λ depends. IsTrue depends ↔ DirectlyDependsOn self.now a.now b.now) }
-        ensures answered { IsKnown self.now.packages a.now → IsKnown self.now.packages b.now → IsOk result }
-        ensures unknown { IfErr result (NamesId (IsFirstUnknown self.now.packages (a.now ∷ b.now ∷ []))) }
+        ensures known { OnOk result (IsKnown self.now.packages a.now
+            × IsKnown self.now.packages b.now) }
+        ensures answer { IfOk result
+            (λ depends. IsTrue depends ↔ DirectlyDependsOn self.now a.now b.now) }
+        ensures answered { IsKnown self.now.packages a.now → IsKnown self.now.packages b.now
+            → IsOk result }
+        ensures unknown { IfErr result
+            (NamesId (IsFirstUnknown self.now.packages (a.now ∷ b.now ∷ []))) }
     {
         self.records.directly_depends_on(a, b)
     }
@@ -182,7 +190,9 @@ impl PackageGraph {
     /// Time grows with build targets, links, and the comparators of their requirements. Takes no memory.
     pub fn verify(&self) -> Result<(), Error>
         ensures verified { IsOk result ↔ IsVerified self.now }
-        ensures fault { IfErr result (λ e. (fault : VerifyFault) × (e ≡ Error.PackageGraphInternalError fault) × IsFirstVerifyFault self.now fault) }
+        ensures fault { IfErr result
+            (λ e. (fault : VerifyFault) × (e ≡ Error.PackageGraphInternalError fault)
+            × IsFirstVerifyFault self.now fault) }
     {
         self.records.verify()
     }

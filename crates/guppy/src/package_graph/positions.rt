@@ -35,7 +35,8 @@ impl PackageGraph {
     pub(crate) fn have_cycle(&self, from: PackageIx, to: PackageIx) -> bool
         requires first { ix_position from < length self.now.packages }
         requires second { ix_position to < length self.now.packages }
-        ensures { IsTrue result ↔ HaveCycle (LinkStep DependencyDirection.Forward self.now.links) (ix_position from) (ix_position to) }
+        ensures { IsTrue result ↔ HaveCycle (LinkStep DependencyDirection.Forward self.now.links)
+            (ix_position from) (ix_position to) }
     {
         self.records.have_cycle(from, to)
     }
@@ -51,7 +52,8 @@ impl PackageGraph {
     /// The places of the build targets of the package at the position, in the order of their IDs.
     pub(crate) fn targets_by_id(&self, position: usize) -> &[usize]
         requires { position < length self.now.packages }
-        ensures { IsSomeAnd (slice_get self.now.packages position) (λ r. IsTargetIndex r.build_targets.items result.now) }
+        ensures { IsSomeAnd (slice_get self.now.packages position)
+            (λ r. IsTargetIndex r.build_targets.items result.now) }
     {
         self.records.targets_by_id(position)
     }
@@ -59,7 +61,8 @@ impl PackageGraph {
     /// The build targets of the package at the position: each has its name, and no two have one ID.
     pub(crate) fn targets_of(&self, position: usize) -> &[BuildTargetRecord]
         requires { position < length self.now.packages }
-        ensures targets { IsSomeAnd (slice_get self.now.packages position) (λ r. result.now ≡ r.build_targets.items) }
+        ensures targets { IsSomeAnd (slice_get self.now.packages position)
+            (λ r. result.now ≡ r.build_targets.items) }
         ensures named { All IsNamed result.now }
         ensures distinct { DifferBelow (HasTarget result.now) (length result.now) }
     {
@@ -95,7 +98,8 @@ impl PackageGraph {
     /// The position of the package with the ID, if there is one. Time grows with the logarithm of the
     /// packages. Takes no memory.
     pub(crate) fn find_ix(&self, id: &PackageId) -> Option<PackageIx>
-        ensures found { MatchOption result (IsKnown self.now.packages id.now → ⊥) (λ ix. HasId self.now.packages id.now (ix_position ix)) }
+        ensures found { MatchOption result (IsKnown self.now.packages id.now → ⊥)
+            (λ ix. HasId self.now.packages id.now (ix_position ix)) }
         ensures graph { IsPackageGraph self.now }
     {
         self.records.find_ix(id)
@@ -119,8 +123,10 @@ impl PackageGraph {
     ) -> Result<(PackageIx, PackageIx), Error>
         ensures first { IfOk result (λ pair. HasId self.now.packages a.now (ix_position pair.0)) }
         ensures second { IfOk result (λ pair. HasId self.now.packages b.now (ix_position pair.1)) }
-        ensures known { IsKnown self.now.packages a.now → IsKnown self.now.packages b.now → IsOk result }
-        ensures unknown { IfErr result (NamesId (IsFirstUnknown self.now.packages (a.now ∷ b.now ∷ []))) }
+        ensures known { IsKnown self.now.packages a.now → IsKnown self.now.packages b.now
+            → IsOk result }
+        ensures unknown { IfErr result
+            (NamesId (IsFirstUnknown self.now.packages (a.now ∷ b.now ∷ []))) }
         ensures graph { IsPackageGraph self.now }
     {
         self.records.pair_of(a, b)
@@ -129,7 +135,8 @@ impl PackageGraph {
     /// The position of the package with the ID. Time grows with the logarithm of the packages. Takes
     /// no memory.
     pub(crate) fn position_of_id(&self, id: &PackageId) -> Option<usize>
-        ensures { MatchOption result (¬ IsKnown self.now.packages id.now) (HasId self.now.packages id.now) }
+        ensures { MatchOption result (¬ IsKnown self.now.packages id.now)
+            (HasId self.now.packages id.now) }
     {
         self.records.position_of_id(id)
     }
@@ -159,7 +166,8 @@ impl PackageGraph {
     /// The position of the workspace member with the path. Time grows with the logarithm of the
     /// members. Takes no memory.
     pub(crate) fn position_of_path(&self, path: Utf8Path<'_>) -> Option<usize>
-        ensures { MatchOption result (¬ IsMemberPath self.now.packages (path_text path.entry)) (HasPath self.now.packages (path_text path.entry)) }
+        ensures { MatchOption result (¬ IsMemberPath self.now.packages (path_text path.entry))
+            (HasPath self.now.packages (path_text path.entry)) }
     {
         self.records.position_of_path(path)
     }
@@ -167,7 +175,8 @@ impl PackageGraph {
     /// The position of the workspace member with the name. Time grows with the logarithm of the
     /// members. Takes no memory.
     pub(crate) fn position_of_name(&self, name: &str) -> Option<usize>
-        ensures { MatchOption result (¬ IsMemberName self.now.packages name.now) (HasName self.now.packages name.now) }
+        ensures { MatchOption result (¬ IsMemberName self.now.packages name.now)
+            (HasName self.now.packages name.now) }
     {
         self.records.position_of_name(name)
     }

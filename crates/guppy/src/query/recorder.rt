@@ -39,7 +39,8 @@ impl<V: PackageLinkVisitor> PackageLinkVisitor for Recorder<V> {
 
     ghost visits = { λ s q l b t. V.visits s.visitor q l b t.visitor
         × (vec_capacity t.entries ≡ vec_capacity s.entries)
-        × (length s.entries.items < vec_capacity s.entries → t.entries.items ≡ s.entries.items ++ (l.number, b) ∷ [])
+        × (length s.entries.items < vec_capacity s.entries
+        → t.entries.items ≡ s.entries.items ++ (l.number, b) ∷ [])
         × (vec_capacity s.entries ≤ length s.entries.items → t.entries.items ≡ s.entries.items) };
 
     ghost place = { λ s. V.place s.visitor };
@@ -67,12 +68,15 @@ impl<'g> PackageQuery<'g> {
         self,
         visitor: V,
     ) -> Result<(PackageSet<'g>, Recorder<V>), Error>
-        requires ready { (n : ℕ) → n < length self.graph.links → MayVisitAt V.can_visit self visitor n }
+        requires ready { (n : ℕ) → n < length self.graph.links
+            → MayVisitAt V.can_visit self visitor n }
         ensures graph { IfOk result (λ r. r.0.graph ≡ self.entry.graph) }
         ensures count { IfOk result (λ r. length r.0.included ≡ length self.entry.graph.packages) }
         ensures judged { IfOk result (λ r.
-            JudgesResolve self.entry.direction self.entry.graph.links self.entry.initials r.1.entries.items r.0.included) }
-        ensures visits { IfOk result (λ r. Visits (VisitsAt V.visits self.entry) visitor r.1.entries.items r.1.visitor) }
+            JudgesResolve self.entry.direction self.entry.graph.links self.entry.initials
+            r.1.entries.items r.0.included) }
+        ensures visits { IfOk result
+            (λ r. Visits (VisitsAt V.visits self.entry) visitor r.1.entries.items r.1.visitor) }
         ensures error { IsOkUnless result Error.OutOfMemory }
     {
         let graph = self.graph();

@@ -23,12 +23,15 @@ impl<V: PackageLinkVisitor> LinkVisitor for Asking<'_, '_, '_, V> {
     ghost use Rattle.std.specs.Prelude.{◌≡◌, ℕ, ◌<◌, ◌∷◌, length};
     ghost use Rattle.guppy.specs.Visitors.{VisitsAt, MayVisitAt};
 
-    ghost visits = { λ s n b t. VisitsAt V.visits s.context.now s.visitor.now n b t.visitor.now × (t.context ≡ s.context)
-        × ((m : ℕ) → (m ≡ n → ⊥) → MayVisitAt V.can_visit s.context.now s.visitor.now m → MayVisitAt V.can_visit s.context.now t.visitor.now m) };
+    ghost visits = { λ s n b t. VisitsAt V.visits s.context.now s.visitor.now n b t.visitor.now
+        × (t.context ≡ s.context)
+        × ((m : ℕ) → (m ≡ n → ⊥) → MayVisitAt V.can_visit s.context.now s.visitor.now m
+        → MayVisitAt V.can_visit s.context.now t.visitor.now m) };
 
     ghost place = { λ s. s.visitor.ghost_name ∷ V.place s.visitor.now };
 
-    ghost can_visit = { λ s n. (n < length s.context.now.graph.links) × MayVisitAt V.can_visit s.context.now s.visitor.now n };
+    ghost can_visit = { λ s n. (n < length s.context.now.graph.links)
+        × MayVisitAt V.can_visit s.context.now s.visitor.now n };
 
     fn visit(&mut self, link: usize) -> bool {
         let context = self.context;
@@ -49,11 +52,13 @@ impl<'g, F: FnMut(&PackageLinkContext<'g>, PackageLink<'g>) -> bool> LinkVisitor
     ghost use Rattle.std.specs.Prelude.{◌≡◌, ◌<◌, ◌∷◌, [], length};
     ghost use Rattle.guppy.specs.Visitors.{CallsAt, MayCallAt};
 
-    ghost visits = { λ s n b t. CallsAt F.step s.context.now s.ask.now n b t.ask.now × (t.context ≡ s.context) };
+    ghost visits = { λ s n b t. CallsAt F.step s.context.now s.ask.now n b t.ask.now
+        × (t.context ≡ s.context) };
 
     ghost place = { λ s. s.ask.ghost_name ∷ [] };
 
-    ghost can_visit = { λ s n. (n < length s.context.now.graph.links) × MayCallAt F.pre s.context.now s.ask.now n };
+    ghost can_visit = { λ s n. (n < length s.context.now.graph.links)
+        × MayCallAt F.pre s.context.now s.ask.now n };
 
     fn visit(&mut self, link: usize) -> bool {
         let context = self.context;
@@ -82,11 +87,15 @@ impl<'g> PackageQuery<'g> {
     /// and a bit a package, and fails, with `OutOfMemory`, only where there is none.
     pub fn resolve(self) -> Result<PackageSet<'g>, Error>
         ensures graph { IfOk result (λ set. set.graph ≡ self.entry.graph) }
-        ensures count { IfOk result (λ set. length set.included ≡ length self.entry.graph.packages) }
+        ensures count { IfOk result (λ set. length set.included
+            ≡ length self.entry.graph.packages) }
         ensures judged { IfOk result (λ set. (trace : List (ℕ × Bool))
-            × JudgesResolve self.entry.direction self.entry.graph.links self.entry.initials trace set.included × AcceptsAll trace) }
+            × JudgesResolve self.entry.direction self.entry.graph.links self.entry.initials trace
+            set.included × AcceptsAll trace) }
         ensures reached { IfOk result (λ set. (p : ℕ)
-            → IsIn set.included p ↔ ReachedFrom (LinkStep self.entry.direction self.entry.graph.links) (IsIn self.entry.initials) p) }
+            → IsIn set.included p ↔ ReachedFrom
+            (LinkStep self.entry.direction self.entry.graph.links)
+            (IsIn self.entry.initials) p) }
         ensures error { IsOkUnless result Error.OutOfMemory }
     {
         let graph = self.graph();
@@ -108,11 +117,14 @@ impl<'g> PackageQuery<'g> {
         self,
         mut visitor: V,
     ) -> Result<PackageSet<'g>, Error>
-        requires ready { (n : ℕ) → n < length self.graph.links → MayVisitAt V.can_visit self visitor n }
+        requires ready { (n : ℕ) → n < length self.graph.links
+            → MayVisitAt V.can_visit self visitor n }
         ensures graph { IfOk result (λ set. set.graph ≡ self.entry.graph) }
-        ensures count { IfOk result (λ set. length set.included ≡ length self.entry.graph.packages) }
+        ensures count { IfOk result (λ set. length set.included
+            ≡ length self.entry.graph.packages) }
         ensures judged { IfOk result (λ set. (trace : List (ℕ × Bool)) × (last : V)
-            × JudgesResolve self.entry.direction self.entry.graph.links self.entry.initials trace set.included
+            × JudgesResolve self.entry.direction self.entry.graph.links self.entry.initials trace
+            set.included
             × Visits (VisitsAt V.visits self.entry) visitor trace last) }
         ensures error { IsOkUnless result Error.OutOfMemory }
     {
@@ -126,11 +138,14 @@ impl<'g> PackageQuery<'g> {
         self,
         visitor: &mut V,
     ) -> Result<PackageSet<'g>, Error>
-        requires ready { (n : ℕ) → n < length self.graph.links → MayVisitAt V.can_visit self visitor.old n }
+        requires ready { (n : ℕ) → n < length self.graph.links
+            → MayVisitAt V.can_visit self visitor.old n }
         ensures graph { IfOk result (λ set. set.graph ≡ self.entry.graph) }
-        ensures count { IfOk result (λ set. length set.included ≡ length self.entry.graph.packages) }
+        ensures count { IfOk result (λ set. length set.included
+            ≡ length self.entry.graph.packages) }
         ensures judged { IfOk result (λ set. (trace : List (ℕ × Bool))
-            × JudgesResolve self.entry.direction self.entry.graph.links self.entry.initials trace set.included
+            × JudgesResolve self.entry.direction self.entry.graph.links self.entry.initials trace
+            set.included
             × Visits (VisitsAt V.visits self.entry) visitor.old trace visitor.new) }
         ensures same_place { V.place visitor.new ≡ V.place visitor.old }
         ensures not_begun { OnErr result (visitor.new ≡ visitor.old) }
@@ -152,11 +167,14 @@ impl<'g> PackageQuery<'g> {
         self,
         mut ask: F,
     ) -> Result<PackageSet<'g>, Error>
-        requires callable { IsCallableBelow (MayCallAt F.pre self) (CallsAt F.step self) (length self.graph.links) ask }
+        requires callable { IsCallableBelow (MayCallAt F.pre self) (CallsAt F.step self)
+            (length self.graph.links) ask }
         ensures graph { IfOk result (λ set. set.graph ≡ self.entry.graph) }
-        ensures count { IfOk result (λ set. length set.included ≡ length self.entry.graph.packages) }
+        ensures count { IfOk result (λ set. length set.included
+            ≡ length self.entry.graph.packages) }
         ensures judged { IfOk result (λ set. (trace : List (ℕ × Bool)) × (last : F)
-            × JudgesResolve self.entry.direction self.entry.graph.links self.entry.initials trace set.included
+            × JudgesResolve self.entry.direction self.entry.graph.links self.entry.initials trace
+            set.included
             × Visits (CallsAt F.step self.entry) ask trace last) }
         ensures error { IsOkUnless result Error.OutOfMemory }
     {
@@ -170,11 +188,14 @@ impl<'g> PackageQuery<'g> {
         self,
         ask: &mut F,
     ) -> Result<PackageSet<'g>, Error>
-        requires callable { IsCallableBelow (MayCallAt F.pre self) (CallsAt F.step self) (length self.graph.links) ask.old }
+        requires callable { IsCallableBelow (MayCallAt F.pre self) (CallsAt F.step self)
+            (length self.graph.links) ask.old }
         ensures graph { IfOk result (λ set. set.graph ≡ self.entry.graph) }
-        ensures count { IfOk result (λ set. length set.included ≡ length self.entry.graph.packages) }
+        ensures count { IfOk result (λ set. length set.included
+            ≡ length self.entry.graph.packages) }
         ensures judged { IfOk result (λ set. (trace : List (ℕ × Bool))
-            × JudgesResolve self.entry.direction self.entry.graph.links self.entry.initials trace set.included
+            × JudgesResolve self.entry.direction self.entry.graph.links self.entry.initials trace
+            set.included
             × Visits (CallsAt F.step self.entry) ask.old trace ask.new) }
         ensures not_called { OnErr result (ask.new ≡ ask.old) }
         ensures error { IsOkUnless result Error.OutOfMemory }
@@ -195,11 +216,13 @@ fn resolve_by_number<'g, V: LinkVisitor>(
     context: &PackageLinkContext<'g>,
     visitor: &mut V,
 ) -> Result<PackageSet<'g>, Error>
-    requires ready { IsCallableBelow V.can_visit V.visits (length context.now.graph.links) visitor.old }
+    requires ready { IsCallableBelow V.can_visit V.visits
+        (length context.now.graph.links) visitor.old }
     ensures graph { IfOk result (λ set. set.graph ≡ context.now.graph) }
     ensures count { IfOk result (λ set. length set.included ≡ length context.now.graph.packages) }
     ensures judged { IfOk result (λ set. (trace : List (ℕ × Bool))
-        × JudgesResolve context.now.direction context.now.graph.links context.now.initials trace set.included
+        × JudgesResolve context.now.direction context.now.graph.links context.now.initials trace
+        set.included
         × Visits V.visits visitor.old trace visitor.new) }
     ensures same_place { V.place visitor.new ≡ V.place visitor.old }
     ensures not_begun { OnErr result (visitor.new ≡ visitor.old) }

@@ -31,7 +31,8 @@ impl PackageGraph {
         ensures direction { IfOk result (λ q. q.direction ≡ direction) }
         ensures initials { IfOk result (λ q. (named : List _) × Drains I.next_gives ids named
             × IsNamedSet self.now.packages (map (λ id. id.now) named) q.initials) }
-        ensures unknown { IfErr result (NamesId (λ id. (named : List _) × (rest : I) × Yields I.next_gives ids named rest
+        ensures unknown { IfErr result
+            (NamesId (λ id. (named : List _) × (rest : I) × Yields I.next_gives ids named rest
             × EndsInUnknown self.now.packages (map (λ id. id.now) named) id)) }
     {
         let initials = self.resolve_ids(ids)?;
@@ -57,7 +58,8 @@ impl PackageGraph {
         ensures direction { IfOk result (λ q. q.direction ≡ DependencyDirection.Forward) }
         ensures initials { IfOk result (λ q. (named : List _) × Drains I.next_gives ids named
             × IsNamedSet self.now.packages (map (λ id. id.now) named) q.initials) }
-        ensures unknown { IfErr result (NamesId (λ id. (named : List _) × (rest : I) × Yields I.next_gives ids named rest
+        ensures unknown { IfErr result
+            (NamesId (λ id. (named : List _) × (rest : I) × Yields I.next_gives ids named rest
             × EndsInUnknown self.now.packages (map (λ id. id.now) named) id)) }
     {
         self.query_directed(ids, DependencyDirection::Forward)
@@ -79,7 +81,8 @@ impl PackageGraph {
         ensures direction { IfOk result (λ q. q.direction ≡ DependencyDirection.Reverse) }
         ensures initials { IfOk result (λ q. (named : List _) × Drains I.next_gives ids named
             × IsNamedSet self.now.packages (map (λ id. id.now) named) q.initials) }
-        ensures unknown { IfErr result (NamesId (λ id. (named : List _) × (rest : I) × Yields I.next_gives ids named rest
+        ensures unknown { IfErr result
+            (NamesId (λ id. (named : List _) × (rest : I) × Yields I.next_gives ids named rest
             × EndsInUnknown self.now.packages (map (λ id. id.now) named) id)) }
     {
         self.query_directed(ids, DependencyDirection::Reverse)
@@ -93,7 +96,8 @@ impl PackageGraph {
     pub fn query_workspace(&self) -> Result<PackageQuery<'_>, Error>
         ensures graph { IfOk result (λ q. q.graph ≡ self.now) }
         ensures direction { IfOk result (λ q. q.direction ≡ DependencyDirection.Forward) }
-        ensures initials { IfOk result (λ q. IsSetWhere self.now.packages (IsMember self.now.packages) q.initials) }
+        ensures initials { IfOk result
+            (λ q. IsSetWhere self.now.packages (IsMember self.now.packages) q.initials) }
         ensures error { IsOkUnless result Error.OutOfMemory }
     {
         let initials = self.resolve_workspace()?;
@@ -115,8 +119,10 @@ impl PackageGraph {
         ensures graph { IfOk result (λ q. q.graph ≡ self.now) }
         ensures direction { IfOk result (λ q. q.direction ≡ DependencyDirection.Forward) }
         ensures initials { IfOk result (λ q. (asked : List _) × Drains I.next_gives paths asked
-            × IsSetNamed (HasPath self.now.packages) self.now.packages (map path_text asked) q.initials) }
-        ensures unknown { IfErr result (NamesPath (λ path. (asked : List _) × (rest : I) × Yields I.next_gives paths asked rest
+            × IsSetNamed (HasPath self.now.packages) self.now.packages
+            (map path_text asked) q.initials) }
+        ensures unknown { IfErr result
+            (NamesPath (λ path. (asked : List _) × (rest : I) × Yields I.next_gives paths asked rest
             × EndsInUnknownPath self.now.packages (map path_text asked) path)) }
     {
         let initials = self.resolve_workspace_paths(paths)?;
@@ -138,8 +144,10 @@ impl PackageGraph {
         ensures graph { IfOk result (λ q. q.graph ≡ self.now) }
         ensures direction { IfOk result (λ q. q.direction ≡ DependencyDirection.Forward) }
         ensures initials { IfOk result (λ q. (asked : List _) × Drains I.next_gives names asked
-            × IsSetNamed (HasName self.now.packages) self.now.packages (map (λ name. name.now) asked) q.initials) }
-        ensures unknown { IfErr result (NamesName (λ name. (asked : List _) × (rest : I) × Yields I.next_gives names asked rest
+            × IsSetNamed (HasName self.now.packages) self.now.packages
+            (map (λ name. name.now) asked) q.initials) }
+        ensures unknown { IfErr result
+            (NamesName (λ name. (asked : List _) × (rest : I) × Yields I.next_gives names asked rest
             × EndsInUnknownName self.now.packages (map (λ name. name.now) asked) name)) }
     {
         let initials = self.resolve_workspace_names(names)?;
@@ -167,7 +175,9 @@ impl<'g> PackageMetadata<'g> {
     pub fn to_package_query(self, direction: DependencyDirection) -> Result<PackageQuery<'g>, Error>
         ensures graph { IfOk result (λ q. q.graph ≡ (graph_of self.entry).now) }
         ensures direction { IfOk result (λ q. q.direction ≡ direction) }
-        ensures initials { IfOk result (λ q. IsSetWhere (graph_packages self.entry) (λ p. p ≡ package_position self.entry) q.initials) }
+        ensures initials { IfOk result
+            (λ q. IsSetWhere (graph_packages self.entry)
+            (λ p. p ≡ package_position self.entry) q.initials) }
         ensures error { IsOkUnless result Error.OutOfMemory }
     {
         let initials = self.to_package_set()?;

@@ -26,7 +26,8 @@ pub trait PackageLinkVisitor {
     fn visit_link(&mut self, cx: &PackageLinkContext<'_>, link: PackageLink<'_>) -> bool
         requires { can_visit self.old cx.now (link_data link) }
         ensures visits { visits self.old cx.now (link_data link.entry) result self.new }
-        ensures others { (l : LinkData) → (l ≡ link_data link.entry → ⊥) → can_visit self.old cx.now l → can_visit self.new cx.now l }
+        ensures others { (l : LinkData) → (l ≡ link_data link.entry → ⊥)
+            → can_visit self.old cx.now l → can_visit self.new cx.now l }
         ensures same_place { place self.new ≡ place self.old };
 }
 

@@ -48,7 +48,8 @@ impl<'g> PackageSet<'g> {
     ///
     /// Time grows with the packages and the lengths of their IDs. Takes no memory.
     pub fn same_packages(&self, other: &PackageSet<'_>) -> bool
-        ensures { IsTrue result ↔ (ids_of self.now.graph.packages ≡ ids_of other.now.graph.packages) }
+        ensures { IsTrue result ↔ (ids_of self.now.graph.packages
+            ≡ ids_of other.now.graph.packages) }
     {
         self.graph.same_packages(other.graph)
     }

@@ -34,7 +34,8 @@ impl<'g> PackageSet<'g> {
         direction: DependencyDirection,
         mut callback: F,
     ) -> Result<PackageSet<'g>, Error>
-        requires callable { IsAskable F.pre F.step self.now.graph (positions_listed direction self.now) callback }
+        requires callable { IsAskable F.pre F.step self.now.graph
+            (positions_listed direction self.now) callback }
         ensures graph { IfOk result (λ set. set.graph ≡ self.now.graph) }
         ensures count { IfOk result (λ set. length set.included ≡ length self.now.graph.packages) }
         ensures asked { IfOk result (λ set. (answers : List (ℕ × Bool)) × (last : F)
@@ -54,7 +55,8 @@ impl<'g> PackageSet<'g> {
         direction: DependencyDirection,
         callback: &mut F,
     ) -> Result<PackageSet<'g>, Error>
-        requires callable { IsAskable F.pre F.step self.now.graph (positions_listed direction self.now) callback.old }
+        requires callable { IsAskable F.pre F.step self.now.graph
+            (positions_listed direction self.now) callback.old }
         ensures graph { IfOk result (λ set. set.graph ≡ self.now.graph) }
         ensures count { IfOk result (λ set. length set.included ≡ length self.now.graph.packages) }
         ensures asked { IfOk result (λ set. (answers : List (ℕ × Bool))
@@ -86,16 +88,21 @@ impl<'g> PackageSet<'g> {
         direction: DependencyDirection,
         mut callback: F,
     ) -> Result<(PackageSet<'g>, PackageSet<'g>), Error>
-        requires callable { IsAskable F.pre F.step self.now.graph (positions_listed direction self.now) callback }
+        requires callable { IsAskable F.pre F.step self.now.graph
+            (positions_listed direction self.now) callback }
         ensures first_graph { IfOk result (λ halves. halves.0.graph ≡ self.now.graph) }
         ensures second_graph { IfOk result (λ halves. halves.1.graph ≡ self.now.graph) }
-        ensures first_count { IfOk result (λ halves. length halves.0.included ≡ length self.now.graph.packages) }
-        ensures second_count { IfOk result (λ halves. length halves.1.included ≡ length self.now.graph.packages) }
+        ensures first_count { IfOk result
+            (λ halves. length halves.0.included ≡ length self.now.graph.packages) }
+        ensures second_count { IfOk result
+            (λ halves. length halves.1.included ≡ length self.now.graph.packages) }
         ensures asked { IfOk result (λ halves. (answers : List (ℕ × Bool)) × (last : F)
             × (asked_about answers ≡ positions_listed direction self.now)
             × Answers F.step self.now.graph callback answers last
-            × AreAnswered answers true halves.0.included × AreAnswered answers false halves.1.included) }
-        ensures halves { IfOk result (λ halves. AreHalves self.now.included halves.0.included halves.1.included) }
+            × AreAnswered answers true halves.0.included
+            × AreAnswered answers false halves.1.included) }
+        ensures halves { IfOk result
+            (λ halves. AreHalves self.now.included halves.0.included halves.1.included) }
         ensures error { IsOkUnless result Error.OutOfMemory }
     {
         let halves = self.partition_mut(direction, &mut callback)?;
@@ -109,16 +116,21 @@ impl<'g> PackageSet<'g> {
         direction: DependencyDirection,
         callback: &mut F,
     ) -> Result<(PackageSet<'g>, PackageSet<'g>), Error>
-        requires callable { IsAskable F.pre F.step self.now.graph (positions_listed direction self.now) callback.old }
+        requires callable { IsAskable F.pre F.step self.now.graph
+            (positions_listed direction self.now) callback.old }
         ensures first_graph { IfOk result (λ halves. halves.0.graph ≡ self.now.graph) }
         ensures second_graph { IfOk result (λ halves. halves.1.graph ≡ self.now.graph) }
-        ensures first_count { IfOk result (λ halves. length halves.0.included ≡ length self.now.graph.packages) }
-        ensures second_count { IfOk result (λ halves. length halves.1.included ≡ length self.now.graph.packages) }
+        ensures first_count { IfOk result
+            (λ halves. length halves.0.included ≡ length self.now.graph.packages) }
+        ensures second_count { IfOk result
+            (λ halves. length halves.1.included ≡ length self.now.graph.packages) }
         ensures asked { IfOk result (λ halves. (answers : List (ℕ × Bool))
             × (asked_about answers ≡ positions_listed direction self.now)
             × Answers F.step self.now.graph callback.old answers callback.new
-            × AreAnswered answers true halves.0.included × AreAnswered answers false halves.1.included) }
-        ensures halves { IfOk result (λ halves. AreHalves self.now.included halves.0.included halves.1.included) }
+            × AreAnswered answers true halves.0.included
+            × AreAnswered answers false halves.1.included) }
+        ensures halves { IfOk result
+            (λ halves. AreHalves self.now.included halves.0.included halves.1.included) }
         ensures not_called { OnErr result (callback.new ≡ callback.old) }
         ensures error { IsOkUnless result Error.OutOfMemory }
     {
@@ -147,15 +159,19 @@ impl<'g> PackageSet<'g> {
         direction: DependencyDirection,
         mut callback: F,
     ) -> Result<(PackageSet<'g>, PackageSet<'g>), Error>
-        requires callable { IsAskable F.pre F.step self.now.graph (positions_listed direction self.now) callback }
+        requires callable { IsAskable F.pre F.step self.now.graph
+            (positions_listed direction self.now) callback }
         ensures first_graph { IfOk result (λ halves. halves.0.graph ≡ self.now.graph) }
         ensures second_graph { IfOk result (λ halves. halves.1.graph ≡ self.now.graph) }
-        ensures first_count { IfOk result (λ halves. length halves.0.included ≡ length self.now.graph.packages) }
-        ensures second_count { IfOk result (λ halves. length halves.1.included ≡ length self.now.graph.packages) }
+        ensures first_count { IfOk result
+            (λ halves. length halves.0.included ≡ length self.now.graph.packages) }
+        ensures second_count { IfOk result
+            (λ halves. length halves.1.included ≡ length self.now.graph.packages) }
         ensures asked { IfOk result (λ halves. (answers : List (ℕ × Option Bool)) × (last : F)
             × (asked_about answers ≡ positions_listed direction self.now)
             × Answers F.step self.now.graph callback answers last
-            × AreAnswered answers (Some true) halves.0.included × AreAnswered answers (Some false) halves.1.included) }
+            × AreAnswered answers (Some true) halves.0.included
+            × AreAnswered answers (Some false) halves.1.included) }
         ensures error { IsOkUnless result Error.OutOfMemory }
     {
         let halves = self.filter_partition_mut(direction, &mut callback)?;
@@ -170,15 +186,19 @@ impl<'g> PackageSet<'g> {
         direction: DependencyDirection,
         callback: &mut F,
     ) -> Result<(PackageSet<'g>, PackageSet<'g>), Error>
-        requires callable { IsAskable F.pre F.step self.now.graph (positions_listed direction self.now) callback.old }
+        requires callable { IsAskable F.pre F.step self.now.graph
+            (positions_listed direction self.now) callback.old }
         ensures first_graph { IfOk result (λ halves. halves.0.graph ≡ self.now.graph) }
         ensures second_graph { IfOk result (λ halves. halves.1.graph ≡ self.now.graph) }
-        ensures first_count { IfOk result (λ halves. length halves.0.included ≡ length self.now.graph.packages) }
-        ensures second_count { IfOk result (λ halves. length halves.1.included ≡ length self.now.graph.packages) }
+        ensures first_count { IfOk result
+            (λ halves. length halves.0.included ≡ length self.now.graph.packages) }
+        ensures second_count { IfOk result
+            (λ halves. length halves.1.included ≡ length self.now.graph.packages) }
         ensures asked { IfOk result (λ halves. (answers : List (ℕ × Option Bool))
             × (asked_about answers ≡ positions_listed direction self.now)
             × Answers F.step self.now.graph callback.old answers callback.new
-            × AreAnswered answers (Some true) halves.0.included × AreAnswered answers (Some false) halves.1.included) }
+            × AreAnswered answers (Some true) halves.0.included
+            × AreAnswered answers (Some false) halves.1.included) }
         ensures not_called { OnErr result (callback.new ≡ callback.old) }
         ensures error { IsOkUnless result Error.OutOfMemory }
     {

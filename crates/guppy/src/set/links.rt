@@ -23,8 +23,10 @@ impl<'g> PackageSet<'g> {
     /// some numbers a package and a link, and fails, with `OutOfMemory`, only where there is none. The
     /// iterator takes none.
     pub fn links(&self, direction: DependencyDirection) -> Result<WalkedLinks<'g>, Error>
-        ensures walked { IfOk result (λ links. AreWalkedLinks direction self.now (walked_left links)) }
-        ensures all { IfOk result (λ links. IsWhole self.now → AreLinksInside self.now (walked_left links)) }
+        ensures walked { IfOk result
+            (λ links. AreWalkedLinks direction self.now (walked_left links)) }
+        ensures all { IfOk result (λ links. IsWhole self.now
+            → AreLinksInside self.now (walked_left links)) }
         ensures error { IsOkUnless result Error.OutOfMemory }
     {
         let graph = self.graph;

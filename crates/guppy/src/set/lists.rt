@@ -14,9 +14,11 @@ impl<'g> PackageSet<'g> {
 
     /// The IDs of the set's packages, listed as `packages` lists them. Takes no memory.
     pub fn package_ids(&self, direction: DependencyDirection) -> ListedPackageIds<'_, 'g>
-        ensures left { listed_ids_left result ≡ ids_at self.now.graph.packages (positions_listed direction self.now) }
+        ensures left { listed_ids_left result
+            ≡ ids_at self.now.graph.packages (positions_listed direction self.now) }
         ensures count { length (listed_ids_left result) ≡ member_count self.now.included }
-        ensures ordered { IsOrdered (length self.now.graph.packages) self.now.graph.links self.now.graph.index self.now.graph.components }
+        ensures ordered { IsOrdered (length self.now.graph.packages) self.now.graph.links
+            self.now.graph.index self.now.graph.components }
     {
         ListedPackageIds {
             packages: self.packages(direction),
@@ -35,10 +37,12 @@ impl<'g> PackageSet<'g> {
     /// Reverse gives that list from its end. Takes no memory.
     pub fn packages(&self, direction: DependencyDirection) -> ListedPackages<'_, 'g>
         ensures left { listed_left result ≡ packages_listed direction self.now }
-        ensures members { (p : ℕ) → Stands (positions_listed direction self.now) p ↔ IsIn self.now.included p }
+        ensures members { (p : ℕ) → Stands (positions_listed direction self.now) p
+            ↔ IsIn self.now.included p }
         ensures once { IsOnce (positions_listed direction self.now) }
         ensures count { length (listed_left result) ≡ member_count self.now.included }
-        ensures ordered { IsOrdered (length self.now.graph.packages) self.now.graph.links self.now.graph.index self.now.graph.components }
+        ensures ordered { IsOrdered (length self.now.graph.packages) self.now.graph.links
+            self.now.graph.index self.now.graph.components }
     {
         ListedPackages {
             graph: self.graph,

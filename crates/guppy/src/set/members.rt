@@ -20,7 +20,8 @@ impl PackageGraph {
     /// fails, with `OutOfMemory`, only where there is none.
     pub fn resolve_workspace(&self) -> Result<PackageSet<'_>, Error>
         ensures graph { IfOk result (λ set. set.graph ≡ self.now) }
-        ensures members { IfOk result (λ set. IsSetWhere self.now.packages (IsMember self.now.packages) set.included) }
+        ensures members { IfOk result
+            (λ set. IsSetWhere self.now.packages (IsMember self.now.packages) set.included) }
         ensures error { IsOkUnless result Error.OutOfMemory }
     {
         let ixs = self.ixs_of_members()?;
@@ -41,8 +42,10 @@ impl PackageGraph {
         requires ends { IsFinite (I.remaining paths) }
         ensures graph { IfOk result (λ set. set.graph ≡ self.now) }
         ensures members { IfOk result (λ set. (asked : List _) × Drains I.next_gives paths asked
-            × IsSetNamed (HasPath self.now.packages) self.now.packages (map path_text asked) set.included) }
-        ensures unknown { IfErr result (NamesPath (λ path. (asked : List _) × (rest : I) × Yields I.next_gives paths asked rest
+            × IsSetNamed (HasPath self.now.packages) self.now.packages
+            (map path_text asked) set.included) }
+        ensures unknown { IfErr result
+            (NamesPath (λ path. (asked : List _) × (rest : I) × Yields I.next_gives paths asked rest
             × EndsInUnknownPath self.now.packages (map path_text asked) path)) }
     {
         let ixs = self.ixs_of_paths(paths)?;
@@ -63,8 +66,10 @@ impl PackageGraph {
         requires ends { IsFinite (I.remaining names) }
         ensures graph { IfOk result (λ set. set.graph ≡ self.now) }
         ensures members { IfOk result (λ set. (asked : List _) × Drains I.next_gives names asked
-            × IsSetNamed (HasName self.now.packages) self.now.packages (map (λ name. name.now) asked) set.included) }
-        ensures unknown { IfErr result (NamesName (λ name. (asked : List _) × (rest : I) × Yields I.next_gives names asked rest
+            × IsSetNamed (HasName self.now.packages) self.now.packages
+            (map (λ name. name.now) asked) set.included) }
+        ensures unknown { IfErr result
+            (NamesName (λ name. (asked : List _) × (rest : I) × Yields I.next_gives names asked rest
             × EndsInUnknownName self.now.packages (map (λ name. name.now) asked) name)) }
     {
         let ixs = self.ixs_of_names(names)?;
@@ -74,7 +79,8 @@ impl PackageGraph {
 
     // The positions of the members.
     fn ixs_of_members(&self) -> Result<Vec<PackageIx>, AllocError>
-        ensures { IfOk result (λ ixs. AreMembersByPath self.now.packages (map ix_position ixs.items)) }
+        ensures { IfOk result (λ ixs. AreMembersByPath self.now.packages
+            (map ix_position ixs.items)) }
     {
         let mut ixs = Vec::new(self.alloc());
         for position in self.members_by_path() {

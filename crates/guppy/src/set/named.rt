@@ -24,7 +24,8 @@ impl PackageGraph {
     /// `OutOfMemory`, only where there is none.
     pub fn resolve_all(&self) -> Result<PackageSet<'_>, Error>
         ensures graph { IfOk result (λ set. set.graph ≡ self.now) }
-        ensures all { IfOk result (λ set. set.included ≡ replicate (length self.now.packages) true) }
+        ensures all { IfOk result (λ set. set.included
+            ≡ replicate (length self.now.packages) true) }
         ensures error { IsOkUnless result Error.OutOfMemory }
     {
         let core = ResolveCore::all_nodes(self.graph())?;
@@ -36,7 +37,8 @@ impl PackageGraph {
     /// Takes memory for a bit a package, and fails, with `OutOfMemory`, only where there is none.
     pub fn resolve_none(&self) -> Result<PackageSet<'_>, Error>
         ensures graph { IfOk result (λ set. set.graph ≡ self.now) }
-        ensures none { IfOk result (λ set. set.included ≡ replicate (length self.now.packages) false) }
+        ensures none { IfOk result (λ set. set.included
+            ≡ replicate (length self.now.packages) false) }
         ensures error { IsOkUnless result Error.OutOfMemory }
     {
         let core = ResolveCore::empty(self.alloc(), self.package_count())?;
@@ -57,7 +59,8 @@ impl PackageGraph {
         ensures graph { IfOk result (λ set. set.graph ≡ self.now) }
         ensures members { IfOk result (λ set. (named : List _) × Drains I.next_gives ids named
             × IsNamedSet self.now.packages (map (λ id. id.now) named) set.included) }
-        ensures unknown { IfErr result (NamesId (λ id. (named : List _) × (rest : I) × Yields I.next_gives ids named rest
+        ensures unknown { IfErr result
+            (NamesId (λ id. (named : List _) × (rest : I) × Yields I.next_gives ids named rest
             × EndsInUnknown self.now.packages (map (λ id. id.now) named) id)) }
     {
         let ixs = self.ixs_of(ids)?;
@@ -71,7 +74,9 @@ impl PackageGraph {
     /// package, and fails, with `OutOfMemory`, only where there is none.
     pub fn resolve_package_name(&self, name: &str) -> Result<PackageSet<'_>, Error>
         ensures graph { IfOk result (λ set. set.graph ≡ self.now) }
-        ensures members { IfOk result (λ set. IsSetWhere self.now.packages (HasPackageName self.now.packages name.now) set.included) }
+        ensures members { IfOk result
+            (λ set. IsSetWhere self.now.packages
+            (HasPackageName self.now.packages name.now) set.included) }
         ensures error { IsOkUnless result Error.OutOfMemory }
     {
         let ixs = self.ixs_with_name(name)?;
@@ -88,7 +93,8 @@ impl PackageGraph {
         requires ends { IsFinite (I.remaining ids) }
         ensures named { IfOk result (λ ixs. (named : List _) × Drains I.next_gives ids named
             × AreNamed self.now.packages (map (λ id. id.now) named) (map ix_position ixs.items)) }
-        ensures unknown { IfErr result (NamesId (λ id. (named : List _) × (rest : I) × Yields I.next_gives ids named rest
+        ensures unknown { IfErr result
+            (NamesId (λ id. (named : List _) × (rest : I) × Yields I.next_gives ids named rest
             × EndsInUnknown self.now.packages (map (λ id. id.now) named) id)) }
     {
         let mut ixs = Vec::new(self.alloc());
@@ -100,7 +106,8 @@ impl PackageGraph {
 
     // The positions of the packages with this name.
     fn ixs_with_name(&self, name: &str) -> Result<Vec<PackageIx>, AllocError>
-        ensures { IfOk result (λ ixs. (p : ℕ) → Contains (map ix_position ixs.items) p ↔ HasPackageName self.now.packages name.now p) }
+        ensures { IfOk result (λ ixs. (p : ℕ) → Contains (map ix_position ixs.items) p
+            ↔ HasPackageName self.now.packages name.now p) }
     {
         let mut found = Vec::new(self.alloc());
         for position in 0..self.package_count() {
@@ -124,7 +131,8 @@ impl PackageGraph {
         requires { All (λ p. p < length self.now.packages) (map ix_position ixs.items) }
         ensures graph { IfOk result (λ set. set.graph ≡ self.now) }
         ensures count { IfOk result (λ set. length set.included ≡ length self.now.packages) }
-        ensures members { IfOk result (λ set. (p : ℕ) → IsIn set.included p ↔ Contains (map ix_position ixs.items) p) }
+        ensures members { IfOk result
+            (λ set. (p : ℕ) → IsIn set.included p ↔ Contains (map ix_position ixs.items) p) }
         ensures error { IsOkUnless result Error.OutOfMemory }
         ensures is_graph { IsPackageGraph self.now }
     {
@@ -142,7 +150,9 @@ impl<'g> PackageMetadata<'g> {
     /// `OutOfMemory`, only where there is none.
     pub fn to_package_set(self) -> Result<PackageSet<'g>, Error>
         ensures graph { IfOk result (λ set. set.graph ≡ (graph_of self.entry).now) }
-        ensures members { IfOk result (λ set. IsSetWhere (graph_packages self.entry) (λ p. p ≡ package_position self.entry) set.included) }
+        ensures members { IfOk result
+            (λ set. IsSetWhere (graph_packages self.entry)
+            (λ p. p ≡ package_position self.entry) set.included) }
         ensures error { IsOkUnless result Error.OutOfMemory }
     {
         let graph = self.graph;

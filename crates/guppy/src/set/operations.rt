@@ -18,7 +18,8 @@ impl<'g> PackageSet<'g> {
         requires same_packages { ids_of self.now.graph.packages ≡ ids_of other.now.graph.packages }
         ensures graph { IfOk result (λ set. set.graph ≡ self.now.graph) }
         ensures count { IfOk result (λ set. length set.included ≡ length self.now.graph.packages) }
-        ensures members { IfOk result (λ set. IsUnion self.now.included other.now.included set.included) }
+        ensures members { IfOk result
+            (λ set. IsUnion self.now.included other.now.included set.included) }
         ensures error { IsOkUnless result Error.OutOfMemory }
     {
         let mut core = self.core.clone()?;
@@ -34,7 +35,8 @@ impl<'g> PackageSet<'g> {
         requires same_packages { ids_of self.now.graph.packages ≡ ids_of other.now.graph.packages }
         ensures graph { IfOk result (λ set. set.graph ≡ self.now.graph) }
         ensures count { IfOk result (λ set. length set.included ≡ length self.now.graph.packages) }
-        ensures members { IfOk result (λ set. IsIntersection self.now.included other.now.included set.included) }
+        ensures members { IfOk result
+            (λ set. IsIntersection self.now.included other.now.included set.included) }
         ensures error { IsOkUnless result Error.OutOfMemory }
     {
         let mut core = self.core.clone()?;
@@ -50,7 +52,8 @@ impl<'g> PackageSet<'g> {
         requires same_packages { ids_of self.now.graph.packages ≡ ids_of other.now.graph.packages }
         ensures graph { IfOk result (λ set. set.graph ≡ self.now.graph) }
         ensures count { IfOk result (λ set. length set.included ≡ length self.now.graph.packages) }
-        ensures members { IfOk result (λ set. IsDifference self.now.included other.now.included set.included) }
+        ensures members { IfOk result
+            (λ set. IsDifference self.now.included other.now.included set.included) }
         ensures error { IsOkUnless result Error.OutOfMemory }
     {
         let core = self.core.difference(&other.core)?;
@@ -65,7 +68,8 @@ impl<'g> PackageSet<'g> {
         requires same_packages { ids_of self.now.graph.packages ≡ ids_of other.now.graph.packages }
         ensures graph { IfOk result (λ set. set.graph ≡ self.now.graph) }
         ensures count { IfOk result (λ set. length set.included ≡ length self.now.graph.packages) }
-        ensures members { IfOk result (λ set. IsSymmetricDifference self.now.included other.now.included set.included) }
+        ensures members { IfOk result
+            (λ set. IsSymmetricDifference self.now.included other.now.included set.included) }
         ensures error { IsOkUnless result Error.OutOfMemory }
     {
         let mut core = self.core.clone()?;

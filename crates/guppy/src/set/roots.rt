@@ -32,7 +32,8 @@ impl<'g> PackageSet<'g> {
     /// byte a component and a number a root, and fails, with `OutOfMemory`, only where there is none.
     /// The iterator takes none.
     pub fn root_packages(&self, direction: DependencyDirection) -> Result<RootPackages<'g>, Error>
-        ensures roots { IfOk result (λ roots. AreRootPackages direction self.now (roots_left roots)) }
+        ensures roots { IfOk result (λ roots. AreRootPackages direction self.now
+            (roots_left roots)) }
         ensures error { IsOkUnless result Error.OutOfMemory }
     {
         let graph = self.graph;
@@ -49,7 +50,8 @@ impl<'g> PackageSet<'g> {
 pub struct RootPackages<'g> {
     graph: &'g PackageGraph,
     rest: vec::IntoIter<PackageIx>,
-    ghost in_graph: { All (λ ix. ix_position ix < length graph.now.packages) (into_iter_items rest) },
+    ghost in_graph: { All (λ ix. ix_position ix < length graph.now.packages)
+        (into_iter_items rest) },
 }
 
 impl<'g> Iterator for RootPackages<'g> {

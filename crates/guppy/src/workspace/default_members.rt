@@ -27,7 +27,9 @@ impl<'g> Workspace<'g> {
     /// its repeats. Takes no memory and constant time, and each item time that grows with the
     /// logarithm of the packages.
     pub fn default_members(self) -> DefaultMembers<'g>
-        ensures { defaults_left result ≡ with_ids (workspace_graph self.entry) (workspace_record self.entry).default_members.items }
+        ensures { defaults_left result
+            ≡ with_ids (workspace_graph self.entry)
+            (workspace_record self.entry).default_members.items }
     {
         DefaultMembers {
             graph: self.graph,

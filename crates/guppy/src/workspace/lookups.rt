@@ -22,9 +22,13 @@ impl<'g> Workspace<'g> {
     /// `UnknownWorkspacePath` tells a path that is no member's. Time grows with the logarithm of the
     /// members. Takes memory only for that error's copy of the path.
     pub fn member_by_path(self, path: Utf8Path<'_>) -> Result<PackageMetadata<'g>, Error>
-        ensures found { IfOk result (λ m. (graph_of m ≡ workspace_graph self.entry) × HasPath (workspace_packages self.entry) (path_text path.entry) (package_position m)) }
-        ensures known { IsMemberPath (workspace_packages self.entry) (path_text path.entry) → IsOk result }
-        ensures unknown { IfErr result (NamesPath (IsFirstUnknownPath (workspace_packages self.entry) (path_text path.entry ∷ []))) }
+        ensures found { IfOk result (λ m. (graph_of m ≡ workspace_graph self.entry)
+            × HasPath (workspace_packages self.entry) (path_text path.entry) (package_position m)) }
+        ensures known { IsMemberPath (workspace_packages self.entry) (path_text path.entry)
+            → IsOk result }
+        ensures unknown { IfErr result
+            (NamesPath (IsFirstUnknownPath (workspace_packages self.entry)
+            (path_text path.entry ∷ []))) }
     {
         let ix = self.graph.ix_of_path(path)?;
         Ok(PackageMetadata {
@@ -38,9 +42,11 @@ impl<'g> Workspace<'g> {
     /// `UnknownWorkspaceName` tells a name that is no member's. Time grows with the logarithm of the
     /// members. Takes memory only for that error's copy of the name.
     pub fn member_by_name(self, name: &str) -> Result<PackageMetadata<'g>, Error>
-        ensures found { IfOk result (λ m. (graph_of m ≡ workspace_graph self.entry) × HasName (workspace_packages self.entry) name.now (package_position m)) }
+        ensures found { IfOk result (λ m. (graph_of m ≡ workspace_graph self.entry)
+            × HasName (workspace_packages self.entry) name.now (package_position m)) }
         ensures known { IsMemberName (workspace_packages self.entry) name.now → IsOk result }
-        ensures unknown { IfErr result (NamesName (IsFirstUnknownName (workspace_packages self.entry) (name.now ∷ []))) }
+        ensures unknown { IfErr result
+            (NamesName (IsFirstUnknownName (workspace_packages self.entry) (name.now ∷ []))) }
     {
         let ix = self.graph.ix_of_name(name)?;
         Ok(PackageMetadata {
@@ -61,8 +67,11 @@ impl<'g> Workspace<'g> {
         requires can { I.can_next paths }
         requires ends { IsFinite (I.remaining paths) }
         ensures found { IfOk result (λ members. (asked : List _) × Drains I.next_gives paths asked
-            × AllZip (λ path m. (graph_of m ≡ workspace_graph self.entry) × HasPath (workspace_packages self.entry) path (package_position m)) (map path_text asked) members.items) }
-        ensures unknown { IfErr result (NamesPath (λ path. (asked : List _) × (rest : I) × Yields I.next_gives paths asked rest
+            × AllZip (λ path m. (graph_of m ≡ workspace_graph self.entry)
+            × HasPath (workspace_packages self.entry) path (package_position m))
+            (map path_text asked) members.items) }
+        ensures unknown { IfErr result
+            (NamesPath (λ path. (asked : List _) × (rest : I) × Yields I.next_gives paths asked rest
             × EndsInUnknownPath (workspace_packages self.entry) (map path_text asked) path)) }
     {
         let ixs = self.graph.ixs_of_paths(paths)?;
@@ -81,9 +90,13 @@ impl<'g> Workspace<'g> {
         requires can { I.can_next names }
         requires ends { IsFinite (I.remaining names) }
         ensures found { IfOk result (λ members. (asked : List _) × Drains I.next_gives names asked
-            × AllZip (λ name m. (graph_of m ≡ workspace_graph self.entry) × HasName (workspace_packages self.entry) name (package_position m)) (map (λ name. name.now) asked) members.items) }
-        ensures unknown { IfErr result (NamesName (λ name. (asked : List _) × (rest : I) × Yields I.next_gives names asked rest
-            × EndsInUnknownName (workspace_packages self.entry) (map (λ name. name.now) asked) name)) }
+            × AllZip (λ name m. (graph_of m ≡ workspace_graph self.entry)
+            × HasName (workspace_packages self.entry) name (package_position m))
+            (map (λ name. name.now) asked) members.items) }
+        ensures unknown { IfErr result
+            (NamesName (λ name. (asked : List _) × (rest : I) × Yields I.next_gives names asked rest
+            × EndsInUnknownName (workspace_packages self.entry)
+            (map (λ name. name.now) asked) name)) }
     {
         let ixs = self.graph.ixs_of_names(names)?;
         Ok(self.members_at(ixs.as_slice())?)
@@ -92,7 +105,9 @@ impl<'g> Workspace<'g> {
     // The packages at these positions, in their order.
     fn members_at(self, ixs: &[PackageIx]) -> Result<Vec<PackageMetadata<'g>>, AllocError>
         requires { All (λ ix. ix_position ix < length (workspace_packages self)) ixs.now }
-        ensures { IfOk result (λ members. AllZip (λ ix m. (graph_of m ≡ workspace_graph self.entry) × (package_position m ≡ ix_position ix)) ixs.now members.items) }
+        ensures { IfOk result (λ members. AllZip
+            (λ ix m. (graph_of m ≡ workspace_graph self.entry)
+            × (package_position m ≡ ix_position ix)) ixs.now members.items) }
     {
         let mut members = Vec::with_capacity(self.graph.alloc(), ixs.len())?;
         for ix in ixs {
@@ -108,9 +123,11 @@ impl<'g> Workspace<'g> {
 impl PackageGraph {
     // The position of the member with the path. Takes memory only for the error's copy of the path.
     fn ix_of_path(&self, path: Utf8Path<'_>) -> Result<PackageIx, Error>
-        ensures found { IfOk result (λ ix. HasPath self.now.packages (path_text path.entry) (ix_position ix)) }
+        ensures found { IfOk result (λ ix. HasPath self.now.packages (path_text path.entry)
+            (ix_position ix)) }
         ensures known { IsMemberPath self.now.packages (path_text path.entry) → IsOk result }
-        ensures unknown { IfErr result (NamesPath (IsFirstUnknownPath self.now.packages (path_text path.entry ∷ []))) }
+        ensures unknown { IfErr result
+            (NamesPath (IsFirstUnknownPath self.now.packages (path_text path.entry ∷ []))) }
     {
         match self.position_of_path(path) {
             Some(position) => Ok(self.ix_at(position)),
@@ -125,7 +142,8 @@ impl PackageGraph {
     fn ix_of_name(&self, name: &str) -> Result<PackageIx, Error>
         ensures found { IfOk result (λ ix. HasName self.now.packages name.now (ix_position ix)) }
         ensures known { IsMemberName self.now.packages name.now → IsOk result }
-        ensures unknown { IfErr result (NamesName (IsFirstUnknownName self.now.packages (name.now ∷ []))) }
+        ensures unknown { IfErr result
+            (NamesName (IsFirstUnknownName self.now.packages (name.now ∷ []))) }
     {
         match self.position_of_name(name) {
             Some(position) => Ok(self.ix_at(position)),
@@ -144,8 +162,10 @@ impl PackageGraph {
         requires can { I.can_next paths }
         requires ends { IsFinite (I.remaining paths) }
         ensures found { IfOk result (λ ixs. (asked : List _) × Drains I.next_gives paths asked
-            × AllZip (HasPath self.now.packages) (map path_text asked) (map ix_position ixs.items)) }
-        ensures unknown { IfErr result (NamesPath (λ path. (asked : List _) × (rest : I) × Yields I.next_gives paths asked rest
+            × AllZip (HasPath self.now.packages) (map path_text asked)
+            (map ix_position ixs.items)) }
+        ensures unknown { IfErr result
+            (NamesPath (λ path. (asked : List _) × (rest : I) × Yields I.next_gives paths asked rest
             × EndsInUnknownPath self.now.packages (map path_text asked) path)) }
     {
         let mut ixs = Vec::new(self.alloc());
@@ -163,8 +183,10 @@ impl PackageGraph {
         requires can { I.can_next names }
         requires ends { IsFinite (I.remaining names) }
         ensures found { IfOk result (λ ixs. (asked : List _) × Drains I.next_gives names asked
-            × AllZip (HasName self.now.packages) (map (λ name. name.now) asked) (map ix_position ixs.items)) }
-        ensures unknown { IfErr result (NamesName (λ name. (asked : List _) × (rest : I) × Yields I.next_gives names asked rest
+            × AllZip (HasName self.now.packages) (map (λ name. name.now) asked)
+            (map ix_position ixs.items)) }
+        ensures unknown { IfErr result
+            (NamesName (λ name. (asked : List _) × (rest : I) × Yields I.next_gives names asked rest
             × EndsInUnknownName self.now.packages (map (λ name. name.now) asked) name)) }
     {
         let mut ixs = Vec::new(self.alloc());

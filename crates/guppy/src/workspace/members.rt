@@ -29,7 +29,8 @@ impl<'g> Workspace<'g> {
     /// constant time.
     pub fn iter_by_path(self) -> MembersByPath<'g>
         ensures { (members : List ℕ) × AreMembersByPath (workspace_packages self.entry) members
-            × (by_path_left result ≡ map with_path (at_positions (workspace_graph self.entry) members)) }
+            × (by_path_left result ≡ map with_path
+            (at_positions (workspace_graph self.entry) members)) }
     {
         MembersByPath {
             members: self.iter(),
@@ -40,7 +41,8 @@ impl<'g> Workspace<'g> {
     /// memory and constant time.
     pub fn iter_by_name(self) -> MembersByName<'g>
         ensures { (members : List ℕ) × AreMembersByName (workspace_packages self.entry) members
-            × (by_name_left result ≡ map with_name (at_positions (workspace_graph self.entry) members)) }
+            × (by_name_left result ≡ map with_name
+            (at_positions (workspace_graph self.entry) members)) }
     {
         MembersByName {
             members: Members {
@@ -54,7 +56,8 @@ impl<'g> Workspace<'g> {
     /// time.
     pub fn member_ids(self) -> MemberIds<'g>
         ensures { (members : List ℕ) × AreMembersByPath (workspace_packages self.entry) members
-            × (member_ids_left result ≡ map member_id (at_positions (workspace_graph self.entry) members)) }
+            × (member_ids_left result ≡ map member_id
+            (at_positions (workspace_graph self.entry) members)) }
     {
         MemberIds {
             members: self.iter(),

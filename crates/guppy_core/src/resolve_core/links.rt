@@ -24,7 +24,9 @@ impl<G: GraphSpec> Iterator for Links<'_, G> {
     ghost use Rattle.std.specs.Iterator.{YieldsFirstBy, item_count};
     ghost use Rattle.guppy_search.specs.Walked.{LinkEnds};
 
-    ghost next_gives = { YieldsFirstBy (λ l. let ends : LinkEnds = record { from = G.Ix.index_of l.0; to = G.Ix.index_of l.1; number = l.2 } in ends) (λ s. s) };
+    ghost next_gives = { YieldsFirstBy
+        (λ l. let ends : LinkEnds = record
+        { from = G.Ix.index_of l.0; to = G.Ix.index_of l.1; number = l.2 } in ends) (λ s. s) };
 
     ghost remaining = { item_count (λ s. s) };
 

@@ -60,7 +60,8 @@ fn first_included<G: GraphSpec>(
     included: &IxSet<G>,
 ) -> Option<G::Ix>
     requires { All (λ p. p < length included.now) nodes.old.left }
-    ensures first { YieldsFirstBy G.Ix.index_of (λ s. filter (has included.now) s.left) nodes.old result nodes.new }
+    ensures first { YieldsFirstBy G.Ix.index_of
+        (λ s. filter (has included.now) s.left) nodes.old result nodes.new }
     ensures below { All (λ p. p < length included.now) nodes.new.left }
 {
     while let Some(ix) = nodes.next() {

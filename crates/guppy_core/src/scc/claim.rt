@@ -21,7 +21,8 @@ fn claim_one<G: GraphSpec>(
     requires numbers { position < length numbers.old.items }
     requires small { position < 2 ^ 32 }
     ensures marks { OnOk result (Marks position seen.old stack.old.items seen.new stack.new.items) }
-    ensures numbers { OnOk result (Numbers position number seen.old numbers.old.items numbers.new.items) }
+    ensures numbers { OnOk result
+        (Numbers position number seen.old numbers.old.items numbers.new.items) }
 {
     if seen.has_position(position) {
         return Ok(());
@@ -49,10 +50,14 @@ pub(crate) fn claim<G: GraphSpec>(
     requires room { graph.old.looks + links_left Reverse graph.old.graph.links seen.old < 2 ^ 64 }
     ensures limit { OnOk result (length seen.new ≡ length graph.old.graph.nodes) }
     ensures count { OnOk result (length numbers.new.items ≡ length graph.old.graph.nodes) }
-    ensures seen { OnOk result ((q : ℕ) → IsIn seen.new q ↔ (IsIn seen.old q ⊎ Walk (LinkStep Reverse graph.old.graph.links) start q)) }
-    ensures numbers { OnOk result (Claims number seen.old numbers.old.items seen.new numbers.new.items) }
-    ensures paid { OnOk result (graph.new.looks + links_left Reverse graph.old.graph.links seen.new ≤ graph.old.looks + links_left Reverse graph.old.graph.links seen.old) }
-    ensures looks { graph.new.looks ≤ graph.old.looks + links_left Reverse graph.old.graph.links seen.old }
+    ensures seen { OnOk result ((q : ℕ) → IsIn seen.new q
+        ↔ (IsIn seen.old q ⊎ Walk (LinkStep Reverse graph.old.graph.links) start q)) }
+    ensures numbers { OnOk result
+        (Claims number seen.old numbers.old.items seen.new numbers.new.items) }
+    ensures paid { OnOk result (graph.new.looks + links_left Reverse graph.old.graph.links seen.new
+        ≤ graph.old.looks + links_left Reverse graph.old.graph.links seen.old) }
+    ensures looks { graph.new.looks ≤ graph.old.looks + links_left Reverse graph.old.graph.links
+        seen.old }
     ensures graph { graph.new.graph ≡ graph.old.graph }
 {
     let mut stack = Vec::new(graph.alloc());

@@ -38,7 +38,8 @@ impl<Ix: IndexType> Model for Sccs<Ix> {
 
     ghost view = { λ s. parts s.bounds.items (map Ix.index_of s.positions.items) };
 
-    ghost invariant = { λ s. (concat (parts s.bounds.items (map Ix.index_of s.positions.items)) ≡ map Ix.index_of s.positions.items)
+    ghost invariant = { λ s. (concat (parts s.bounds.items (map Ix.index_of s.positions.items))
+        ≡ map Ix.index_of s.positions.items)
         × IsCut (map Ix.index_of s.positions.items) s.bounds.items
         × AreNumbered (parts s.bounds.items (map Ix.index_of s.positions.items)) s.numbers.items
         × IsListing (length s.numbers.items) (map Ix.index_of s.positions.items) };
@@ -56,9 +57,13 @@ impl<Ix: IndexType> Sccs<Ix> {
     ) -> Result<Self, AllocError>
         requires count { length topo.now ≡ length graph.old.graph.nodes }
         requires room { graph.old.looks + 2 * length graph.old.graph.links < 2 ^ 64 }
-        ensures sccs { IfOk result (λ blocks. AreSccs (LinkStep Forward graph.old.graph.links) (length graph.old.graph.nodes) topo.now blocks) }
-        ensures order { IfOk result (λ blocks. IsOrder (LinkStep Forward graph.old.graph.links) (length graph.old.graph.nodes) topo.now (concat blocks)) }
-        ensures leads_on { IfOk result (λ blocks. (keep : G.Edge → Bool) → LeadsOn (Step Forward keep graph.old.graph.links) topo.now
+        ensures sccs { IfOk result (λ blocks. AreSccs (LinkStep Forward graph.old.graph.links)
+            (length graph.old.graph.nodes) topo.now blocks) }
+        ensures order { IfOk result (λ blocks. IsOrder (LinkStep Forward graph.old.graph.links)
+            (length graph.old.graph.nodes) topo.now (concat blocks)) }
+        ensures leads_on { IfOk result
+            (λ blocks. (keep : G.Edge → Bool)
+            → LeadsOn (Step Forward keep graph.old.graph.links) topo.now
             → LeadsOn (Step Forward keep graph.old.graph.links) (concat blocks)) }
         ensures looks { graph.new.looks ≤ graph.old.looks + 2 * length graph.old.graph.links }
         ensures graph { graph.new.graph ≡ graph.old.graph }
@@ -109,9 +114,12 @@ impl<Ix: IndexType> Sccs<Ix> {
     ) -> Result<Vec<Ix>, AllocError>
         requires nodes { length set.now ≡ length graph.now.nodes }
         requires sccs { length (concat self.now) ≡ length graph.now.nodes }
-        ensures roots { IfOk result (λ roots. AreRoots (LinkStep direction graph.now.links) (InOneBlock self.now) set.now (map Ix.index_of roots.items)) }
-        ensures reach { IfOk result (λ roots. (index : List ℕ) → AreSccs (LinkStep Forward graph.now.links) (length graph.now.nodes) index self.now →
-            AreRoots (LinkStep direction graph.now.links) (Mutual (LinkStep Forward graph.now.links)) set.now (map Ix.index_of roots.items)) }
+        ensures roots { IfOk result (λ roots. AreRoots (LinkStep direction graph.now.links)
+            (InOneBlock self.now) set.now (map Ix.index_of roots.items)) }
+        ensures reach { IfOk result (λ roots. (index : List ℕ)
+            → AreSccs (LinkStep Forward graph.now.links) (length graph.now.nodes) index self.now →
+            AreRoots (LinkStep direction graph.now.links)
+            (Mutual (LinkStep Forward graph.now.links)) set.now (map Ix.index_of roots.items)) }
     {
         let numbers = self.numbers.as_slice();
         let entered = entered(graph, set, numbers, self.bounds.len(), direction)?;

@@ -22,7 +22,8 @@ fn mark_entered_from<G: GraphSpec>(
     requires below { All (λ c. c < length entered.old.items) numbers.now }
     ensures count { length entered.new.items ≡ length entered.old.items }
     ensures marked { (c : ℕ) → IsIn entered.new.items c ↔
-        (IsIn entered.old.items c ⊎ EntersFrom (LinkStep direction graph.now.links) (HasNumber numbers.now) set.now position c) }
+        (IsIn entered.old.items c ⊎ EntersFrom (LinkStep direction graph.now.links)
+        (HasNumber numbers.now) set.now position c) }
 {
     let own = numbers[position];
     for number in graph.links_at(position, direction) {
@@ -68,7 +69,8 @@ fn is_unentered<G: GraphSpec>(
     requires numbers { length numbers.now ≡ length set.now }
     requires below { All (λ c. c < length entered.now) numbers.now }
     requires position { position < length set.now }
-    ensures answer { (result ≡ true) ↔ (IsIn set.now position × (has entered.now (slice_index numbers.now position) ≡ false)) }
+    ensures answer { (result ≡ true)
+        ↔ (IsIn set.now position × (has entered.now (slice_index numbers.now position) ≡ false)) }
     ensures small { result ≡ true → position < 2 ^ 32 }
 {
     set.has_position(position) && !entered[numbers[position]]

@@ -13,7 +13,8 @@ pub(crate) fn group(
 ) -> Result<Vec<Vec<usize>>, AllocError>
     requires order { All (λ p. p < length numbers.now) order.now }
     requires numbers { All (λ c. c < count) numbers.now }
-    ensures { IfOk result (λ blocks. AreGroups order.now numbers.now count (length order.now) (map items_of blocks.items)) }
+    ensures { IfOk result (λ blocks. AreGroups order.now numbers.now count (length order.now)
+        (map items_of blocks.items)) }
 {
     let mut blocks = Vec::new(alloc);
     for _number in 0..count {

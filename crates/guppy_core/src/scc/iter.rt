@@ -85,7 +85,11 @@ impl<'s, Ix: IndexType> Model for NodeIter<'s, Ix> {
 
     ghost Value = { NodesLeft };
 
-    ghost view = { λ s. record { direction = s.direction; left = listed s.direction (map Ix.index_of s.left.now) } };
+    ghost view = { λ s. record {
+      direction = s.direction;
+      left = listed s.direction
+          (map Ix.index_of s.left.now);
+    } };
 }
 
 impl<'s, Ix: IndexType> NodeIter<'s, Ix> {

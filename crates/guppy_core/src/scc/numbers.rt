@@ -24,7 +24,9 @@ pub(crate) fn number_components<G: GraphSpec>(
     requires below { All (λ p. p < length graph.old.graph.nodes) starts.now }
     requires all { (p : ℕ) → p < length graph.old.graph.nodes → Stands starts.now p }
     requires room { graph.old.looks + 2 * length graph.old.graph.links < 2 ^ 64 }
-    ensures numbers { IfOk result (λ r. AreNumbers (LinkStep Forward graph.old.graph.links) (length graph.old.graph.nodes) r.numbers.items r.count) }
+    ensures numbers { IfOk result
+        (λ r. AreNumbers (LinkStep Forward graph.old.graph.links)
+        (length graph.old.graph.nodes) r.numbers.items r.count) }
     ensures small { IfOk result (λ _. length graph.old.graph.nodes < 2 ^ 32) }
     ensures looks { graph.new.looks ≤ graph.old.looks + 2 * length graph.old.graph.links }
     ensures graph { graph.new.graph ≡ graph.old.graph }

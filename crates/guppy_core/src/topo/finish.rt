@@ -25,8 +25,10 @@ pub(crate) fn finish_order<G: GraphSpec, F: Fn(&G::Edge) -> bool>(
     requires room { graph.old.looks + length graph.old.graph.links < 2 ^ 64 }
     requires callable { F.IsAlwaysCallable keep.now }
     requires keeps { (e : _) (b : Bool) → F.post keep.now e b → b ≡ kept e.now }
-    ensures order { IfOk result (λ order. IsFinishList (Step Forward kept graph.old.graph.links) (Contains starts.now) order.items) }
-    ensures positions { IfOk result (λ order. All (λ p. p < length graph.old.graph.nodes) order.items) }
+    ensures order { IfOk result (λ order. IsFinishList (Step Forward kept graph.old.graph.links)
+        (Contains starts.now) order.items) }
+    ensures positions { IfOk result
+        (λ order. All (λ p. p < length graph.old.graph.nodes) order.items) }
     ensures looks { graph.new.looks ≤ graph.old.looks + length graph.old.graph.links }
     ensures graph { graph.new.graph ≡ graph.old.graph }
 {
@@ -79,8 +81,10 @@ pub(crate) fn finish_order_of_all<G: GraphSpec, F: Fn(&G::Edge) -> bool>(
     requires room { graph.old.looks + length graph.old.graph.links < 2 ^ 64 }
     requires callable { F.IsAlwaysCallable every.now }
     requires keeps { (e : _) (b : Bool) → F.post every.now e b → b ≡ true }
-    ensures order { IfOk result (λ order. IsFinishList (LinkStep Forward graph.old.graph.links) (Contains starts.now) order.items) }
-    ensures positions { IfOk result (λ order. All (λ p. p < length graph.old.graph.nodes) order.items) }
+    ensures order { IfOk result (λ order. IsFinishList (LinkStep Forward graph.old.graph.links)
+        (Contains starts.now) order.items) }
+    ensures positions { IfOk result
+        (λ order. All (λ p. p < length graph.old.graph.nodes) order.items) }
     ensures looks { graph.new.looks ≤ graph.old.looks + length graph.old.graph.links }
     ensures graph { graph.new.graph ≡ graph.old.graph }
 {

@@ -35,7 +35,8 @@ impl<Ix> Model for TopoWithCycles<Ix> {
 
     ghost view = { λ t. t.order.items };
 
-    ghost invariant = { λ t. IsListing (length t.order.items) t.order.items × IsInverse t.order.items t.index.items };
+    ghost invariant = { λ t. IsListing (length t.order.items) t.order.items
+        × IsInverse t.order.items t.index.items };
 }
 
 impl<Ix: IndexType> TopoWithCycles<Ix> {
@@ -52,8 +53,11 @@ impl<Ix: IndexType> TopoWithCycles<Ix> {
         requires room { graph.old.looks + 2 * length graph.old.graph.links < 2 ^ 64 }
         requires callable { F.IsAlwaysCallable keep }
         requires keeps { (e : _) (b : Bool) → F.post keep e b → b ≡ kept e.now }
-        ensures topo { IfOk result (λ order. IsTopo (Step Forward kept graph.old.graph.links) (length graph.old.graph.nodes) order) }
-        ensures acyclic { IfOk result (λ order. HasNoCycle (Step Forward kept graph.old.graph.links) → LeadsOn (Step Forward kept graph.old.graph.links) order) }
+        ensures topo { IfOk result (λ order. IsTopo (Step Forward kept graph.old.graph.links)
+            (length graph.old.graph.nodes) order) }
+        ensures acyclic { IfOk result
+            (λ order. HasNoCycle (Step Forward kept graph.old.graph.links)
+            → LeadsOn (Step Forward kept graph.old.graph.links) order) }
         ensures looks { graph.new.looks ≤ graph.old.looks + 2 * length graph.old.graph.links }
         ensures graph { graph.new.graph ≡ graph.old.graph }
     {
@@ -112,8 +116,11 @@ fn order_of<G: GraphSpec, F: Fn(&G::Edge) -> bool>(
     requires room { graph.old.looks + 2 * length graph.old.graph.links < 2 ^ 64 }
     requires callable { F.IsAlwaysCallable keep.now }
     requires keeps { (e : _) (b : Bool) → F.post keep.now e b → b ≡ kept e.now }
-    ensures topo { IfOk result (λ order. IsTopo (Step Forward kept graph.old.graph.links) (length graph.old.graph.nodes) order.items) }
-    ensures acyclic { IfOk result (λ order. HasNoCycle (Step Forward kept graph.old.graph.links) → LeadsOn (Step Forward kept graph.old.graph.links) order.items) }
+    ensures topo { IfOk result (λ order. IsTopo (Step Forward kept graph.old.graph.links)
+        (length graph.old.graph.nodes) order.items) }
+    ensures acyclic { IfOk result
+        (λ order. HasNoCycle (Step Forward kept graph.old.graph.links)
+        → LeadsOn (Step Forward kept graph.old.graph.links) order.items) }
     ensures looks { graph.new.looks ≤ graph.old.looks + 2 * length graph.old.graph.links }
     ensures graph { graph.new.graph ≡ graph.old.graph }
 {

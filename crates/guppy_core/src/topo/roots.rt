@@ -20,12 +20,15 @@ fn enter_from<G: GraphSpec, F: Fn(&G::Edge) -> bool>(
     ghost kept: { G.Edge → Bool }
     requires position { position < length graph.old.graph.nodes }
     requires count { length set.old ≡ length graph.old.graph.nodes }
-    requires room { graph.old.looks + length (links_at Forward graph.old.graph.links position) < 2 ^ 64 }
+    requires room { graph.old.looks + length
+        (links_at Forward graph.old.graph.links position) < 2 ^ 64 }
     requires callable { F.IsAlwaysCallable keep.now }
     requires keeps { (e : _) (b : Bool) → F.post keep.now e b → b ≡ kept e.now }
     ensures count { length set.new ≡ length graph.old.graph.nodes }
-    ensures members { (p : ℕ) → IsIn set.new p ↔ (IsIn set.old p ⊎ LeadsAway (Step Forward kept graph.old.graph.links) position p) }
-    ensures looks { graph.new.looks ≡ graph.old.looks + length (links_at Forward graph.old.graph.links position) }
+    ensures members { (p : ℕ) → IsIn set.new p
+        ↔ (IsIn set.old p ⊎ LeadsAway (Step Forward kept graph.old.graph.links) position p) }
+    ensures looks { graph.new.looks
+        ≡ graph.old.looks + length (links_at Forward graph.old.graph.links position) }
     ensures graph { graph.new.graph ≡ graph.old.graph }
 {
     for k in 0..graph.leaving_at(position, DependencyDirection::Forward) {
@@ -46,7 +49,8 @@ fn entered<G: GraphSpec, F: Fn(&G::Edge) -> bool>(
     requires callable { F.IsAlwaysCallable keep.now }
     requires keeps { (e : _) (b : Bool) → F.post keep.now e b → b ≡ kept e.now }
     ensures count { IfOk result (λ set. length set ≡ length graph.old.graph.nodes) }
-    ensures members { IfOk result (λ set. (p : ℕ) → IsIn set p ↔ IsEntered (Step Forward kept graph.old.graph.links) p) }
+    ensures members { IfOk result
+        (λ set. (p : ℕ) → IsIn set p ↔ IsEntered (Step Forward kept graph.old.graph.links) p) }
     ensures looks { graph.new.looks ≤ graph.old.looks + length graph.old.graph.links }
     ensures graph { graph.new.graph ≡ graph.old.graph }
 {
@@ -67,7 +71,8 @@ pub(crate) fn roots<G: GraphSpec, F: Fn(&G::Edge) -> bool>(
     requires callable { F.IsAlwaysCallable keep.now }
     requires keeps { (e : _) (b : Bool) → F.post keep.now e b → b ≡ kept e.now }
     ensures below { IfOk result (λ roots. All (λ p. p < length graph.old.graph.nodes) roots.items) }
-    ensures roots { IfOk result (λ roots. (p : ℕ) → Stands roots.items p ↔ IsRoot (Step Forward kept graph.old.graph.links) (length graph.old.graph.nodes) p) }
+    ensures roots { IfOk result (λ roots. (p : ℕ) → Stands roots.items p
+        ↔ IsRoot (Step Forward kept graph.old.graph.links) (length graph.old.graph.nodes) p) }
     ensures looks { graph.new.looks ≤ graph.old.looks + length graph.old.graph.links }
     ensures graph { graph.new.graph ≡ graph.old.graph }
 {

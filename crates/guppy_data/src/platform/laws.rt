@@ -42,7 +42,8 @@ pub fn questions_ascend<E: TargetEval>()
     ensures empty_below_always { (eval : E) (status : Status) →
         AtMost (status_value (E.answer eval) status (OnPlatforms []))
         (status_value (E.answer eval) status OnAlways) }
-    ensures always_below_some { (eval : E) (status : Status) (platform : E.Platform) (others : List E.Platform) →
+    ensures always_below_some { (eval : E) (status : Status) (platform : E.Platform)
+        (others : List E.Platform) →
         AtMost (status_value (E.answer eval) status OnAlways)
         (status_value (E.answer eval) status (OnPlatforms (platform ∷ others))) }
     ensures some_below_any { (eval : E) (status : Status) (platforms : List E.Platform) →

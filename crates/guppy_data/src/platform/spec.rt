@@ -29,7 +29,8 @@ impl<P: Drop> PlatformSpec<P> {
         requires can { I.can_next platforms }
         requires finite { IsFinite (I.remaining platforms) }
         ensures { IfOk result
-            (λ spec. WholeRun I.next_gives platforms (λ run. question_of spec ≡ OnPlatforms run.items)) }
+            (λ spec. WholeRun I.next_gives platforms
+            (λ run. question_of spec ≡ OnPlatforms run.items)) }
     {
         Ok(PlatformSpec::Platforms(platforms.collect(alloc)?))
     }

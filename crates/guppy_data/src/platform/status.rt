@@ -45,7 +45,9 @@ impl PlatformStatusImpl {
     /// list's allocator. Takes no memory where one of the two is `Always`, and else room for the
     /// other's texts.
     pub fn extend(&mut self, other: &PlatformStatusImpl) -> Result<(), AllocError>
-        ensures extended { OnOk result (recorded_status self.new ≡ extended (recorded_status self.old) (recorded_status other.now)) }
+        ensures extended { OnOk result
+            (recorded_status self.new ≡ extended (recorded_status self.old)
+            (recorded_status other.now)) }
         ensures unchanged { OnErr result (recorded_status self.new ≡ recorded_status self.old) }
         ensures always_stays { recorded_status self.old ≡ Always → IsOk result }
         ensures becomes_always { recorded_status other.now ≡ Always → IsOk result }
@@ -67,7 +69,8 @@ impl PlatformStatusImpl {
     /// The error is want of memory for the copy, and then nothing has changed. Takes none for
     /// `None`, or where it is `Always`.
     pub fn add_spec(&mut self, spec: Option<&TargetSpec>) -> Result<(), AllocError>
-        ensures added { OnOk result (recorded_status self.new ≡ with_spec (recorded_status self.old) (option_copied spec.entry)) }
+        ensures added { OnOk result (recorded_status self.new
+            ≡ with_spec (recorded_status self.old) (option_copied spec.entry)) }
         ensures unchanged { OnErr result (recorded_status self.new ≡ recorded_status self.old) }
         ensures always_stays { recorded_status self.old ≡ Always → IsOk result }
         ensures becomes_always { option_copied spec.entry ≡ None → IsOk result }
@@ -177,7 +180,8 @@ impl<'g> PlatformStatus<'g> {
         spec: &PlatformSpec<E::Platform>,
         eval: &E,
     ) -> EnabledTernary
-        ensures { result ≡ status_value (E.answer eval.now) (seen_status self.entry) (question_of spec.now) }
+        ensures { result ≡ status_value (E.answer eval.now) (seen_status self.entry)
+            (question_of spec.now) }
     {
         match self {
             PlatformStatus::Never => EnabledTernary::Disabled,
@@ -221,7 +225,8 @@ impl<'g> PlatformEval<'g> {
 
     /// The greatest value over the platforms.
     fn eval_all<E: TargetEval>(self, platforms: &[E::Platform], eval: &E) -> EnabledTernary
-        ensures { result ≡ greatest (map (texts_value (E.answer eval.now) (eval_texts self.entry)) platforms.now) }
+        ensures { result ≡ greatest (map
+            (texts_value (E.answer eval.now) (eval_texts self.entry)) platforms.now) }
     {
         let mut value = EnabledTernary::Disabled;
         for platform in platforms {

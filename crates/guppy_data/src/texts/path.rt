@@ -82,7 +82,8 @@ impl PartialOrd for Utf8Path<'_> {
 
     ghost partial_cmp = { as_partial_cmp (on path_text path_cmp) };
 
-    ghost laws = { partial_order_from_own_ties (Prim.search (comparing, rules) depth 9) (Prim.search (comparing, rules) depth 9) };
+    ghost laws = { partial_order_from_own_ties (Prim.search (comparing, rules) depth 9)
+        (Prim.search (comparing, rules) depth 9) };
 
     fn partial_cmp(&self, other: &Self) -> Option<Ordering> {
         Some(self.cmp(other))

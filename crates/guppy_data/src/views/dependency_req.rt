@@ -31,9 +31,11 @@ impl<'g> DependencyReq<'g> {
 
     /// Whether the dependency may be there on some platform: [`DependencyReq::status`] isn't never.
     pub fn is_present(self) -> bool
-        ensures present { OnTrue result (¬ ((recorded_status (seen_req self.entry).required.build_if ≡ Never)
+        ensures present { OnTrue result
+            (¬ ((recorded_status (seen_req self.entry).required.build_if ≡ Never)
             × (recorded_status (seen_req self.entry).optional.build_if ≡ Never))) }
-        ensures never { OnFalse result ((recorded_status (seen_req self.entry).required.build_if ≡ Never)
+        ensures never { OnFalse result
+            ((recorded_status (seen_req self.entry).required.build_if ≡ Never)
             × (recorded_status (seen_req self.entry).optional.build_if ≡ Never)) }
     {
         !self.status().is_never()
@@ -41,8 +43,10 @@ impl<'g> DependencyReq<'g> {
 
     /// Where the dependency is built.
     pub fn status(self) -> EnabledStatus<'g>
-        ensures required { required_of result ≡ recorded_status (seen_req self.entry).required.build_if }
-        ensures optional { optional_of result ≡ recorded_status (seen_req self.entry).optional.build_if }
+        ensures required { required_of result
+            ≡ recorded_status (seen_req self.entry).required.build_if }
+        ensures optional { optional_of result
+            ≡ recorded_status (seen_req self.entry).optional.build_if }
     {
         EnabledStatus::new(
             PlatformStatus::new(&self.req.required.build_if),
@@ -80,7 +84,8 @@ impl<'g> DependencyReq<'g> {
     /// bytes, then those of the optional part, ascending. A name in both comes twice.
     pub fn features(self) -> Features<'g>
         ensures names { names_left result
-            ≡ feature_names (seen_req self.entry).required ++ feature_names (seen_req self.entry).optional }
+            ≡ feature_names (seen_req self.entry).required
+            ++ feature_names (seen_req self.entry).optional }
         ensures required_ascend { IsStrictlySortedBy (slice_cmp nat_cmp)
             (feature_names (seen_req self.entry).required) }
         ensures optional_ascend { IsStrictlySortedBy (slice_cmp nat_cmp)

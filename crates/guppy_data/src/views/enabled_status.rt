@@ -40,7 +40,8 @@ impl<'g> EnabledStatus<'g> {
         spec: &PlatformSpec<E::Platform>,
         eval: &E,
     ) -> EnabledTernary
-        ensures { result ≡ status_value (E.answer eval.now) (required_of self.entry) (question_of spec.now) }
+        ensures { result ≡ status_value (E.answer eval.now) (required_of self.entry)
+            (question_of spec.now) }
     {
         self.required.enabled_on(spec, eval)
     }

@@ -70,7 +70,8 @@ impl<'g> ExternalSource<'g> {
         ensures accepted { (source : Source) →
             (option_map seen_source result ≡ Some source) ↔ IsSource text.now source }
         ensures refused { IsNone result ↔ ((source : Source) → ¬ IsSource text.now source) }
-        ensures printed_back { IfSome result (λ source. printed_source (seen_source source) ≡ text.now) }
+        ensures printed_back { IfSome result
+            (λ source. printed_source (seen_source source) ≡ text.now) }
     {
         if let Some(url) = text.strip_prefix(Self::REGISTRY_PLUS) {
             return Some(ExternalSource::Registry(url));

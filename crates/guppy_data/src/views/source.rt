@@ -111,7 +111,8 @@ impl<'g> PackageSource<'g> {
     /// package, and for a text that `ExternalSource::new` doesn't read. A few passes over the text.
     pub fn parse_external(self) -> Option<ExternalSource<'g>>
         ensures accepted { (source : Source) →
-            (option_map seen_source result ≡ Some source) ↔ IsFromSource (seen_origin self.entry) source }
+            (option_map seen_source result ≡ Some source)
+            ↔ IsFromSource (seen_origin self.entry) source }
         ensures refused { IsNone result
             ↔ ((source : Source) → ¬ IsFromSource (seen_origin self.entry) source) }
     {

@@ -31,7 +31,9 @@ pub fn reachable_buffered<G: GraphSpec, T: BufferedEdgeFilter<G> + Drop>(
     mut filter: T,
 ) -> Result<IxSet<G>, AllocError>
     requires count { length initials.now ≡ length graph.now.nodes }
-    requires ready { IsAskable (T.can_discover graph.now) (T.can_filter graph.now) (Answers (T.discovers graph.now) (T.filters graph.now)) (length graph.now.nodes) (length graph.now.links) filter }
+    requires ready { IsAskable (T.can_discover graph.now) (T.can_filter graph.now)
+        (Answers (T.discovers graph.now) (T.filters graph.now)) (length graph.now.nodes)
+        (length graph.now.links) filter }
     ensures count { IfOk result (λ set. length set ≡ length graph.now.nodes) }
     ensures judged { IfOk result (λ set. (trace : List (Question × List ℕ)) × (last : T)
         × JudgesBuffered direction graph.now.links initials.now trace set
@@ -52,13 +54,17 @@ pub fn reachable_buffered_mut<G: GraphSpec, T: BufferedEdgeFilter<G>>(
     filter: &mut T,
 ) -> Result<IxSet<G>, AllocError>
     requires count { length initials.now ≡ length graph.now.nodes }
-    requires ready { IsAskable (T.can_discover graph.now) (T.can_filter graph.now) (Answers (T.discovers graph.now) (T.filters graph.now)) (length graph.now.nodes) (length graph.now.links) filter.old }
+    requires ready { IsAskable (T.can_discover graph.now) (T.can_filter graph.now)
+        (Answers (T.discovers graph.now) (T.filters graph.now)) (length graph.now.nodes)
+        (length graph.now.links) filter.old }
     ensures count { IfOk result (λ set. length set ≡ length graph.now.nodes) }
     ensures judged { IfOk result (λ set. (trace : List (Question × List ℕ))
         × JudgesBuffered direction graph.now.links initials.now trace set
-        × Asks (Answers (T.discovers graph.now) (T.filters graph.now)) filter.old trace filter.new) }
+        × Asks (Answers (T.discovers graph.now)
+        (T.filters graph.now)) filter.old trace filter.new) }
     ensures refused { OnErr result ((filter.new ≡ filter.old)
-        ⊎ EndsInError (Answers (T.discovers graph.now) (T.filters graph.now)) direction graph.now.links initials.now filter.old filter.new) }
+        ⊎ EndsInError (Answers (T.discovers graph.now)
+        (T.filters graph.now)) direction graph.now.links initials.now filter.old filter.new) }
     ensures same_place { T.place filter.new ≡ T.place filter.old }
 {
     let mut set = initials.clone()?;
@@ -81,14 +87,19 @@ fn search<G: GraphSpec, T: BufferedEdgeFilter<G>>(
 ) -> Result<(), AllocError>
     requires graph { IsGraph graph.now }
     requires count { length set.old ≡ length graph.now.nodes }
-    requires ready { IsAskable (T.can_discover graph.now) (T.can_filter graph.now) (Answers (T.discovers graph.now) (T.filters graph.now)) (length graph.now.nodes) (length graph.now.links) filter.old }
+    requires ready { IsAskable (T.can_discover graph.now) (T.can_filter graph.now)
+        (Answers (T.discovers graph.now) (T.filters graph.now)) (length graph.now.nodes)
+        (length graph.now.links) filter.old }
     requires waiting { waiting.old.items ≡ positions_in set.old }
     requires room { length graph.now.nodes ≤ vec_capacity waiting.old }
     ensures count { length set.new ≡ length graph.now.nodes }
     ensures judged { OnOk result ((trace : List (Question × List ℕ))
         × JudgesBuffered direction graph.now.links set.old trace set.new
-        × Asks (Answers (T.discovers graph.now) (T.filters graph.now)) filter.old trace filter.new) }
-    ensures refused { OnErr result (EndsInError (Answers (T.discovers graph.now) (T.filters graph.now)) direction graph.now.links set.old filter.old filter.new) }
+        × Asks (Answers (T.discovers graph.now)
+        (T.filters graph.now)) filter.old trace filter.new) }
+    ensures refused { OnErr result
+        (EndsInError (Answers (T.discovers graph.now)
+        (T.filters graph.now)) direction graph.now.links set.old filter.old filter.new) }
     ensures same_place { T.place filter.new ≡ T.place filter.old }
 {
     'positions: while let Some(position) = waiting.pop() {
@@ -110,15 +121,24 @@ fn ask_links<G: GraphSpec, T: BufferedEdgeFilter<G>>(
 ) -> Result<(), AllocError>
     requires position { position < length graph.now.nodes }
     requires count { length set.old ≡ length graph.now.nodes }
-    requires ready { MayAskOn (T.can_filter graph.now) (Answers (T.discovers graph.now) (T.filters graph.now)) direction graph.now.links set.old waiting.old.items (links_at direction graph.now.links position) filter.old }
-    requires room { length waiting.old.items + length set.old ≤ vec_capacity waiting.old + member_count set.old }
+    requires ready { MayAskOn (T.can_filter graph.now)
+        (Answers (T.discovers graph.now)
+        (T.filters graph.now)) direction graph.now.links set.old waiting.old.items
+        (links_at direction graph.now.links position) filter.old }
+    requires room { length waiting.old.items + length set.old ≤ vec_capacity waiting.old +
+        member_count set.old }
     ensures count { length set.new ≡ length graph.now.nodes }
     ensures asked { OnOk result ((asked : List (Question × List ℕ))
         × Asks (Answers (T.discovers graph.now) (T.filters graph.now)) filter.old asked filter.new
-        × Takes direction graph.now.links asked set.old waiting.old.items (links_at direction graph.now.links position) set.new waiting.new.items []) }
-    ensures refused { OnErr result (Stops (Answers (T.discovers graph.now) (T.filters graph.now)) direction graph.now.links set.old waiting.old.items (links_at direction graph.now.links position) filter.old filter.new) }
+        × Takes direction graph.now.links asked set.old waiting.old.items
+        (links_at direction graph.now.links position) set.new waiting.new.items []) }
+    ensures refused { OnErr result
+        (Stops (Answers (T.discovers graph.now)
+        (T.filters graph.now)) direction graph.now.links set.old waiting.old.items
+        (links_at direction graph.now.links position) filter.old filter.new) }
     ensures same_place { T.place filter.new ≡ T.place filter.old }
-    ensures balance { length waiting.new.items + member_count set.old ≡ length waiting.old.items + member_count set.new }
+    ensures balance { length waiting.new.items + member_count set.old
+        ≡ length waiting.old.items + member_count set.new }
     ensures capacity { vec_capacity waiting.new ≡ vec_capacity waiting.old }
 {
     'links: for number in graph.links_at(position, direction) {
@@ -138,11 +158,13 @@ fn follow_all<G: GraphSpec>(
 )
     requires count { length set.old ≡ length graph.now.nodes }
     requires links { All (λ n. n < length graph.now.links) numbers.items }
-    requires room { vec_len waiting.old + length set.old ≤ vec_capacity waiting.old + member_count set.old }
+    requires room { vec_len waiting.old + length set.old ≤ vec_capacity waiting.old + member_count
+        set.old }
     ensures count { length set.new ≡ length set.old }
     ensures added { (added : List ℕ) × (waiting.new.items ≡ waiting.old.items ++ added)
         × Adds direction graph.now.links numbers.items set.old added set.new }
-    ensures balance { vec_len waiting.new + member_count set.old ≡ vec_len waiting.old + member_count set.new }
+    ensures balance { vec_len waiting.new + member_count set.old
+        ≡ vec_len waiting.old + member_count set.new }
     ensures capacity { vec_capacity waiting.new ≡ vec_capacity waiting.old }
 {
     for number in &numbers {

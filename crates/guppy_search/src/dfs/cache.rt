@@ -24,7 +24,8 @@ impl<G: GraphSpec> Model for ReachCache<G> {
 
     ghost view = { λ c. length c.set };
 
-    ghost invariant = { λ c. (length c.initials ≡ length c.set) × (length c.set ≤ vec_capacity c.waiting) };
+    ghost invariant = { λ c. (length c.initials ≡ length c.set)
+        × (length c.set ≤ vec_capacity c.waiting) };
 }
 
 impl<G: GraphSpec> ReachCache<G> {
@@ -56,7 +57,8 @@ impl<G: GraphSpec> ReachCache<G> {
         requires room { self.old ≡ length graph.now.nodes }
         requires from { G.Ix.index_of from < length graph.now.nodes }
         requires to { G.Ix.index_of to < length graph.now.nodes }
-        ensures answer { IsTrue result ↔ Walk (LinkStep direction graph.now.links) (G.Ix.index_of from) (G.Ix.index_of to) }
+        ensures answer { IsTrue result
+            ↔ Walk (LinkStep direction graph.now.links) (G.Ix.index_of from) (G.Ix.index_of to) }
         ensures room { self.new ≡ self.old }
     {
         self.initials.clear();

@@ -32,7 +32,8 @@ pub trait BufferedEdgeFilter<G: GraphSpec> {
     fn filter(&mut self, graph: &Graph<G>, link: usize) -> Result<Vec<usize>, AllocError>
         requires link { link < length graph.now.links }
         requires ready { can_filter graph.now self.old link }
-        ensures filters { IfOk result (λ handed. filters graph.now self.old link (Some handed.items) self.new) }
+        ensures filters { IfOk result
+            (λ handed. filters graph.now self.old link (Some handed.items) self.new) }
         ensures error { OnErr result (filters graph.now self.old link None self.new) }
         ensures links { IfOk result (λ handed. All (λ n. n < length graph.now.links) handed.items) }
         ensures same_place { place self.new ≡ place self.old };
@@ -42,16 +43,21 @@ pub trait BufferedEdgeFilter<G: GraphSpec> {
     fn discover(&mut self, graph: &Graph<G>, node: G::Ix) -> Result<Vec<usize>, AllocError>
         requires node { G.Ix.index_of node < length graph.now.nodes }
         requires ready { can_discover graph.now self.old (G.Ix.index_of node) }
-        ensures discovers { IfOk result (λ handed. discovers graph.now self.old (G.Ix.index_of node) (Some handed.items) self.new) }
-        ensures error { OnErr result (discovers graph.now self.old (G.Ix.index_of node) None self.new) }
+        ensures discovers { IfOk result
+            (λ handed. discovers graph.now self.old (G.Ix.index_of node)
+            (Some handed.items) self.new) }
+        ensures error { OnErr result
+            (discovers graph.now self.old (G.Ix.index_of node) None self.new) }
         ensures links { IfOk result (λ handed. All (λ n. n < length graph.now.links) handed.items) }
         ensures same_place { place self.new ≡ place self.old };
 }
 
 impl<G: GraphSpec, T: BufferedEdgeFilter<G>> BufferedEdgeFilter<G> for &mut T {
-    ghost filters = { λ g s n answer t. T.filters g s.now n answer t.now × (t.ghost_name ≡ s.ghost_name) };
+    ghost filters = { λ g s n answer t. T.filters g s.now n answer t.now
+        × (t.ghost_name ≡ s.ghost_name) };
 
-    ghost discovers = { λ g s p answer t. T.discovers g s.now p answer t.now × (t.ghost_name ≡ s.ghost_name) };
+    ghost discovers = { λ g s p answer t. T.discovers g s.now p answer t.now
+        × (t.ghost_name ≡ s.ghost_name) };
 
     ghost place = { λ s. s.ghost_name ∷ T.place s.now };
 

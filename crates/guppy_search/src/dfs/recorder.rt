@@ -36,7 +36,8 @@ impl<V: LinkVisitor> LinkVisitor for Recorder<V> {
 
     ghost visits = { λ s n b t. V.visits s.visitor n b t.visitor
         × (vec_capacity t.entries ≡ vec_capacity s.entries)
-        × (length s.entries.items < vec_capacity s.entries → t.entries.items ≡ s.entries.items ++ (n, b) ∷ [])
+        × (length s.entries.items < vec_capacity s.entries
+        → t.entries.items ≡ s.entries.items ++ (n, b) ∷ [])
         × (vec_capacity s.entries ≤ length s.entries.items → t.entries.items ≡ s.entries.items) };
 
     ghost place = { λ s. V.place s.visitor };
@@ -67,7 +68,8 @@ pub fn reachable_recorded<G: GraphSpec, V: LinkVisitor + Drop>(
     requires count { length initials.now ≡ length graph.now.nodes }
     requires ready { IsCallableBelow V.can_visit V.visits (length graph.now.links) visitor }
     ensures count { IfOk result (λ r. length r.0 ≡ length graph.now.nodes) }
-    ensures judged { IfOk result (λ r. JudgesResolve direction graph.now.links initials.now r.1.entries.items r.0) }
+    ensures judged { IfOk result
+        (λ r. JudgesResolve direction graph.now.links initials.now r.1.entries.items r.0) }
     ensures visits { IfOk result (λ r. Visits V.visits visitor r.1.entries.items r.1.visitor) }
 {
     let mut recorder = Recorder::new(graph.alloc(), visitor, graph.link_count())?;

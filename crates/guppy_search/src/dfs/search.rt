@@ -113,13 +113,17 @@ fn show_links<G: GraphSpec, V: LinkVisitor>(
 )
     requires position { position < length graph.now.nodes }
     requires count { length set.old ≡ length graph.now.nodes }
-    requires ready { MayGoOn V.can_visit V.visits direction graph.now.links set.old waiting.old.items (links_at direction graph.now.links position) visitor.old }
-    requires room { length waiting.old.items + length set.old ≤ vec_capacity waiting.old + member_count set.old }
+    requires ready { MayGoOn V.can_visit V.visits direction graph.now.links set.old
+        waiting.old.items (links_at direction graph.now.links position) visitor.old }
+    requires room { length waiting.old.items + length set.old ≤ vec_capacity waiting.old +
+        member_count set.old }
     ensures count { length set.new ≡ length graph.now.nodes }
     ensures same_place { V.place visitor.new ≡ V.place visitor.old }
     ensures shown { (shown : List (ℕ × Bool)) × Visits V.visits visitor.old shown visitor.new
-        × Shows direction graph.now.links shown set.old waiting.old.items (links_at direction graph.now.links position) set.new waiting.new.items [] }
-    ensures balance { length waiting.new.items + member_count set.old ≡ length waiting.old.items + member_count set.new }
+        × Shows direction graph.now.links shown set.old waiting.old.items
+        (links_at direction graph.now.links position) set.new waiting.new.items [] }
+    ensures balance { length waiting.new.items + member_count set.old
+        ≡ length waiting.old.items + member_count set.new }
     ensures capacity { vec_capacity waiting.new ≡ vec_capacity waiting.old }
 {
     'links: for number in graph.links_at(position, direction) {
@@ -136,8 +140,10 @@ pub(crate) fn include<G: GraphSpec>(set: &mut IxSet<G>, waiting: &mut Vec<usize>
     requires in_range { position < length set.old }
     requires small { position < 2 ^ 32 }
     requires room { ¬ IsIn set.old position → vec_len waiting.old < vec_capacity waiting.old }
-    ensures cases { (IsIn set.old position × (set.new ≡ set.old) × (waiting.new.items ≡ waiting.old.items))
-        ⊎ (¬ IsIn set.old position × (set.new ≡ slice_set set.old position true) × (waiting.new.items ≡ waiting.old.items ++ position ∷ [])) }
+    ensures cases { (IsIn set.old position × (set.new ≡ set.old)
+        × (waiting.new.items ≡ waiting.old.items))
+        ⊎ (¬ IsIn set.old position × (set.new ≡ slice_set set.old position true)
+        × (waiting.new.items ≡ waiting.old.items ++ position ∷ [])) }
     ensures capacity { vec_capacity waiting.new ≡ vec_capacity waiting.old }
 {
     if set.insert_position(position) {

@@ -10,7 +10,8 @@ use std::alloc::{AllocError, Global};
 
 /// The first link that has an end which is no position.
 pub(crate) fn first_unknown<E>(links: &[Link<E>], count: usize) -> Option<usize>
-    ensures { MatchOption result (All (EndsBelow count) links.now) (IsFirstUnknown count links.now) }
+    ensures { MatchOption result (All (EndsBelow count) links.now)
+        (IsFirstUnknown count links.now) }
 {
     for (number, link) in links.iter().enumerate() {
         if link.has_unknown_end(count) {
@@ -23,7 +24,8 @@ pub(crate) fn first_unknown<E>(links: &[Link<E>], count: usize) -> Option<usize>
 /// The first link of the row that leads to the position.
 pub(crate) fn number_to<E>(links: &[Link<E>], row: &[usize], to: usize) -> Option<usize>
     requires { All (λ n. n < length links.now) row.now }
-    ensures { MatchOption result (NoneTo links.now to row.now (length row.now)) (λ n. IsFirstTo links.now to row.now n) }
+    ensures { MatchOption result (NoneTo links.now to row.now (length row.now))
+        (λ n. IsFirstTo links.now to row.now n) }
 {
     for number in row {
         if links[*number].to == to {
@@ -44,7 +46,8 @@ fn first_again<E>(
     requires numbers { All (λ n. n < length links.now) row.now }
     requires ends { All (EndsBelow (length marks.old)) links.now }
     requires unused { All (λ m. m < mark) marks.old }
-    ensures again { MatchOption result (LeadApart links.now row.now (length row.now)) (IsFirstAgain links.now row.now) }
+    ensures again { MatchOption result (LeadApart links.now row.now (length row.now))
+        (IsFirstAgain links.now row.now) }
     ensures used { All (λ m. m < mark + 1) marks.new }
     ensures len { length marks.new ≡ length marks.old }
 {
@@ -65,9 +68,11 @@ pub(crate) fn first_repeat<E>(
     count: usize,
     forward: &LinkLists,
 ) -> Result<Option<usize>, AllocError>
-    requires lists { ListsAre DependencyDirection.Forward count links.now forward.now.bounds.items forward.now.numbers.items }
+    requires lists { ListsAre DependencyDirection.Forward count links.now forward.now.bounds.items
+        forward.now.numbers.items }
     requires ends { All (EndsBelow count) links.now }
-    ensures { IfOk result (λ r. MatchOption r (SinglesBelow links.now (length links.now)) (IsFirstRepeat links.now)) }
+    ensures { IfOk result (λ r. MatchOption r (SinglesBelow links.now (length links.now))
+        (IsFirstRepeat links.now)) }
 {
     let mut marks = vec![in alloc; 0; count]?;
     let mut lowest = links.len();

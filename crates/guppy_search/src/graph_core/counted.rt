@@ -56,7 +56,8 @@ impl<'a, G: GraphSpec> CountedGraph<'a, G> {
     /// the node count.
     pub fn leaving(&self, position: G::Ix, direction: DependencyDirection) -> usize
         requires { G.Ix.index_of position < length self.now.graph.nodes }
-        ensures count { result ≡ length (links_at direction self.now.graph.links (G.Ix.index_of position)) }
+        ensures count { result ≡ length
+            (links_at direction self.now.graph.links (G.Ix.index_of position)) }
         ensures graph { IsGraph self.now.graph }
     {
         self.leaving_at(position.index(), direction)
@@ -75,11 +76,14 @@ impl<'a, G: GraphSpec> CountedGraph<'a, G> {
         k: usize,
     ) -> (usize, G::Ix, &'a G::Edge)
         requires position { G.Ix.index_of position < length self.old.graph.nodes }
-        requires place { k < length (links_at direction self.old.graph.links (G.Ix.index_of position)) }
+        requires place { k < length (links_at direction self.old.graph.links
+            (G.Ix.index_of position)) }
         requires room { self.old.looks + 1 < 2 ^ 64 }
-        ensures number { result.0 ≡ slice_index (links_at direction self.old.graph.links (G.Ix.index_of position)) k }
+        ensures number { result.0 ≡ slice_index
+            (links_at direction self.old.graph.links (G.Ix.index_of position)) k }
         ensures link { (l : Link G.Edge) × (slice_get self.old.graph.links result.0 ≡ Some l)
-            × (near_end direction l ≡ G.Ix.index_of position) × (far_end direction l ≡ G.Ix.index_of result.1)
+            × (near_end direction l ≡ G.Ix.index_of position)
+            × (far_end direction l ≡ G.Ix.index_of result.1)
             × (l.edge ≡ result.2.now) }
         ensures counted { self.new ≡ record self.old { looks = self.old.looks + 1 } }
         ensures graph { IsGraph self.new.graph }
@@ -109,7 +113,8 @@ impl<'a, G: GraphSpec> CountedGraph<'a, G> {
         requires position { position < length self.old.graph.nodes }
         requires place { k < length (links_at direction self.old.graph.links position) }
         requires room { self.old.looks + 1 < 2 ^ 64 }
-        ensures number { result.0 ≡ slice_index (links_at direction self.old.graph.links position) k }
+        ensures number { result.0 ≡ slice_index
+            (links_at direction self.old.graph.links position) k }
         ensures link { (l : Link G.Edge) × (slice_get self.old.graph.links result.0 ≡ Some l)
             × (near_end direction l ≡ position) × (far_end direction l ≡ result.1)
             × (l.edge ≡ result.2.now) }

@@ -39,7 +39,8 @@ impl IndexType for PackageIx {
         self.0 as usize
     }
 
-    ghost one_index = { λ a b same. ap (λ (n : ℕ). let p : PackageIx = record { 0 = n } in p) same };
+    ghost one_index = { λ a b same. ap
+        (λ (n : ℕ). let p : PackageIx = record { 0 = n } in p) same };
 }
 
 impl fmt::Display for PackageIx {

@@ -122,7 +122,8 @@ impl<G: GraphSpec> IxSet<G> {
 
     /// The lowest position in the set from the given one on.
     fn first_from(&self, start: usize) -> Option<usize>
-        ensures { MatchOption result (positions_from start (drop start self.now) ≡ []) (IsFirstFrom self.now start) }
+        ensures { MatchOption result (positions_from start (drop start self.now) ≡ [])
+            (IsFirstFrom self.now start) }
     {
         for position in start..self.node_count() {
             if self.has_position(position) {

@@ -5,8 +5,11 @@ ghost use Rattle.std.specs.Prelude.{◌≡◌, ℕ, ◌<◌, ◌^◌, length, sl
 pub(crate) fn combine<F: Fn(u64, u64) -> u64>(words: &mut [u64], others: &[u64], operation: F)
     requires count { length words.old ≡ length others.now }
     requires callable { F.IsAlwaysCallable operation }
-    ensures fits { (k : ℕ) → k < length words.old → (slice_index others.now k < 2 ^ 64) × (slice_index words.new k < 2 ^ 64) }
-    ensures made { (k : ℕ) → k < length words.old → F.post operation (slice_index words.old k) (slice_index others.now k) (slice_index words.new k) }
+    ensures fits { (k : ℕ) → k < length words.old → (slice_index others.now k < 2 ^ 64)
+        × (slice_index words.new k < 2 ^ 64) }
+    ensures made { (k : ℕ) → k < length words.old
+        → F.post operation (slice_index words.old k) (slice_index others.now k)
+        (slice_index words.new k) }
 {
     for (k, other) in others.iter().enumerate() {
         words[k] = operation(words[k], *other);

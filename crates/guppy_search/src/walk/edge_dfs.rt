@@ -47,7 +47,9 @@ impl<'g, G: GraphSpec> EdgeDfs<'g, G> {
     ) -> Result<Self, AllocError>
         requires set { length set.now ≡ length graph.now.nodes }
         requires initials { length initials.now ≡ length graph.now.nodes }
-        ensures walked { IfOk result (λ left. AreWalked direction graph.now.links set.now (IsIn initials.now) (numbers_of left)) }
+        ensures walked { IfOk result
+            (λ left. AreWalked direction graph.now.links set.now (IsIn initials.now)
+            (numbers_of left)) }
         ensures ends { IfOk result (All (λ l. LinkIs graph.now.links l.from l.to l.number)) }
     {
         let numbers = walked_numbers(graph, set, direction, initials)?;
@@ -65,7 +67,9 @@ impl<G: GraphSpec> Iterator for EdgeDfs<'_, G> {
     ghost use Rattle.std.specs.Iterator.{YieldsFirstBy, item_count};
     ghost use Rattle.guppy_search.specs.Walked.{LinkEnds};
 
-    ghost next_gives = { YieldsFirstBy (λ l. let ends : LinkEnds = record { from = G.Ix.index_of l.0; to = G.Ix.index_of l.1; number = l.2 } in ends) (λ s. s) };
+    ghost next_gives = { YieldsFirstBy
+        (λ l. let ends : LinkEnds = record
+        { from = G.Ix.index_of l.0; to = G.Ix.index_of l.1; number = l.2 } in ends) (λ s. s) };
 
     ghost remaining = { item_count (λ s. s) };
 

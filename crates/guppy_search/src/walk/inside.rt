@@ -21,9 +21,11 @@ impl<G: GraphSpec> LinkVisitor for FollowInside<'_, G> {
     ghost use Rattle.guppy_search.specs.Walked.{IsInside};
 
     ghost visits = { λ s n b t. (t ≡ s)
-        × ((l : Link G.Edge) → slice_get s.graph.now.links n ≡ Some l → (b ≡ true) ↔ IsInside s.set.now l) };
+        × ((l : Link G.Edge) → slice_get s.graph.now.links n ≡ Some l → (b ≡ true)
+        ↔ IsInside s.set.now l) };
 
-    ghost can_visit = { λ s n. (n < length s.graph.now.links) × (length s.set.now ≡ length s.graph.now.nodes) };
+    ghost can_visit = { λ s n. (n < length s.graph.now.links)
+        × (length s.set.now ≡ length s.graph.now.nodes) };
 
     fn visit(&mut self, link: usize) -> bool {
         let link = self.graph.link(link);
@@ -43,7 +45,8 @@ pub(crate) fn walked_numbers<G: GraphSpec>(
 ) -> Result<Vec<usize>, AllocError>
     requires set { length set.now ≡ length graph.now.nodes }
     requires initials { length initials.now ≡ length graph.now.nodes }
-    ensures { IfOk result (λ numbers. AreWalked direction graph.now.links set.now (IsIn initials.now) numbers.items) }
+    ensures { IfOk result (λ numbers. AreWalked direction graph.now.links set.now
+        (IsIn initials.now) numbers.items) }
 {
     let visitor = FollowInside { graph, set };
     let (_reached, recorder) = reachable_recorded(graph, initials, direction, visitor)?;
