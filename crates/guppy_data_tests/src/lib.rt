@@ -14,6 +14,8 @@ mod platform;
 #[cfg(test)]
 mod printed;
 #[cfg(test)]
+mod records;
+#[cfg(test)]
 mod texts;
 #[cfg(test)]
 mod views;

@@ -5,28 +5,12 @@ use crate::evaluators::KnowsNothing;
 use crate::owned::text;
 use crate::platform::specs;
 use guppy_data::{
-    DepRequiredOrOptional, DependencyReq, DependencyReqImpl, EnabledStatus, EnabledTernary,
-    PlatformSpec, PlatformStatus, PlatformStatusImpl,
+    DependencyReq, DependencyReqImpl, EnabledStatus, EnabledTernary, PlatformSpec, PlatformStatus,
+    PlatformStatusImpl,
 };
 use std::alloc::Global;
 use std::collections::BTreeMap;
 use std::process::Abort;
-
-fn never(alloc: Global) -> DepRequiredOrOptional {
-    DepRequiredOrOptional {
-        build_if: PlatformStatusImpl::never(alloc),
-        default_features_if: PlatformStatusImpl::never(alloc),
-        no_default_features_if: PlatformStatusImpl::never(alloc),
-        feature_targets: BTreeMap::new(alloc),
-    }
-}
-
-fn never_built(alloc: Global) -> DependencyReqImpl {
-    DependencyReqImpl {
-        required: never(alloc),
-        optional: never(alloc),
-    }
-}
 
 fn add_features(
     rt: &impl Abort,
@@ -76,7 +60,7 @@ fn feature_table_holds(rt: &impl Abort, req: DependencyReq<'_>) {
 
 #[test]
 fn feature_table(rt: HostRuntime) {
-    let mut record = never_built(rt.alloc());
+    let mut record = DependencyReqImpl::never(rt.alloc());
     let required = &mut record.required.feature_targets;
     add_features(&rt, rt.alloc(), required, &["b", "a"]);
     let optional = &mut record.optional.feature_targets;
@@ -105,7 +89,7 @@ fn knows_nothing(rt: HostRuntime) {
 
 #[test]
 fn dependency_sections(rt: HostRuntime) {
-    let mut record = never_built(rt.alloc());
+    let mut record = DependencyReqImpl::never(rt.alloc());
     assert!(rt; !DependencyReq::new(&record).is_present());
     record.optional.build_if = PlatformStatusImpl::Always;
     record.required.default_features_if = PlatformStatusImpl::Always;
@@ -115,4 +99,14 @@ fn dependency_sections(rt: HostRuntime) {
     status_holds(&rt, "status", req.status(), false, true);
     status_holds(&rt, "default", req.default_features(), true, false);
     status_holds(&rt, "no default", req.no_default_features(), false, true);
+}
+
+#[test]
+fn required_dependency(rt: HostRuntime) {
+    let record = DependencyReqImpl::required(rt.alloc());
+    let req = DependencyReq::new(&record);
+    status_holds(&rt, "status", req.status(), true, false);
+    status_holds(&rt, "default", req.default_features(), true, false);
+    status_holds(&rt, "no default", req.no_default_features(), false, false);
+    assert!(rt; req.features().next().is_none());
 }

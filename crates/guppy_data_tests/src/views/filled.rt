@@ -7,39 +7,43 @@ use guppy_data::{
     PackagePublish, PackagePublishRecord, PackageRecord, PackageSource, PackageSourceRecord,
     Utf8Path,
 };
-use indexmap::{IndexMap, IndexSet};
 use semver::Version;
 use serde_json::Value;
 use std::alloc::Global;
 use std::process::Abort;
 
 fn named(rt: &impl Abort, alloc: Global) -> PackageRecord {
-    PackageRecord {
-        id: id(rt, alloc, "path+file:///a#1.2.3"),
-        name: text(rt, alloc, "a"),
-        version: Version::new(1, 2, 3),
-        authors: texts(rt, alloc, &["author"]),
-        description: Some(text(rt, alloc, "description")),
-        license: Some(text(rt, alloc, "MIT")),
-        license_file: Some(path(rt, alloc, "LICENSE")),
-        source: PackageSourceRecord::Workspace(path(rt, alloc, "a")),
-        manifest_path: path(rt, alloc, "a/Cargo.toml"),
-        categories: texts(rt, alloc, &["category"]),
-        keywords: texts(rt, alloc, &["keyword"]),
-        readme: Some(path(rt, alloc, "README.md")),
-        repository: Some(text(rt, alloc, "repository")),
-        homepage: Some(text(rt, alloc, "homepage")),
-        documentation: Some(text(rt, alloc, "documentation")),
-        edition: text(rt, alloc, "2024"),
-        metadata_table: Value::Bool(true),
-        links: Some(text(rt, alloc, "z")),
-        publish: PackagePublishRecord::Registries(texts(rt, alloc, &["registry"])),
-        default_run: Some(text(rt, alloc, "run")),
-        rust_version: Some(Version::new(1, 85, 0)),
-        named_features: IndexMap::new(alloc),
-        optional_deps: IndexSet::new(alloc),
-        build_targets: Vec::new(alloc),
-    }
+    let id = id(rt, alloc, "path+file:///a#1.2.3");
+    let name = text(rt, alloc, "a");
+    let version = Version::new(1, 2, 3);
+    let source = PackageSourceRecord::Workspace(path(rt, alloc, "a"));
+    let manifest_path = path(rt, alloc, "a/Cargo.toml");
+    let edition = text(rt, alloc, "2024");
+    PackageRecord::new(alloc, id, name, version, source, manifest_path, edition)
+}
+
+fn fill_texts(rt: &impl Abort, alloc: Global, package: &mut PackageRecord) {
+    package.description = Some(text(rt, alloc, "description"));
+    package.license = Some(text(rt, alloc, "MIT"));
+    package.repository = Some(text(rt, alloc, "repository"));
+    package.homepage = Some(text(rt, alloc, "homepage"));
+    package.documentation = Some(text(rt, alloc, "documentation"));
+    package.links = Some(text(rt, alloc, "z"));
+    package.default_run = Some(text(rt, alloc, "run"));
+}
+
+fn fill_values(rt: &impl Abort, alloc: Global, package: &mut PackageRecord) {
+    package.license_file = Some(path(rt, alloc, "LICENSE"));
+    package.readme = Some(path(rt, alloc, "README.md"));
+    package.rust_version = Some(Version::new(1, 85, 0));
+    package.metadata_table = Value::Bool(true);
+}
+
+fn fill_lists(rt: &impl Abort, alloc: Global, package: &mut PackageRecord) {
+    package.authors = texts(rt, alloc, &["author"]);
+    package.categories = texts(rt, alloc, &["category"]);
+    package.keywords = texts(rt, alloc, &["keyword"]);
+    package.publish = PackagePublishRecord::Registries(texts(rt, alloc, &["registry"]));
 }
 
 fn library(rt: &impl Abort, alloc: Global) -> BuildTargetRecord {
@@ -164,6 +168,9 @@ fn tables_hold(rt: &impl Abort, package: &PackageRecord) {
 #[test]
 fn filled_record(rt: HostRuntime) {
     let mut package = named(&rt, rt.alloc());
+    fill_texts(&rt, rt.alloc(), &mut package);
+    fill_values(&rt, rt.alloc(), &mut package);
+    fill_lists(&rt, rt.alloc(), &mut package);
     fill_tables(&rt, rt.alloc(), &mut package);
     texts_hold(&rt, &package);
     values_hold(&rt, &package);
