@@ -20,6 +20,7 @@ pub use Rattle.guppy_graph.specs.Accepted
 pub use Rattle.guppy_graph.specs.Cycles
 pub use Rattle.guppy_graph.specs.Depends
 pub use Rattle.guppy_graph.specs.DevOnly
+pub use Rattle.guppy_graph.specs.First
 pub use Rattle.guppy_graph.specs.Graph
 pub use Rattle.guppy_graph.specs.Ids
 pub use Rattle.guppy_graph.specs.Keys

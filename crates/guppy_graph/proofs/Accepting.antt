@@ -16,14 +16,11 @@ use Rattle.guppy_data.specs.declared.records.LinkRecord.{LinkRecord}
 use Rattle.guppy_data.specs.declared.records.WorkspaceRecord.{WorkspaceRecord}
 use Rattle.guppy_graph.specs.Ids.{HasId, DistinctBelow}
 use Rattle.guppy_graph.specs.Links.{AreLinksOf, AreEndsNamed, AreEndsKnown, DistinctPairsBelow, IsFirstRepeatedLink}
-use Rattle.guppy_graph.specs.Accepted.{ArePackagesAccepted, AfterMembers}
+use Rattle.guppy_graph.specs.Accepted.{few_packages, few_links, distinct_pairs, ArePackagesAccepted}
 use Rattle.guppy_graph.specs.Refused.{IsRefusal, error_of}
+use Rattle.guppy_graph.proofs.Lists.{some_of, of_some}
 use Rattle.guppy_graph.proofs.Named.{within_of, id_is, position_is}
-
--- the rules of the packages are kept, and X holds
-pub after_members : (packages : List PackageRecord) (records : List LinkRecord) (workspace : WorkspaceRecord) → ArePackagesAccepted packages workspace → (X : Type 0) → X → AfterMembers packages records workspace X
-after_members packages records workspace kept X x =
-    (kept.few_packages, (kept.distinct_ids, (kept.distinct_targets, (kept.named_targets, (kept.distinct_paths, (kept.distinct_names, (kept.known_members, x)))))))
+use Rattle.guppy_graph.proofs.Rules.{none_below, packages_kept, after_ends}
 
 edge_at : (o : Option (Link LinkRecord)) (r : LinkRecord) → option_map (λ l. l.edge) o ≡ Some r → (l : Link LinkRecord) × (o ≡ Some l) × (l.edge ≡ r)
 edge_at None r h = absurd (cc)
@@ -61,9 +58,13 @@ some_at (l ∷ links) (suc k) h = some_at links k (omega arith)
 module _ (packages : List PackageRecord) (records : List LinkRecord) (links : List (Link LinkRecord)) (are : AreLinksOf packages records links) (distinct : DistinctBelow packages (length packages)) where
   -- links with different ends come of records with different IDs
   pub pairs_of : (k : ℕ) → SinglesBelow links k → DistinctPairsBelow records k
-  pairs_of k singles i j a b below_i below_j found_a found_b same_from same_to =
-      let l = link_at packages records links are i a found_a in
-      let m = link_at packages records links are j b found_b in
+  pairs_of k singles i j key below_i below_j here there =
+      let a = some_of (slice_get records i) _ here in
+      let b = some_of (slice_get records j) _ there in
+      let same_from : a.0.from ≡ b.0.from = a.2.0 ∙ sym b.2.0 in
+      let same_to : a.0.to ≡ b.0.to = a.2.1 ∙ sym b.2.1 in
+      let l = link_at packages records links are i a.0 a.1 in
+      let m = link_at packages records links are j b.0 b.1 in
       let e = ends_at packages records links are i l.0 l.1 in
       let f = ends_at packages records links are j m.0 m.1 in
       let froms : l.0.edge.from ≡ m.0.edge.from = ap (λ (r : LinkRecord). r.from) l.2 ∙ (same_from ∙ ap (λ (r : LinkRecord). r.from) (sym m.2)) in
@@ -77,30 +78,34 @@ module _ (packages : List PackageRecord) (records : List LinkRecord) (links : Li
   repeat_of k r =
       let e = ends_at packages records links are r.earlier r.first r.first_found in
       let f = ends_at packages records links are k r.second r.second_found in
+      let same_from : r.first.edge.from ≡ r.second.edge.from = id_is packages r.first.edge.from r.second.edge.from r.first.from e.0 (subst (λ p. HasId packages r.second.edge.from p) (sym r.same.0) f.0) in
+      let same_to : r.first.edge.to ≡ r.second.edge.to = id_is packages r.first.edge.to r.second.edge.to r.first.to e.1 (subst (λ p. HasId packages r.second.edge.to p) (sym r.same.1) f.1) in
       record {
-        earlier = r.earlier;
-        is_earlier = r.is_earlier;
-        first = r.first.edge;
-        second = r.second.edge;
-        first_found = record_at packages records links are r.earlier r.first r.first_found;
-        second_found = record_at packages records links are k r.second r.second_found;
-        same_from = id_is packages r.first.edge.from r.second.edge.from r.first.from e.0 (subst (λ p. HasId packages r.second.edge.from p) (sym r.same.0) f.0);
-        same_to = id_is packages r.first.edge.to r.second.edge.to r.first.to e.1 (subst (λ p. HasId packages r.second.edge.to p) (sym r.same.1) f.1);
-        distinct = pairs_of k r.singles;
+        repeat = record {
+          key = (r.second.edge.from, r.second.edge.to);
+          here = of_some (slice_get records k) _ r.second.edge (record_at packages records links are k r.second r.second_found) (refl, refl);
+          earlier = r.earlier;
+          is_earlier = r.is_earlier;
+          there = of_some (slice_get records r.earlier) _ r.first.edge (record_at packages records links are r.earlier r.first r.first_found) (same_from, same_to);
+        };
+        differ = pairs_of k r.singles;
       }
 
   -- the fault of the parts is the first fault of the records
   pub refusal_of : (workspace : WorkspaceRecord) → ArePackagesAccepted packages workspace → length records ≤ 4294967295 → All (AreEndsKnown packages) records → (fault : GraphFault) → IsFault (length packages) links fault → IsRefusal packages records workspace (error_of fault)
-  refusal_of workspace kept few_links known TooManyNodes h = h
-  refusal_of workspace kept few_links known TooManyLinks h = let n = count_of packages records links are in after_members packages records workspace kept _ (omega arith)
-  refusal_of workspace kept few_links known (UnknownEnd k) h =
+  refusal_of workspace kept few known TooManyNodes h = record { rule = few_packages; broken = (refl, h); earlier = none_below packages records workspace }
+  refusal_of workspace kept few known TooManyLinks h =
+      let n = count_of packages records links are in
+      record { rule = few_links; broken = (refl, omega arith); earlier = packages_kept packages records workspace kept }
+  refusal_of workspace kept few known (UnknownEnd k) h =
       let at = h.2.within in
       let l = some_at links k at in
       let below : EndsBelow (length packages) l.0 = subst (EndsBelow (length packages)) l.1 (ends_below packages records links are k l.0 at) in
       let unknown : is_unknown (length packages) l.0 ≡ true = subst (λ (x : Link LinkRecord). is_unknown (length packages) x ≡ true) l.1 (h.2.unknown l.0) in
       absurd (known_end (length packages) l.0 below unknown)
-  refusal_of workspace kept few_links known (RepeatedLink k) h = after_members packages records workspace kept _ (few_links, (known, repeat_of k h.3))
-  refusal_of workspace kept few_links known OutOfMemory h = tt
+  refusal_of workspace kept few known (RepeatedLink k) h =
+      record { rule = distinct_pairs; broken = (k, refl, repeat_of k h.3); earlier = after_ends packages records workspace (packages_kept packages records workspace kept) few known }
+  refusal_of workspace kept few known OutOfMemory h = tt
 
-  pub distinct_pairs : (g : GraphValue PackageRecord LinkRecord) → IsGraph g → g.links ≡ links → DistinctPairsBelow records (length records)
-  distinct_pairs g is same = pairs_of (length records) (λ i j a b below_i below_j found_a found_b pair. is.single i j a b (ap (λ ls. slice_get ls i) same ∙ found_a) (ap (λ ls. slice_get ls j) same ∙ found_b) pair)
+  pub pairs_distinct : (g : GraphValue PackageRecord LinkRecord) → IsGraph g → g.links ≡ links → DistinctPairsBelow records (length records)
+  pairs_distinct g is same = pairs_of (length records) (λ i j a b below_i below_j found_a found_b pair. is.single i j a b (ap (λ ls. slice_get ls i) same ∙ found_a) (ap (λ ls. slice_get ls j) same ∙ found_b) pair)

@@ -7,9 +7,10 @@ use Rattle.std.proofs.lemmas.List.Elements.{All-push, All-map}
 use Rattle.guppy_search.specs.declared.graph_core.link.Link.{Link}
 use Rattle.guppy_data.specs.declared.records.PackageRecord.{PackageRecord}
 use Rattle.guppy_data.specs.declared.records.LinkRecord.{LinkRecord}
+use Rattle.guppy_graph.specs.First.{IsFirstWithout}
 use Rattle.guppy_graph.specs.Ids.{HasId}
 use Rattle.guppy_graph.specs.Keys.{NoneBelow}
-use Rattle.guppy_graph.specs.Links.{AreEndsOf, AreEndsAt, AreEndsNamed, AreLinksOf, link_of, AreEndsKnown, IsFirstUnknownEnd}
+use Rattle.guppy_graph.specs.Links.{AreEndsOf, AreEndsAt, AreEndsNamed, AreLinksOf, link_of, AreEndsKnown}
 use Rattle.guppy_graph.proofs.Named.{unknown_of}
 
 -- the records whose ends were found are known
@@ -44,19 +45,19 @@ links_made packages records ends are = record {
 }
 
 module _ (packages : List PackageRecord) (records : List LinkRecord) (k : ℕ) (ends : List (ℕ × ℕ)) (r : LinkRecord) where
-  pub unknown_from : slice_get records k ≡ Some r → AreEndsOf packages (take k records) ends → NoneBelow (HasId packages) r.from (length packages) → IsFirstUnknownEnd packages records k
+  pub unknown_from : slice_get records k ≡ Some r → AreEndsOf packages (take k records) ends → NoneBelow (HasId packages) r.from (length packages) → IsFirstWithout (AreEndsKnown packages) records k
   unknown_from found are none = record {
-    record_ = r;
+    item = r;
     found = found;
-    unknown = λ h. unknown_of packages r.from none h.0;
+    lacks = λ h. unknown_of packages r.from none h.0;
     before = all_known packages (take k records) ends are.count are.named;
   }
 
-  pub unknown_to : slice_get records k ≡ Some r → AreEndsOf packages (take k records) ends → NoneBelow (HasId packages) r.to (length packages) → IsFirstUnknownEnd packages records k
+  pub unknown_to : slice_get records k ≡ Some r → AreEndsOf packages (take k records) ends → NoneBelow (HasId packages) r.to (length packages) → IsFirstWithout (AreEndsKnown packages) records k
   unknown_to found are none = record {
-    record_ = r;
+    item = r;
     found = found;
-    unknown = λ h. unknown_of packages r.to none h.1;
+    lacks = λ h. unknown_of packages r.to none h.1;
     before = all_known packages (take k records) ends are.count are.named;
   }
 

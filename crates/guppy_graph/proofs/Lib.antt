@@ -4,6 +4,7 @@ pub mod Keying
 pub mod Named
 pub mod Targeting
 pub mod Unknown
+pub mod Rules
 pub mod Runs
 pub mod Depending
 pub mod Ends

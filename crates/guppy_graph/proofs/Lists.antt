@@ -1,10 +1,11 @@
 -- Lists, place by place.
 use Rattle.std.proofs.Common.{◌≡◌, ◌∙◌, sym, refl, ap, subst, arith, ℕ, zero, suc, ◌<◌, ◌+◌, List, [], ◌∷◌, ◌++◌, get_or, length, map, take, All, Option, Some, None, slice_get, true, false}
-use Rattle.std.specs.Prelude.{MatchOption, is_some}
+use Rattle.std.specs.Prelude.{MatchOption, IsSomeAnd, is_some}
 use Rattle.std.specs.List.{AllZip, Contains}
 use Rattle.std.proofs.lemmas.List.{take_more}
 use Rattle.std.proofs.lemmas.Option.{slice_get_within, get_or_from_slice_get}
 use Rattle.std.proofs.lemmas.List.Elements.{All-push}
+use Rattle.guppy_graph.specs.First.{IsFirstWithout}
 
 pub MatchOption-along : {A : Type 0} (o : Option A) (P Q : Type 0) (R S : A → Type 0) → (P → Q) → ((x : A) → R x → S x) → MatchOption o P R → MatchOption o Q S
 MatchOption-along None P Q R S none some h = none h
@@ -82,3 +83,18 @@ pub some_at : {A : Type 0} (xs : List A) (p : ℕ) → p < length xs → (x : A)
 some_at [] p within = absurd (omega arith)
 some_at (x ∷ xs) zero within = (x, refl)
 some_at (x ∷ xs) (suc p) within = some_at xs p (omega arith)
+
+-- the value, and what holds of it
+pub some_of : {A : Type 0} (o : Option A) (P : A → Type 0) → IsSomeAnd o P → (x : A) × (o ≡ Some x) × P x
+some_of None P h = absurd h
+some_of (Some x) P h = (x, refl, h)
+
+pub of_some : {A : Type 0} (o : Option A) (P : A → Type 0) (x : A) → o ≡ Some x → P x → IsSomeAnd o P
+of_some o P x is h = rw is h
+
+pub in_some : {A : Type 0} (o : Option A) (P : A → Type 0) (x : A) → o ≡ Some x → IsSomeAnd o P → P x
+in_some o P x is h = rw is at h
+
+-- where one item lacks it, not all have it
+pub not_all : {A : Type 0} (P : A → Type 0) (items : List A) (k : ℕ) → IsFirstWithout P items k → All P items → ⊥
+not_all P items k first all = first.lacks (All-slice_get P items k first.item all first.found)

@@ -1,15 +1,17 @@
 -- Build targets with an ID.
-use Rattle.std.proofs.Common.{◌≡◌, ◌∙◌, sym, ap, refl, subst, ℕ, List, Option, Some, None, slice_get}
+use Rattle.std.proofs.Common.{◌≡◌, ◌∙◌, sym, ap, refl, subst, arith, ℕ, List, length, Option, Some, None, slice_get}
 use Rattle.std.specs.Prelude.{IsSomeAnd, option_map}
 use Rattle.std.specs.declared.cmp.Ordering.TheVariants.{Equal}
 use Rattle.std.specs.Ordering.{nat_cmp}
 use Rattle.std.specs.Cmp.Lexicographic.{slice_cmp}
 use Rattle.std.proofs.lemmas.Cmp.{nat_list_cmp_total, tied_itself}
+use Rattle.std.proofs.lemmas.Option.{slice_get_within}
 use Rattle.guppy_data.specs.declared.records.BuildTargetRecord.{BuildTargetRecord}
 use Rattle.guppy_data.specs.BuildTargetId.{TargetId, recorded_id}
 use Rattle.guppy_data.specs.SameTargetId.{same_id}
 use Rattle.guppy_graph.specs.Keys.{HasKey, DifferBelow, IsFirstRepeat}
 use Rattle.guppy_graph.specs.Targets.{target_key, target_at, HasTarget}
+use Rattle.guppy_graph.proofs.Lists.{some_of}
 use Rattle.guppy_graph.proofs.Keying.{exact_there, exact_back}
 
 -- IDs with the same key are the same
@@ -54,3 +56,12 @@ module _ (targets : List BuildTargetRecord) where
         };
         differ = targets_differ t r.differ;
       }
+
+  -- where a target repeats an ID, the IDs aren't different
+  pub repeat_not_distinct : (t : ℕ) → IsFirstRepeat (HasTarget targets) t → DifferBelow (HasTarget targets) (length targets) → ⊥
+  repeat_not_distinct t r differ =
+      let at = some_of (slice_get targets t) _ r.repeat.here in
+      let within = slice_get_within targets t at.0 at.1 in
+      let later = r.repeat.is_earlier in
+      let same = differ r.repeat.earlier t r.repeat.key (omega arith) within r.repeat.there r.repeat.here in
+      absurd (omega arith)

@@ -7,48 +7,24 @@ use Rattle.std.proofs.lemmas.List.{map_push}
 use Rattle.std.proofs.lemmas.List.Elements.{All-append, All-cons}
 use Rattle.guppy_data.specs.declared.texts.fault.ConstructFault.{ConstructFault}
 use Rattle.guppy_data.specs.declared.texts.error.Error.{Error}
-use Rattle.guppy_data.specs.declared.texts.error.Error.TheVariants.{PackageGraphConstructError, UnknownPackageId, UnknownFeatureId, UnknownWorkspacePath, UnknownWorkspaceName, PackageGraphInternalError, FeatureGraphInternalError, OutOfMemory}
+use Rattle.guppy_data.specs.declared.texts.error.Error.TheVariants.{PackageGraphConstructError, UnknownPackageId, UnknownWorkspacePath, UnknownWorkspaceName}
 use Rattle.guppy_graph.specs.Refused.{TellsFault, NamesId, NamesPath, NamesName, IsFirstNot, EndsInFirstNot}
 
 pub NamesId-along : (P Q : List ℕ → Type 0) (e : Error) → ((id : List ℕ) → P id → Q id) → NamesId P e → NamesId Q e
-NamesId-along P Q (PackageGraphConstructError f) h n = n
 NamesId-along P Q (UnknownPackageId id) h n = h id n
-NamesId-along P Q (UnknownFeatureId id feature) h n = n
-NamesId-along P Q (UnknownWorkspacePath path) h n = n
-NamesId-along P Q (UnknownWorkspaceName name) h n = n
-NamesId-along P Q (PackageGraphInternalError f) h n = n
-NamesId-along P Q (FeatureGraphInternalError text) h n = n
-NamesId-along P Q OutOfMemory h n = n
+NamesId-along P Q _ h n = n
 
 pub NamesPath-along : (P Q : List ℕ → Type 0) (e : Error) → ((path : List ℕ) → P path → Q path) → NamesPath P e → NamesPath Q e
-NamesPath-along P Q (PackageGraphConstructError f) h n = n
-NamesPath-along P Q (UnknownPackageId id) h n = n
-NamesPath-along P Q (UnknownFeatureId id feature) h n = n
 NamesPath-along P Q (UnknownWorkspacePath path) h n = h path n
-NamesPath-along P Q (UnknownWorkspaceName name) h n = n
-NamesPath-along P Q (PackageGraphInternalError f) h n = n
-NamesPath-along P Q (FeatureGraphInternalError text) h n = n
-NamesPath-along P Q OutOfMemory h n = n
+NamesPath-along P Q _ h n = n
 
 pub NamesName-along : (P Q : List ℕ → Type 0) (e : Error) → ((name : List ℕ) → P name → Q name) → NamesName P e → NamesName Q e
-NamesName-along P Q (PackageGraphConstructError f) h n = n
-NamesName-along P Q (UnknownPackageId id) h n = n
-NamesName-along P Q (UnknownFeatureId id feature) h n = n
-NamesName-along P Q (UnknownWorkspacePath path) h n = n
 NamesName-along P Q (UnknownWorkspaceName name) h n = h (string_bytes name) n
-NamesName-along P Q (PackageGraphInternalError f) h n = n
-NamesName-along P Q (FeatureGraphInternalError text) h n = n
-NamesName-along P Q OutOfMemory h n = n
+NamesName-along P Q _ h n = n
 
 pub TellsFault-along : (P Q : ConstructFault → Type 0) (e : Error) → ((f : ConstructFault) → P f → Q f) → TellsFault P e → TellsFault Q e
 TellsFault-along P Q (PackageGraphConstructError f) h n = h f n
-TellsFault-along P Q (UnknownPackageId id) h n = n
-TellsFault-along P Q (UnknownFeatureId id feature) h n = n
-TellsFault-along P Q (UnknownWorkspacePath path) h n = n
-TellsFault-along P Q (UnknownWorkspaceName name) h n = n
-TellsFault-along P Q (PackageGraphInternalError f) h n = n
-TellsFault-along P Q (FeatureGraphInternalError text) h n = n
-TellsFault-along P Q OutOfMemory h n = n
+TellsFault-along P Q _ h n = n
 
 module _ (Known : List ℕ → Type 0) where
   -- an unknown text alone

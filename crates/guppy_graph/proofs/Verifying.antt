@@ -1,5 +1,5 @@
 -- Verified graphs, and their faults.
-use Rattle.std.proofs.Common.{◌≡◌, ◌∙◌, sym, subst, refl, arith, inl, inr, ⊎_elim, ℕ, zero, suc, ◌+◌, ◌<◌, Bool, true, List, [], ◌∷◌, length, take, map, All, get_or, Option, Some, None, slice_get}
+use Rattle.std.proofs.Common.{◌≡◌, ◌∙◌, sym, subst, refl, arith, inl, inr, ⊎_elim, ℕ, zero, suc, ◌+◌, ◌<◌, Bool, true, List, [], ◌∷◌, length, take, map, All, get_or, Some, slice_get}
 use Rattle.std.specs.Prelude.{◌==◌, codes, Ok, IsSomeAnd}
 use Rattle.std.specs.List.{filter_map}
 use Rattle.std.proofs.lemmas.Bool.{cases_Bool, eq-eqb}
@@ -17,10 +17,11 @@ use Rattle.guppy_core.specs.Links.{EndsBelow, links_at, numbers_where}
 use Rattle.guppy_data.specs.declared.records.BuildTargetRecord.{BuildTargetRecord}
 use Rattle.guppy_data.specs.declared.records.LinkRecord.{LinkRecord}
 use Rattle.guppy_data.specs.declared.texts.fault.VerifyFault.{VerifyFault}
+use Rattle.guppy_graph.specs.First.{IsFirstWithout}
 use Rattle.guppy_graph.specs.Targets.{AreTargetsById}
 use Rattle.guppy_graph.specs.Graph.{GraphData, IsPackageGraph}
-use Rattle.guppy_graph.specs.Verified.{IsStar, HasVersion, HasSection, HasFittingKind, AreKindsFitting, IsFirstWithout, IsFirstMisfit, IsVerified, IsLinkVerified, IsLinkFault, IsTargetFault, IsLeavingLinkFault, IsPackageVerified, IsFirstVerifyFault}
-use Rattle.guppy_graph.proofs.Lists.{All-slice_get, some_at}
+use Rattle.guppy_graph.specs.Verified.{IsStar, HasVersion, HasSection, HasFittingKind, AreKindsFitting, IsFirstMisfit, IsVerified, IsLinkVerified, IsLinkFault, IsTargetFault, IsLeavingLinkFault, IsPackageVerified, IsFirstVerifyFault}
+use Rattle.guppy_graph.proofs.Lists.{All-slice_get, some_at, some_of, of_some, in_some, not_all}
 
 star_read : req_of (codes "*") ≡ Ok []
 unfolding semver_on_literals
@@ -38,17 +39,6 @@ star_is_empty req star =
 
 pub empty_is_star : (req : VersionReq) → req.comparators.items ≡ [] → IsStar req
 empty_is_star req none = rw none star_read
-
--- the value, and what holds of it
-pub some_of : {A : Type 0} (o : Option A) (P : A → Type 0) → IsSomeAnd o P → (x : A) × (o ≡ Some x) × P x
-some_of None P h = absurd h
-some_of (Some x) P h = (x, refl, h)
-
-pub of_some : {A : Type 0} (o : Option A) (P : A → Type 0) (x : A) → o ≡ Some x → P x → IsSomeAnd o P
-of_some o P x is h = rw is h
-
-pub in_some : {A : Type 0} (o : Option A) (P : A → Type 0) (x : A) → o ≡ Some x → IsSomeAnd o P → P x
-in_some o P x is h = rw is at h
 
 module _ {A : Type 0} (P : A → Type 0) (items : List A) where
   -- what holds of each item holds of what is read at the places
@@ -154,7 +144,7 @@ module _ (g : GraphData) where
       let r = some_of (slice_get g.packages p) (λ q. IsFirstMisfit q wrong.0) wrong.2 in
       let misfit = r.2 in
       let fit : All HasFittingKind misfit.listed = All-permutation HasFittingKind r.0.build_targets.items misfit.listed misfit.by_id.permutation (All-slice_get AreKindsFitting g.packages p r.0 v.kinds r.1) in
-      misfit.first.lacks (All-slice_get HasFittingKind misfit.listed wrong.0 misfit.first.item fit misfit.first.found)
+      not_all HasFittingKind misfit.listed wrong.0 misfit.first fit
 
   no_link_fault : IsVerified g → (p : ℕ) (fault : VerifyFault) → IsLeavingLinkFault g p fault → ⊥
   no_link_fault v p fault wrong =

@@ -1,3 +1,4 @@
+pub mod First
 pub mod Keys
 pub mod PathOrder
 pub mod Ids

@@ -1,9 +1,10 @@
 -- The records of links, and the ends that they name.
-use Rattle.std.specs.Prelude.{◌≡◌, ℕ, ◌<◌, List, length, Some, slice_get, All, map, take}
+use Rattle.std.specs.Prelude.{◌≡◌, ℕ, List, length, slice_get, IsSomeAnd, All, map}
 use Rattle.std.specs.List.{zip}
 use Rattle.guppy_search.specs.declared.graph_core.link.Link.{Link}
 use Rattle.guppy_data.specs.declared.records.PackageRecord.{PackageRecord}
 use Rattle.guppy_data.specs.declared.records.LinkRecord.{LinkRecord}
+use Rattle.guppy_graph.specs.Keys.{DifferBelow, IsFirstRepeat}
 use Rattle.guppy_graph.specs.Ids.{HasId, IsKnown}
 
 -- both ends of the record are packages
@@ -34,28 +35,15 @@ pub record AreEndsOf (packages : List PackageRecord) (records : List LinkRecord)
 abbrev pub link_of : LinkRecord × (ℕ × ℕ) → Link LinkRecord
 link_of p = record { from = p.1.0; to = p.1.1; edge = p.0 }
 
--- the link is the first with an end that is no package
-pub record IsFirstUnknownEnd (packages : List PackageRecord) (records : List LinkRecord)
-    (link : ℕ) : Type 0 where
-  pub record_ : LinkRecord
-  pub found : slice_get records link ≡ Some record_
-  pub unknown : AreEndsKnown packages record_ → ⊥
-  pub before : All (AreEndsKnown packages) (take link records)
+-- the record of the number has these ends
+abbrev pub HasEnds : List LinkRecord → List ℕ × List ℕ → ℕ → Type 0
+HasEnds records ends l =
+    IsSomeAnd (slice_get records l) (λ r. (r.from ≡ ends.0) × (r.to ≡ ends.1))
 
 -- the links below the number k have different pairs of ends
 abbrev pub DistinctPairsBelow : List LinkRecord → ℕ → Type 0
-DistinctPairsBelow records k = (i j : ℕ) (a b : LinkRecord) → i < k → j < k
-    → slice_get records i ≡ Some a → slice_get records j ≡ Some b → a.from ≡ b.from → a.to ≡ b.to
-    → i ≡ j
+DistinctPairsBelow records = DifferBelow (HasEnds records)
 
 -- the link has the ends of an earlier one, and no link before it has
-pub record IsFirstRepeatedLink (records : List LinkRecord) (link : ℕ) : Type 0 where
-  pub earlier : ℕ
-  pub is_earlier : earlier < link
-  pub first : LinkRecord
-  pub second : LinkRecord
-  pub first_found : slice_get records earlier ≡ Some first
-  pub second_found : slice_get records link ≡ Some second
-  pub same_from : first.from ≡ second.from
-  pub same_to : first.to ≡ second.to
-  pub distinct : DistinctPairsBelow records link
+abbrev pub IsFirstRepeatedLink : List LinkRecord → ℕ → Type 0
+IsFirstRepeatedLink records = IsFirstRepeat (HasEnds records)

@@ -5,7 +5,7 @@ use Rattle.guppy_search.specs.declared.graph_core.graph.GraphFault.TheVariants.{
 use Rattle.guppy_data.specs.declared.texts.fault.ConstructFault.{ConstructFault}
 use Rattle.guppy_data.specs.declared.texts.fault.ConstructFault.TheVariants.{TooManyPackages, UnknownLinkEnd, TooManyLinks as TooManyLinkRecords, RepeatedLink as RepeatedLinkRecord}
 use Rattle.guppy_data.specs.declared.texts.error.Error.{Error}
-use Rattle.guppy_data.specs.declared.texts.error.Error.TheVariants.{PackageGraphConstructError, UnknownPackageId, UnknownFeatureId, UnknownWorkspacePath, UnknownWorkspaceName, PackageGraphInternalError, FeatureGraphInternalError, OutOfMemory}
+use Rattle.guppy_data.specs.declared.texts.error.Error.TheVariants.{PackageGraphConstructError, UnknownPackageId, UnknownWorkspacePath, UnknownWorkspaceName, OutOfMemory}
 use Rattle.guppy_data.specs.declared.records.PackageRecord.{PackageRecord}
 use Rattle.guppy_data.specs.declared.records.LinkRecord.{LinkRecord}
 use Rattle.guppy_data.specs.declared.records.WorkspaceRecord.{WorkspaceRecord}
@@ -17,13 +17,8 @@ use Rattle.guppy_graph.specs.Accepted.{IsFirstFault}
 -- the error tells a fault of which P holds, or that memory ran out
 abbrev pub TellsFault : (ConstructFault → Type 0) → Error → Type 0
 TellsFault P (PackageGraphConstructError f) = P f
-TellsFault P (UnknownPackageId id) = ⊥
-TellsFault P (UnknownFeatureId id feature) = ⊥
-TellsFault P (UnknownWorkspacePath path) = ⊥
-TellsFault P (UnknownWorkspaceName name) = ⊥
-TellsFault P (PackageGraphInternalError f) = ⊥
-TellsFault P (FeatureGraphInternalError text) = ⊥
 TellsFault P OutOfMemory = Unit {0}
+TellsFault P _ = ⊥
 
 -- the error tells the first fault of the records, or that memory ran out
 abbrev pub IsRefusal : List PackageRecord → List LinkRecord → WorkspaceRecord → Error → Type 0
@@ -31,36 +26,21 @@ IsRefusal packages links workspace = TellsFault (IsFirstFault packages links wor
 
 -- the error names an ID of which P holds, or tells that memory ran out
 abbrev pub NamesId : (List ℕ → Type 0) → Error → Type 0
-NamesId P (PackageGraphConstructError f) = ⊥
 NamesId P (UnknownPackageId id) = P id
-NamesId P (UnknownFeatureId id feature) = ⊥
-NamesId P (UnknownWorkspacePath path) = ⊥
-NamesId P (UnknownWorkspaceName name) = ⊥
-NamesId P (PackageGraphInternalError f) = ⊥
-NamesId P (FeatureGraphInternalError text) = ⊥
 NamesId P OutOfMemory = Unit {0}
+NamesId P _ = ⊥
 
 -- the error names a path of which P holds, or tells that memory ran out
 abbrev pub NamesPath : (List ℕ → Type 0) → Error → Type 0
-NamesPath P (PackageGraphConstructError f) = ⊥
-NamesPath P (UnknownPackageId id) = ⊥
-NamesPath P (UnknownFeatureId id feature) = ⊥
 NamesPath P (UnknownWorkspacePath path) = P path
-NamesPath P (UnknownWorkspaceName name) = ⊥
-NamesPath P (PackageGraphInternalError f) = ⊥
-NamesPath P (FeatureGraphInternalError text) = ⊥
 NamesPath P OutOfMemory = Unit {0}
+NamesPath P _ = ⊥
 
 -- the error names a name of which P holds, or tells that memory ran out
 abbrev pub NamesName : (List ℕ → Type 0) → Error → Type 0
-NamesName P (PackageGraphConstructError f) = ⊥
-NamesName P (UnknownPackageId id) = ⊥
-NamesName P (UnknownFeatureId id feature) = ⊥
-NamesName P (UnknownWorkspacePath path) = ⊥
 NamesName P (UnknownWorkspaceName name) = P (string_bytes name)
-NamesName P (PackageGraphInternalError f) = ⊥
-NamesName P (FeatureGraphInternalError text) = ⊥
 NamesName P OutOfMemory = Unit {0}
+NamesName P _ = ⊥
 
 -- the text is the first of the list that isn't known
 pub record IsFirstNot (Known : List ℕ → Type 0) (texts : List (List ℕ))

@@ -1,10 +1,11 @@
 -- The build targets of packages.
-use Rattle.std.specs.Prelude.{◌≡◌, ℕ, List, ◌∷◌, length, map, Option, Some, option_map, slice_get, IsSome, IsSomeAnd, All, take}
+use Rattle.std.specs.Prelude.{◌≡◌, ℕ, List, ◌∷◌, length, map, Option, option_map, slice_get, IsSome, IsSomeAnd, All}
 use Rattle.std.specs.List.Sorted.{IsPermutation, IsStrictlySortedBy}
 use Rattle.guppy_data.specs.declared.records.PackageRecord.{PackageRecord}
 use Rattle.guppy_data.specs.declared.records.BuildTargetRecord.{BuildTargetRecord}
 use Rattle.guppy_data.specs.BuildTargetId.{TargetId, rank_of, name_or_empty, recorded_id, target_id_cmp}
 use Rattle.guppy_data.specs.TargetName.{target_name}
+use Rattle.guppy_graph.specs.First.{IsFirstWithout}
 use Rattle.guppy_graph.specs.Keys.{DifferBelow, IsFirstRepeat}
 
 -- the kind's place among the kinds, and then the name
@@ -34,25 +35,14 @@ AreTargetsNamed r = All IsNamed r.build_targets.items
 -- the target is the first of its package that has the ID of an earlier one, and the packages before
 -- have no such target
 pub record IsFirstRepeatedTarget (packages : List PackageRecord) (p t : ℕ) : Type 0 where
-  pub record_ : PackageRecord
-  pub found : slice_get packages p ≡ Some record_
-  pub repeated : IsFirstRepeat (HasTarget record_.build_targets.items) t
-  pub before : All AreTargetsDistinct (take p packages)
-
--- the target is the first of the list that lacks its name
-pub record IsFirstUnnamed (targets : List BuildTargetRecord) (t : ℕ) : Type 0 where
-  pub target : BuildTargetRecord
-  pub found : slice_get targets t ≡ Some target
-  pub unnamed : IsNamed target → ⊥
-  pub before : All IsNamed (take t targets)
+  pub first : IsFirstWithout AreTargetsDistinct packages p
+  pub repeated : IsFirstRepeat (HasTarget first.item.build_targets.items) t
 
 -- the target is the first of its package that lacks its name, and the packages before have no such
 -- target
 pub record IsFirstUnnamedTarget (packages : List PackageRecord) (p t : ℕ) : Type 0 where
-  pub record_ : PackageRecord
-  pub found : slice_get packages p ≡ Some record_
-  pub unnamed : IsFirstUnnamed record_.build_targets.items t
-  pub before : All AreTargetsNamed (take p packages)
+  pub first : IsFirstWithout AreTargetsNamed packages p
+  pub unnamed : IsFirstWithout IsNamed first.item.build_targets.items t
 
 -- exactly the targets, each once, strictly ascending by ID
 pub record AreTargetsById (targets listed : List BuildTargetRecord) : Type 0 where

@@ -1,5 +1,5 @@
 -- Verified graphs, and the first fault of a graph that is none.
-use Rattle.std.specs.Prelude.{◌≡◌, ◌⊎◌, ℕ, ◌<◌, List, length, map, take, false, true, codes, All, Ok, Some, slice_get, IsSomeAnd}
+use Rattle.std.specs.Prelude.{◌≡◌, ◌⊎◌, ℕ, ◌<◌, List, length, map, false, true, codes, All, Ok, slice_get, IsSomeAnd}
 use Rattle.semver.specs.Eval.{matches_all}
 use Rattle.semver.specs.Identifiers.{comparator_view}
 use Rattle.semver.specs.Parse.{req_of}
@@ -16,6 +16,7 @@ use Rattle.guppy_data.specs.declared.texts.fault.VerifyFault.{VerifyFault}
 use Rattle.guppy_data.specs.declared.texts.fault.VerifyFault.TheVariants.{TargetKind as WrongKind, Version as WrongVersion, NoSection}
 use Rattle.guppy_data.specs.BuildTargetId.{TargetId, Library, BuildScript, Binary, Example, Test, Benchmark, recorded_id}
 use Rattle.guppy_data.specs.BuildTargetKind.{TargetKind, LibraryOrExample, ProcMacro, Binary as BinaryKind, recorded_kind}
+use Rattle.guppy_graph.specs.First.{IsFirstWithout}
 use Rattle.guppy_graph.specs.Targets.{AreTargetsById}
 use Rattle.guppy_graph.specs.DevOnly.{is_absent}
 use Rattle.guppy_graph.specs.Graph.{GraphData}
@@ -66,13 +67,6 @@ pub record IsVerified (g : GraphData) : Type 0 where
   pub versions : All (HasVersion g.packages) g.links
   pub sections : All (λ l. HasSection l.edge) g.links
   pub kinds : All AreKindsFitting g.packages
-
--- at the place stands the first item of the list of which P doesn't hold
-pub record IsFirstWithout {A : Type 0} (P : A → Type 0) (items : List A) (place : ℕ) : Type 0 where
-  pub item : A
-  pub found : slice_get items place ≡ Some item
-  pub lacks : P item → ⊥
-  pub before : All P (take place items)
 
 -- in the order of the IDs, at the place stands the package's first target that is of a kind that
 -- its ID doesn't allow

@@ -2,13 +2,14 @@
 ghost use Rattle.std.specs.Prelude.{◌≡◌, ℕ, ◌<◌, List, IfOk, IfErr, OnOk, MatchOption, IsTrue, All, length, map, ◌↔◌};
 ghost use Rattle.std.specs.List.{zip};
 ghost use Rattle.guppy_data.specs.declared.records.LinkRecord.{LinkRecord};
+ghost use Rattle.guppy_graph.specs.First.{IsFirstWithout};
 ghost use Rattle.guppy_graph.specs.Keys.{DifferBelow, IsFirstRepeat};
 ghost use Rattle.guppy_graph.specs.Ids.{HasId, IsKnown};
 ghost use Rattle.guppy_graph.specs.Members.{HasPath, HasName};
 ghost use Rattle.guppy_graph.specs.Indexes.{IsIdIndex, IsPathIndex, IsNameIndex, AreTargetIndexes, AreIndexes};
-ghost use Rattle.guppy_graph.specs.Targets.{AreTargetsDistinct, AreTargetsNamed, IsNamed, IsFirstUnnamed, IsFirstRepeatedTarget, IsFirstUnnamedTarget};
-ghost use Rattle.guppy_graph.specs.Accepted.{ArePackagesAccepted, IsFirstUnknownMember};
-ghost use Rattle.guppy_graph.specs.Links.{AreEndsOf, IsFirstUnknownEnd, link_of};
+ghost use Rattle.guppy_graph.specs.Targets.{AreTargetsDistinct, AreTargetsNamed, IsNamed, IsFirstRepeatedTarget, IsFirstUnnamedTarget};
+ghost use Rattle.guppy_graph.specs.Accepted.{ArePackagesAccepted};
+ghost use Rattle.guppy_graph.specs.Links.{AreEndsKnown, AreEndsOf, link_of};
 ghost use Rattle.guppy_graph.specs.Refused.{TellsFault, IsRefusal};
 
 use crate::keyed::{first_repeat, index_from, index_of};
@@ -79,7 +80,8 @@ fn is_named(target: &BuildTargetRecord) -> bool
 
 // The first target that lacks its name.
 fn first_unnamed(targets: &[BuildTargetRecord]) -> Option<usize>
-    ensures { MatchOption result (All IsNamed targets.now) (IsFirstUnnamed targets.now) }
+    ensures { MatchOption result (All IsNamed targets.now)
+        (IsFirstWithout IsNamed targets.now) }
 {
     for (place, target) in targets.iter().enumerate() {
         if !is_named(target) {
@@ -110,7 +112,7 @@ fn first_unknown_member(
 ) -> Option<usize>
     requires { IsIdIndex packages.now by_id.now }
     ensures { MatchOption result (All (IsKnown packages.now) members.now)
-        (IsFirstUnknownMember packages.now members.now) }
+        (IsFirstWithout (IsKnown packages.now) members.now) }
 {
     for (index, id) in members.iter().enumerate() {
         if position_of_id(packages, by_id, id).is_none() {
@@ -212,7 +214,7 @@ fn check_members(
     ensures accepted { OnOk result (All (IsKnown packages.now) members.now) }
     ensures refused { IfErr result (TellsFault (λ fault. (i : ℕ)
         × (fault ≡ ConstructFault.UnknownDefaultMember i)
-        × IsFirstUnknownMember packages.now members.now i)) }
+        × IsFirstWithout (IsKnown packages.now) members.now i)) }
 {
     if let Some(index) = first_unknown_member(packages, by_id, members) {
         return Err(ConstructFault::UnknownDefaultMember { index }.into());
@@ -260,7 +262,7 @@ pub(crate) fn ends_of(
     ensures ok { IfOk result (λ ends. AreEndsOf packages.now records.now ends.items) }
     ensures err { IfErr result (TellsFault (λ fault. (link : ℕ)
         × (fault ≡ ConstructFault.UnknownLinkEnd link)
-        × IsFirstUnknownEnd packages.now records.now link)) }
+        × IsFirstWithout (AreEndsKnown packages.now) records.now link)) }
 {
     let mut ends = Vec::with_capacity(alloc, records.len())?;
     for (number, entry) in records.iter().enumerate() {

@@ -2,7 +2,8 @@
 ghost use Rattle.std.specs.Prelude.{◌≡◌, ◌↔◌, ◌<◌, length, not, All, IsTrue, IsOk, IfErr, IsSomeAnd, MatchOption, slice_get};
 ghost use Rattle.guppy_data.specs.declared.texts.fault.VerifyFault.{VerifyFault};
 ghost use Rattle.guppy_graph.specs.DevOnly.{is_absent};
-ghost use Rattle.guppy_graph.specs.Verified.{Accepts, HasSection, HasFittingKind, AreKindsFittingAt, IsFirstWithout, IsFirstMisfit, IsVerified, IsLinkVerified, IsLinkFault, IsLeavingLinkFault, IsPackageVerified, IsPackageFault, IsFirstVerifyFault};
+ghost use Rattle.guppy_graph.specs.First.{IsFirstWithout};
+ghost use Rattle.guppy_graph.specs.Verified.{Accepts, HasSection, HasFittingKind, AreKindsFittingAt, IsFirstMisfit, IsVerified, IsLinkVerified, IsLinkFault, IsLeavingLinkFault, IsPackageVerified, IsPackageFault, IsFirstVerifyFault};
 ghost use Rattle.guppy_core.specs.Links.{links_at};
 
 use crate::graph::RecordGraph;

@@ -11,9 +11,9 @@ loop-index-init c = λ k d within. absurd (omega arith)
 
 pub returns-then-is_none : goal.returns-then-is_none
 returns-then-is_none c = record {
-  id = c.index-members-index.result;
+  item = c.index-members-index.result;
   found = slice_get_read c.args.members.now _ c.loop-index.index c.index-members-index.result refl c.loop-index-test.true c.index-members-index.is;
-  unknown = unknown_of c.args.packages.now c.index-members-index.result (none_is c.position_of_id.result _ _ c.if-is_none.ensures c.position_of_id.ensures);
+  lacks = unknown_of c.args.packages.now c.index-members-index.result (none_is c.position_of_id.result _ _ c.if-is_none.ensures c.position_of_id.ensures);
   before = c.loop-index.invariant;
 }
 

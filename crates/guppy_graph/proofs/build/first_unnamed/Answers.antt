@@ -10,9 +10,9 @@ loop-place-init c = λ k d within. absurd (omega arith)
 
 pub returns-then-not-is_named : goal.returns-then-not-is_named
 returns-then-not-is_named c = record {
-  target = c.index-targets-place.result;
+  item = c.index-targets-place.result;
   found = slice_get_read c.args.targets.now _ c.loop-place.place c.index-targets-place.result refl c.loop-place-test.true c.index-targets-place.is;
-  unnamed = λ named. absurd (let e : true ≡ false = sym (c.is_named.ensures.1 named) ∙ c.if-not-is_named.true in cc);
+  lacks = λ named. absurd (let e : true ≡ false = sym (c.is_named.ensures.1 named) ∙ c.if-not-is_named.true in cc);
   before = c.loop-place.invariant;
 }
 

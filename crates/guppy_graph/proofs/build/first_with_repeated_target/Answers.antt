@@ -2,9 +2,11 @@ use Rattle.std.proofs.Common.{arith, sym, refl, subst, ◌<◌, length, All}
 use Rattle.std.proofs.lemmas.List.{take_all}
 use Rattle.std.proofs.lemmas.Option.{slice_get_read}
 use Rattle.std.proofs.lemmas.Slice.Zip.{AllZip-long}
-use Rattle.guppy_graph.specs.Targets.{AreTargetsDistinct}
+use Rattle.guppy_graph.specs.Keys.{IsFirstRepeat}
+use Rattle.guppy_graph.specs.Targets.{AreTargetsDistinct, HasTarget}
 use Rattle.guppy_graph.specs.Indexes.{IsTargetIndex}
 use Rattle.guppy_graph.proofs.Lists.{AllZip-at, All-take_more}
+use Rattle.guppy_graph.proofs.Targeting.{repeat_not_distinct}
 use Rattle.guppy_graph.proofs.build.first_with_repeated_target.Goals as goal
 
 pub loop-position-init : goal.loop-position-init
@@ -21,12 +23,18 @@ first_repeated_target-requires c =
     rw (c.as_slice.ensures.value, c.as_slice-index.ensures.value) (AllZip-at (λ r index. IsTargetIndex r.build_targets.items index.items) c.args.packages.now c.args.indexes.now c.loop-position.position c.index-packages-position.result c.index-indexes-position.result c.requires packages_at indexes_at)
 
 pub returns-in-Some : goal.returns-in-Some
-returns-in-Some c = record {
-  record_ = c.index-packages-position.result;
-  found = slice_get_read c.args.packages.now _ c.loop-position.position c.index-packages-position.result refl c.loop-position-test.true c.index-packages-position.is;
-  repeated = rw c.as_slice.ensures.value at c.in-Some.ensures;
-  before = c.loop-position.invariant;
-}
+returns-in-Some c =
+    let r = c.index-packages-position.result in
+    let repeated : IsFirstRepeat (HasTarget r.build_targets.items) c.in-Some.target = rw c.as_slice.ensures.value at c.in-Some.ensures in
+    record {
+      first = record {
+        item = r;
+        found = slice_get_read c.args.packages.now _ c.loop-position.position r refl c.loop-position-test.true c.index-packages-position.is;
+        lacks = repeat_not_distinct r.build_targets.items c.in-Some.target repeated;
+        before = c.loop-position.invariant;
+      };
+      repeated = repeated;
+    }
 
 pub loop-position-preserved : goal.loop-position-preserved
 loop-position-preserved c =

@@ -1,20 +1,27 @@
 use Rattle.std.proofs.Common.{arith, sym, refl, subst, All}
 use Rattle.std.proofs.lemmas.List.{take_all}
 use Rattle.std.proofs.lemmas.Option.{slice_get_read}
-use Rattle.guppy_graph.specs.Targets.{AreTargetsNamed}
-use Rattle.guppy_graph.proofs.Lists.{All-take_more}
+use Rattle.guppy_graph.specs.First.{IsFirstWithout}
+use Rattle.guppy_graph.specs.Targets.{AreTargetsNamed, IsNamed}
+use Rattle.guppy_graph.proofs.Lists.{All-take_more, not_all}
 use Rattle.guppy_graph.proofs.build.first_with_unnamed_target.Goals as goal
 
 pub loop-position-init : goal.loop-position-init
 loop-position-init c = λ k d within. absurd (omega arith)
 
 pub returns-in-Some : goal.returns-in-Some
-returns-in-Some c = record {
-  record_ = c.index-packages-position.result;
-  found = slice_get_read c.args.packages.now _ c.loop-position.position c.index-packages-position.result refl c.loop-position-test.true c.index-packages-position.is;
-  unnamed = rw c.as_slice.ensures.value at c.in-Some.ensures;
-  before = c.loop-position.invariant;
-}
+returns-in-Some c =
+    let r = c.index-packages-position.result in
+    let unnamed : IsFirstWithout IsNamed r.build_targets.items c.in-Some.target = rw c.as_slice.ensures.value at c.in-Some.ensures in
+    record {
+      first = record {
+        item = r;
+        found = slice_get_read c.args.packages.now _ c.loop-position.position r refl c.loop-position-test.true c.index-packages-position.is;
+        lacks = not_all IsNamed r.build_targets.items c.in-Some.target unnamed;
+        before = c.loop-position.invariant;
+      };
+      unnamed = unnamed;
+    }
 
 pub loop-position-preserved : goal.loop-position-preserved
 loop-position-preserved c =

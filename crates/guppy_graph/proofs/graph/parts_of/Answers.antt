@@ -1,15 +1,14 @@
-use Rattle.std.proofs.Common.{rules, ◌≡◌, sym, subst, ℕ, ◌<◌, ◌≤◌, length, All, map}
+use Rattle.std.proofs.Common.{rules, ◌≡◌, refl, ◌<◌, ◌≤◌, length, All, map}
 use Rattle.std.specs.List.{zip}
 use Rattle.std.proofs.lemmas.Result.{err_from_is_err_and}
-use Rattle.guppy_data.specs.declared.texts.fault.ConstructFault.{ConstructFault}
-use Rattle.guppy_data.specs.declared.texts.fault.ConstructFault.TheVariants.{TooManyLinks, UnknownLinkEnd}
+use Rattle.guppy_data.specs.declared.texts.fault.ConstructFault.TheVariants.{TooManyLinks}
 use Rattle.guppy_data.specs.declared.texts.error.Error.TheVariants.{PackageGraphConstructError}
-use Rattle.guppy_graph.specs.Accepted.{ArePackagesAccepted, IsFirstFault}
+use Rattle.guppy_graph.specs.Accepted.{distinct_ids, few_links, known_ends, ArePackagesAccepted}
 use Rattle.guppy_graph.specs.Indexes.{AreIndexes}
-use Rattle.guppy_graph.specs.Links.{AreLinksOf, AreEndsOf, AreEndsKnown, IsFirstUnknownEnd, link_of}
+use Rattle.guppy_graph.specs.Links.{AreLinksOf, AreEndsOf, AreEndsKnown, link_of}
 use Rattle.guppy_graph.proofs.Ends.{links_made, all_known}
-use Rattle.guppy_graph.proofs.Unknown.{TellsFault-along}
-use Rattle.guppy_graph.proofs.Accepting.{after_members, refusal_of, distinct_pairs}
+use Rattle.guppy_graph.proofs.Rules.{packages_kept, after_link_count, all_kept, refused}
+use Rattle.guppy_graph.proofs.Accepting.{refusal_of, pairs_distinct}
 use Rattle.guppy_graph.proofs.graph.parts_of.Goals as goal
 
 pub returns-in_err-indexes-clause-refused : goal.returns-in_err-indexes-clause-refused
@@ -25,7 +24,7 @@ returns-then-len-gt-LIMIT-clause-refused c =
     let kept : ArePackagesAccepted packages workspace = rw c.as_slice.ensures.value at c.in_ok-indexes.ensures.accepted in
     let many : 4294967295 < length links = search rules in
     let is : c.into.result ≡ PackageGraphConstructError TooManyLinks = search rules in
-    rw is (after_members packages links workspace kept _ many)
+    rw is (record { rule = few_links; broken = (refl, many); earlier = packages_kept packages links workspace kept })
 
 pub returns-in_err-ends-clause-refused : goal.returns-in_err-ends-clause-refused
 returns-in_err-ends-clause-refused c =
@@ -33,11 +32,10 @@ returns-in_err-ends-clause-refused c =
     let links = c.args.links.items in
     let workspace = c.args.workspace.now in
     let kept : ArePackagesAccepted packages workspace = rw c.as_slice.ensures.value at c.in_ok-indexes.ensures.accepted in
-    let few_links : length links ≤ 4294967295 = search rules in
+    let few : length links ≤ 4294967295 = search rules in
     let p = err_from_is_err_and c.from_residual-in_err-ends.result c.from_residual-in_err-ends.ensures.1 in
-    rw (p.1, p.2) (TellsFault-along _ (IsFirstFault packages links workspace) _
-    (λ (fault : ConstructFault) (h : (link : ℕ) × (fault ≡ UnknownLinkEnd link) × IsFirstUnknownEnd packages links link).
-    subst (IsFirstFault packages links workspace) (sym h.1) (after_members packages links workspace kept _ (few_links, h.2)))
+    rw (p.1, p.2) (refused packages links workspace known_ends
+    (after_link_count packages links workspace (packages_kept packages links workspace kept) few) _
     (rw (c.as_slice-2.ensures.value, c.as_slice-4.ensures.value) at c.in_err-ends.ensures.err))
 
 pub returns-in-Ok-clause-made : goal.returns-in-Ok-clause-made
@@ -47,7 +45,7 @@ returns-in-Ok-clause-made c =
     let workspace = c.args.workspace.now in
     let kept : ArePackagesAccepted packages workspace = rw c.as_slice.ensures.value at c.in_ok-indexes.ensures.accepted in
     let indexes : AreIndexes packages c.in_ok-indexes.indexes = rw c.as_slice.ensures.value at c.in_ok-indexes.ensures.made in
-    let few_links : length links ≤ 4294967295 = search rules in
+    let few : length links ≤ 4294967295 = search rules in
     let ends : AreEndsOf packages links c.in_ok-ends.ends.items = rw (c.as_slice-2.ensures.value, c.as_slice-4.ensures.value) at c.in_ok-ends.ensures.ok in
     let linked : c.in_ok-linked.linked.items ≡ map link_of (zip links c.in_ok-ends.ends.items) = c.in_ok-linked.ensures in
     let are : AreLinksOf packages links c.in_ok-linked.linked.items = rw linked (links_made packages links c.in_ok-ends.ends.items ends) in
@@ -58,12 +56,8 @@ returns-in-Ok-clause-made c =
       links_are = rw made.links are;
       graph = made.graph;
       indexes = indexes;
-      accepted = record {
-        packages_accepted = kept;
-        few_links = few_links;
-        known_ends = known;
-        distinct_pairs = distinct_pairs packages links c.in_ok-linked.linked.items are kept.distinct_ids c.in-Ok.graph made.graph made.links;
-      };
+      accepted = all_kept packages links workspace (packages_kept packages links workspace kept) few known
+          (pairs_distinct packages links c.in_ok-linked.linked.items are (kept distinct_ids) c.in-Ok.graph made.graph made.links);
     }
 
 pub returns-in-Err-clause-refused : goal.returns-in-Err-clause-refused
@@ -72,9 +66,9 @@ returns-in-Err-clause-refused c =
     let links = c.args.links.items in
     let workspace = c.args.workspace.now in
     let kept : ArePackagesAccepted packages workspace = rw c.as_slice.ensures.value at c.in_ok-indexes.ensures.accepted in
-    let few_links : length links ≤ 4294967295 = search rules in
+    let few : length links ≤ 4294967295 = search rules in
     let ends : AreEndsOf packages links c.in_ok-ends.ends.items = rw (c.as_slice-2.ensures.value, c.as_slice-4.ensures.value) at c.in_ok-ends.ensures.ok in
     let linked : c.in_ok-linked.linked.items ≡ map link_of (zip links c.in_ok-ends.ends.items) = c.in_ok-linked.ensures in
     let are : AreLinksOf packages links c.in_ok-linked.linked.items = rw linked (links_made packages links c.in_ok-ends.ends.items ends) in
     let known : All (AreEndsKnown packages) links = all_known packages links c.in_ok-ends.ends.items ends.count ends.named in
-    rw c.construct_error.ensures (refusal_of packages links c.in_ok-linked.linked.items are kept.distinct_ids workspace kept few_links known c.in-Err.fault c.in-Err.ensures.fault)
+    rw c.construct_error.ensures (refusal_of packages links c.in_ok-linked.linked.items are (kept distinct_ids) workspace kept few known c.in-Err.fault c.in-Err.ensures.fault)

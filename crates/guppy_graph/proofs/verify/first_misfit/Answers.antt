@@ -4,7 +4,7 @@ use Rattle.std.proofs.lemmas.List.{take_all}
 use Rattle.std.proofs.lemmas.List.Elements.{All-more}
 use Rattle.std.proofs.lemmas.Option.{slice_get_read}
 use Rattle.guppy_graph.specs.Verified.{HasFittingKind}
-use Rattle.guppy_graph.proofs.Verifying.{of_some}
+use Rattle.guppy_graph.proofs.Lists.{of_some}
 use Rattle.guppy_graph.proofs.verify.first_misfit.Goals as goal
 
 pub loop-place-preserved : goal.loop-place-preserved

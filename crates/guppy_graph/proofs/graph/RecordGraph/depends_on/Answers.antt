@@ -4,6 +4,7 @@ use Rattle.std.proofs.lemmas.List.Elements.{All-cons, Contains-push}
 use Rattle.std.proofs.lemmas.Iterator.Adapters.{YieldsList-from_once}
 use Rattle.guppy_core.specs.IxSet.{IsIn}
 use Rattle.guppy_graph.specs.Ids.{ix_position}
+use Rattle.guppy_graph.specs.Accepted.{distinct_ids}
 use Rattle.guppy_graph.proofs.Named.{within_of}
 use Rattle.guppy_graph.proofs.Runs.{holds_along, drained}
 use Rattle.guppy_graph.proofs.Lists.{only_one}
@@ -28,7 +29,7 @@ returns-clause-answer c =
     let one = drained _ _ _ _ (YieldsList-from_once (Some c.in_ok-from.from) c.once.ensures.item) members.1 in
     let p = ix_position c.in_ok-from.from in
     let starts = λ (s : ℕ). subst (λ xs. (IsIn c.in_ok-initials.initials s → Contains (map ix_position xs) s) × (Contains (map ix_position xs) s → IsIn c.in_ok-initials.initials s)) one (members.2 s) in
-    rw (c.contains.ensures) (depends_by_reach c.args.self.now c.in_ok-from.ensures.graph.accepted.distinct_ids c.args.a.now c.args.b.now p (ix_position c.in_ok-from.to) c.in_ok-from.ensures.first c.in_ok-from.ensures.second c.in_ok-initials.initials c.in_ok-reached.reached
+    rw (c.contains.ensures) (depends_by_reach c.args.self.now (c.in_ok-from.ensures.graph.accepted distinct_ids) c.args.a.now c.args.b.now p (ix_position c.in_ok-from.to) c.in_ok-from.ensures.first c.in_ok-from.ensures.second c.in_ok-initials.initials c.in_ok-reached.reached
     (λ s h. only_one s p ((starts s).0 h))
     ((starts p).1 (Contains-push [] p))
     (rw (← c.self.view_is) c.in_ok-reached.ensures.reached))

@@ -2,10 +2,11 @@ use Rattle.std.proofs.Common.{◌≡◌, ℕ, All, slice_get}
 use Rattle.std.specs.Prelude.{IsSomeAnd}
 use Rattle.std.specs.List.{filter_map}
 use Rattle.guppy_graph.specs.Indexes.{IsTargetIndex}
-use Rattle.guppy_graph.specs.Verified.{HasFittingKind, AreKindsFitting, IsFirstWithout, IsFirstMisfit}
-use Rattle.guppy_graph.proofs.Lists.{MatchOption-along, some_at}
+use Rattle.guppy_graph.specs.First.{IsFirstWithout}
+use Rattle.guppy_graph.specs.Verified.{HasFittingKind, AreKindsFitting, IsFirstMisfit}
+use Rattle.guppy_graph.proofs.Lists.{MatchOption-along, some_at, of_some}
 use Rattle.guppy_graph.proofs.TargetLists.{targets_below, targets_by_id}
-use Rattle.guppy_graph.proofs.Verifying.{of_some, all_read, first_read, listed_fit}
+use Rattle.guppy_graph.proofs.Verifying.{all_read, first_read, listed_fit}
 use Rattle.guppy_graph.proofs.graph.RecordGraph.misfit_of_package.Goals as goal
 
 pub first_misfit-requires : goal.first_misfit-requires

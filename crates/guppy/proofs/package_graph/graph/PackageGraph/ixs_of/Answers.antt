@@ -1,5 +1,6 @@
 use Rattle.std.proofs.lemmas.List.{map_push}
 use Rattle.std.proofs.lemmas.Result.{err_from_is_err_and}
+use Rattle.guppy_graph.specs.Accepted.{distinct_ids}
 use Rattle.guppy.proofs.Naming.{AreNamed-push, unknown_next}
 use Rattle.guppy.proofs.package_graph.graph.PackageGraph.ixs_of.Goals as goal
 
@@ -10,4 +11,4 @@ returns-in_err-ix_of-clause-unknown g c =
 
 pub loop-id-preserved : goal.loop-id-preserved
 loop-id-preserved g c =
-    rw (map_push, c.in_ok-push.ensures.items, map_push) (AreNamed-push _ _ _ c.loop-id.invariant c.in_ok-ix_of.ensures.graph.accepted.distinct_ids _ _ c.in_ok-ix_of.ensures.found)
+    rw (map_push, c.in_ok-push.ensures.items, map_push) (AreNamed-push _ _ _ c.loop-id.invariant (c.in_ok-ix_of.ensures.graph.accepted distinct_ids) _ _ c.in_ok-ix_of.ensures.found)

@@ -1,6 +1,7 @@
 use Rattle.std.proofs.Common.{map}
 use Rattle.guppy_graph.specs.Ids.{ix_position}
 use Rattle.guppy_graph.specs.Members.{HasName}
+use Rattle.guppy_graph.specs.Accepted.{distinct_names}
 use Rattle.guppy_graph.proofs.Membership.{name_within}
 use Rattle.guppy.proofs.Naming.{zip_below, zip_named_set}
 use Rattle.guppy.proofs.package_graph.graph.PackageGraph.resolve_workspace_names.Goals as goal
@@ -18,5 +19,5 @@ returns-clause-members g c =
     let set = c.in_ok-set.ensures in (
       found.0,
       found.1,
-      zip_named_set (HasName packages) packages (name_within packages) set.is_graph.accepted.distinct_names (map (λ name. name.now) found.0) (map ix_position c.in_ok-ixs.ixs.items) found.2 c.in_ok-set.set.included set.count set.members,
+      zip_named_set (HasName packages) packages (name_within packages) (set.is_graph.accepted distinct_names) (map (λ name. name.now) found.0) (map ix_position c.in_ok-ixs.ixs.items) found.2 c.in_ok-set.set.included set.count set.members,
     )

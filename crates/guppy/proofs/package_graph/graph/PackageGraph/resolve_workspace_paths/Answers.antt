@@ -2,6 +2,7 @@ use Rattle.std.proofs.Common.{map}
 use Rattle.guppy_graph.specs.Ids.{ix_position}
 use Rattle.guppy_data.specs.Utf8Path.{path_text}
 use Rattle.guppy_graph.specs.Members.{HasPath}
+use Rattle.guppy_graph.specs.Accepted.{distinct_paths}
 use Rattle.guppy_graph.proofs.Membership.{path_within}
 use Rattle.guppy.proofs.Naming.{zip_below, zip_named_set}
 use Rattle.guppy.proofs.package_graph.graph.PackageGraph.resolve_workspace_paths.Goals as goal
@@ -19,5 +20,5 @@ returns-clause-members g c =
     let set = c.in_ok-set.ensures in (
       found.0,
       found.1,
-      zip_named_set (HasPath packages) packages (path_within packages) set.is_graph.accepted.distinct_paths (map path_text found.0) (map ix_position c.in_ok-ixs.ixs.items) found.2 c.in_ok-set.set.included set.count set.members,
+      zip_named_set (HasPath packages) packages (path_within packages) (set.is_graph.accepted distinct_paths) (map path_text found.0) (map ix_position c.in_ok-ixs.ixs.items) found.2 c.in_ok-set.set.included set.count set.members,
     )
