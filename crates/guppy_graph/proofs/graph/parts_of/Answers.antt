@@ -38,7 +38,7 @@ returns-in_err-ends-clause-refused c =
     rw (p.1, p.2) (TellsFault-along _ (IsFirstFault packages links workspace) _
     (λ (fault : ConstructFault) (h : (link : ℕ) × (fault ≡ UnknownLinkEnd link) × IsFirstUnknownEnd packages links link).
     subst (IsFirstFault packages links workspace) (sym h.1) (after_members packages links workspace kept _ (few_links, h.2)))
-    (rw (c.as_slice-2.ensures.value, c.as_slice-4.ensures.value) at c.in_err-ends.ensures.err))
+    (rw (c.as_slice-2.ensures.value, c.as_slice-3.ensures.value) at c.in_err-ends.ensures.err))
 
 pub returns-in-Ok-clause-made : goal.returns-in-Ok-clause-made
 returns-in-Ok-clause-made c =
@@ -48,7 +48,7 @@ returns-in-Ok-clause-made c =
     let kept : ArePackagesAccepted packages workspace = rw c.as_slice.ensures.value at c.in_ok-indexes.ensures.accepted in
     let indexes : AreIndexes packages c.in_ok-indexes.indexes = rw c.as_slice.ensures.value at c.in_ok-indexes.ensures.made in
     let few_links : length links ≤ 4294967295 = search rules in
-    let ends : AreEndsOf packages links c.in_ok-ends.ends.items = rw (c.as_slice-2.ensures.value, c.as_slice-4.ensures.value) at c.in_ok-ends.ensures.ok in
+    let ends : AreEndsOf packages links c.in_ok-ends.ends.items = rw (c.as_slice-2.ensures.value, c.as_slice-3.ensures.value) at c.in_ok-ends.ensures.ok in
     let linked : c.in_ok-linked.linked.items ≡ map link_of (zip links c.in_ok-ends.ends.items) = c.in_ok-linked.ensures in
     let are : AreLinksOf packages links c.in_ok-linked.linked.items = rw linked (links_made packages links c.in_ok-ends.ends.items ends) in
     let known : All (AreEndsKnown packages) links = all_known packages links c.in_ok-ends.ends.items ends.count ends.named in
@@ -73,7 +73,7 @@ returns-in-Err-clause-refused c =
     let workspace = c.args.workspace.now in
     let kept : ArePackagesAccepted packages workspace = rw c.as_slice.ensures.value at c.in_ok-indexes.ensures.accepted in
     let few_links : length links ≤ 4294967295 = search rules in
-    let ends : AreEndsOf packages links c.in_ok-ends.ends.items = rw (c.as_slice-2.ensures.value, c.as_slice-4.ensures.value) at c.in_ok-ends.ensures.ok in
+    let ends : AreEndsOf packages links c.in_ok-ends.ends.items = rw (c.as_slice-2.ensures.value, c.as_slice-3.ensures.value) at c.in_ok-ends.ensures.ok in
     let linked : c.in_ok-linked.linked.items ≡ map link_of (zip links c.in_ok-ends.ends.items) = c.in_ok-linked.ensures in
     let are : AreLinksOf packages links c.in_ok-linked.linked.items = rw linked (links_made packages links c.in_ok-ends.ends.items ends) in
     let known : All (AreEndsKnown packages) links = all_known packages links c.in_ok-ends.ends.items ends.count ends.named in
