@@ -6,6 +6,7 @@ against the look-up, beside friendly ones.
 usage: bench.py [PACKAGES]     4n packages, 200000 if left out
 """
 
+import functools
 import math
 import os
 import random
@@ -40,11 +41,43 @@ def star(count):
 
 GRAPHS = [("chain", chain), ("scattered", scattered), ("star", star)]
 
+# The bytes of IDs of one hash: none is a space, and none cuts a path.
+BYTES = bytes(byte for byte in range(33, 127) if byte not in b"/.\\")
+TO_BYTES = bytes(BYTES[byte % len(BYTES)] for byte in range(256))
+
+
+def mixed(number):
+    """As guppy_graph's hints mix eight bytes of an ID."""
+    product = number * 0x9E37_79B9_7F4A_7C15 % 2**64
+    return product ^ product >> 32
+
+
+@functools.cache
+def pieces_without_hash(count):
+    """Pieces of an ID behind which its hash is 0, whatever pieces stand before."""
+    picks = random.Random(count)
+    pieces = []
+    while len(pieces) < count:
+        first = picks.randbytes(8).translate(TO_BYTES)
+        second = mixed(int.from_bytes(first, "little")).to_bytes(8, "little")
+        if not second.translate(None, BYTES):
+            pieces.append((first + second).decode())
+    return pieces
+
+
+def id_without_hash(i, count):
+    """One of count IDs, made of three pieces, that all have the hash 0."""
+    side = round(count ** (1 / 3)) + 1
+    pieces = pieces_without_hash(side)
+    return pieces[i // side**2] + pieces[i // side % side] + pieces[i % side]
+
+
 # The ID of package i of n, by kind: those that a look-up likes come first.
 IDS = {
     "friendly": lambda i, count: f"p{i}",
     "descending": lambda i, count: f"p{count - i:09}",
     "60 shared bytes": lambda i, count: f"{'registry+https://example.invalid/index#':-<60}{i}",
+    "one hash": id_without_hash,
 }
 
 

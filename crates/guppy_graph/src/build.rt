@@ -3,7 +3,7 @@ ghost use Rattle.std.specs.Prelude.{◌≡◌, ℕ, ◌<◌, List, IfOk, IfErr, 
 ghost use Rattle.std.specs.List.{zip};
 ghost use Rattle.guppy_data.specs.declared.records.LinkRecord.{LinkRecord};
 ghost use Rattle.guppy_graph.specs.First.{IsFirstWithout};
-ghost use Rattle.guppy_graph.specs.Keys.{DifferBelow, IsFirstRepeat};
+ghost use Rattle.guppy_graph.specs.Keys.{NoneBelow, DifferBelow, IsFirstRepeat};
 ghost use Rattle.guppy_graph.specs.Ids.{HasId, IsKnown};
 ghost use Rattle.guppy_graph.specs.Members.{HasPath, HasName};
 ghost use Rattle.guppy_graph.specs.Indexes.{IsIdIndex, IsPathIndex, IsNameIndex, AreTargetIndexes, AreIndexes};
@@ -12,6 +12,7 @@ ghost use Rattle.guppy_graph.specs.Accepted.{ArePackagesAccepted};
 ghost use Rattle.guppy_graph.specs.Links.{AreEndsKnown, AreEndsOf, link_of};
 ghost use Rattle.guppy_graph.specs.Refused.{TellsFault, IsRefusal};
 
+use crate::hints::Hints;
 use crate::keyed::{first_repeat, index_from, index_of};
 use crate::keys::{
     Ids, Names, Paths, TargetIds, first_repeated_id, first_repeated_name, first_repeated_target,
@@ -37,6 +38,20 @@ pub(crate) struct Indexes {
     pub(crate) by_name: Vec<usize>,
     /// For each package, the places of its build targets by ID.
     pub(crate) by_target: Vec<Vec<usize>>,
+    /// Where the package with an ID may be.
+    pub(crate) hints: Hints,
+}
+
+impl Indexes {
+    /// The position of the package with the ID. Mostly takes one comparison, and at most a few more than a
+    /// logarithm of the packages.
+    pub(crate) fn position_of_id(&self, packages: &[PackageRecord], id: &PackageId) -> Option<usize>
+        requires { IsIdIndex packages.now self.now.by_id.items }
+        ensures { MatchOption result (NoneBelow (HasId packages.now) id.now (length packages.now))
+            (HasId packages.now id.now) }
+    {
+        self.hints.find(packages, self.by_id.as_slice(), id)
+    }
 }
 
 // For each package, the places of its build targets by ID.
@@ -243,11 +258,13 @@ pub(crate) fn indexes_of(
     let by_name = index_by_name(alloc, packages, by_id.as_slice())?;
     let members = workspace.default_members.as_slice();
     check_members(packages, by_id.as_slice(), members)?;
+    let hints = Hints::new(alloc, packages)?;
     Ok(Indexes {
         by_id,
         by_path,
         by_name,
         by_target,
+        hints,
     })
 }
 
@@ -255,10 +272,10 @@ pub(crate) fn indexes_of(
 pub(crate) fn ends_of(
     alloc: Global,
     packages: &[PackageRecord],
-    by_id: &[usize],
+    indexes: &Indexes,
     records: &[LinkRecord],
 ) -> Result<Vec<(usize, usize)>, Error>
-    requires { IsIdIndex packages.now by_id.now }
+    requires { IsIdIndex packages.now indexes.now.by_id.items }
     ensures ok { IfOk result (λ ends. AreEndsOf packages.now records.now ends.items) }
     ensures err { IfErr result (TellsFault (λ fault. (link : ℕ)
         × (fault ≡ ConstructFault.UnknownLinkEnd link)
@@ -266,10 +283,10 @@ pub(crate) fn ends_of(
 {
     let mut ends = Vec::with_capacity(alloc, records.len())?;
     for (number, entry) in records.iter().enumerate() {
-        let Some(from) = position_of_id(packages, by_id, &entry.from) else {
+        let Some(from) = indexes.position_of_id(packages, &entry.from) else {
             return Err(unknown_end(number));
         };
-        let Some(to) = position_of_id(packages, by_id, &entry.to) else {
+        let Some(to) = indexes.position_of_id(packages, &entry.to) else {
             return Err(unknown_end(number));
         };
         ends.push((from, to))?;

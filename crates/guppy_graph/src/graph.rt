@@ -4,7 +4,7 @@ ghost use Rattle.guppy_graph.specs.Refused.{IsRefusal, error_of};
 ghost use Rattle.guppy_graph.specs.Parts.{AreParts};
 
 use crate::build::{Indexes, LIMIT, ends_of, indexes_of, links_of};
-use crate::keys::{position_of_id, position_of_name, position_of_path};
+use crate::keys::{position_of_name, position_of_path};
 use crate::order::{Order, order_of};
 use guppy_core::{
     DependencyDirection, Graph, GraphFault, GraphSpec, IndexType, IxSet, Link, PackageIx, Sccs,
@@ -97,12 +97,7 @@ fn parts_of(
     if links.len() > LIMIT {
         return Err(ConstructFault::TooManyLinks.into());
     }
-    let ends = ends_of(
-        alloc,
-        packages.as_slice(),
-        indexes.by_id.as_slice(),
-        links.as_slice(),
-    )?;
+    let ends = ends_of(alloc, packages.as_slice(), &indexes, links.as_slice())?;
     let linked = links_of(alloc, links, ends)?;
     match Graph::from_parts(packages, linked) {
         Ok(graph) => Ok((graph, indexes)),
@@ -313,7 +308,7 @@ impl RecordGraph {
             (λ ix. HasId self.now.packages id.now (ix_position ix)) }
         ensures graph { IsPackageGraph self.now }
     {
-        match position_of_id(self.graph.nodes(), self.indexes.by_id.as_slice(), id) {
+        match self.indexes.position_of_id(self.graph.nodes(), id) {
             Some(position) => Some(PackageIx::new(position)),
             None => None,
         }
@@ -353,7 +348,7 @@ impl RecordGraph {
         ensures { MatchOption result (¬ IsKnown self.now.packages id.now)
             (HasId self.now.packages id.now) }
     {
-        position_of_id(self.graph.nodes(), self.indexes.by_id.as_slice(), id)
+        self.indexes.position_of_id(self.graph.nodes(), id)
     }
 
     /// The record of the workspace.

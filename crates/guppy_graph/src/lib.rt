@@ -5,6 +5,7 @@
 //!
 //! - `keyed`: positions sorted and looked up by any key;
 //! - `keys`: the keys, which are IDs, paths, names and target IDs;
+//! - `hints`: packages found by ID, mostly with no search;
 //! - `build`: the checks of the records, and the indexes;
 //! - `dev_only`: which links are for development alone;
 //! - `order`: the order of the packages;
@@ -15,6 +16,7 @@
 mod build;
 mod dev_only;
 mod graph;
+mod hints;
 mod keyed;
 mod keys;
 mod order;

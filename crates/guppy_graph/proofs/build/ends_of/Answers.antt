@@ -19,4 +19,4 @@ pub loop-number-preserved : goal.loop-number-preserved
 loop-number-preserved c =
     let r = c.index-records-number.result in
     let found = slice_get_read c.args.records.now _ c.loop-number.number r refl c.loop-number-test.true c.index-records-number.is in
-    rw c.in_ok-push.ensures.items (ends_more c.args.packages.now c.args.records.now c.loop-number.number c.loop-number.ends.items r c.in-Some.from c.in-Some-position_of_id.to found c.loop-number.invariant c.in-Some.ensures.0 c.in-Some-position_of_id.ensures.0)
+    rw c.in_ok-push.ensures.items (ends_more c.args.packages.now c.args.records.now c.loop-number.number c.loop-number.ends.items r c.in-Some.from c.in-Some-position_of_id.to found c.loop-number.invariant c.in-Some.ensures c.in-Some-position_of_id.ensures)

@@ -36,7 +36,7 @@ returns-in_err-ends-clause-refused c =
     let p = err_from_is_err_and c.from_residual-in_err-ends.result c.from_residual-in_err-ends.ensures.1 in
     rw (p.1, p.2) (refused packages links workspace known_ends
     (after_link_count packages links workspace (packages_kept packages links workspace kept) few) _
-    (rw (c.as_slice-2.ensures.value, c.as_slice-4.ensures.value) at c.in_err-ends.ensures.err))
+    (rw (c.as_slice-2.ensures.value, c.as_slice-3.ensures.value) at c.in_err-ends.ensures.err))
 
 pub returns-in-Ok-clause-made : goal.returns-in-Ok-clause-made
 returns-in-Ok-clause-made c =
@@ -46,7 +46,7 @@ returns-in-Ok-clause-made c =
     let kept : ArePackagesAccepted packages workspace = rw c.as_slice.ensures.value at c.in_ok-indexes.ensures.accepted in
     let indexes : AreIndexes packages c.in_ok-indexes.indexes = rw c.as_slice.ensures.value at c.in_ok-indexes.ensures.made in
     let few : length links ≤ 4294967295 = search rules in
-    let ends : AreEndsOf packages links c.in_ok-ends.ends.items = rw (c.as_slice-2.ensures.value, c.as_slice-4.ensures.value) at c.in_ok-ends.ensures.ok in
+    let ends : AreEndsOf packages links c.in_ok-ends.ends.items = rw (c.as_slice-2.ensures.value, c.as_slice-3.ensures.value) at c.in_ok-ends.ensures.ok in
     let linked : c.in_ok-linked.linked.items ≡ map link_of (zip links c.in_ok-ends.ends.items) = c.in_ok-linked.ensures in
     let are : AreLinksOf packages links c.in_ok-linked.linked.items = rw linked (links_made packages links c.in_ok-ends.ends.items ends) in
     let known : All (AreEndsKnown packages) links = all_known packages links c.in_ok-ends.ends.items ends.count ends.named in
@@ -67,7 +67,7 @@ returns-in-Err-clause-refused c =
     let workspace = c.args.workspace.now in
     let kept : ArePackagesAccepted packages workspace = rw c.as_slice.ensures.value at c.in_ok-indexes.ensures.accepted in
     let few : length links ≤ 4294967295 = search rules in
-    let ends : AreEndsOf packages links c.in_ok-ends.ends.items = rw (c.as_slice-2.ensures.value, c.as_slice-4.ensures.value) at c.in_ok-ends.ensures.ok in
+    let ends : AreEndsOf packages links c.in_ok-ends.ends.items = rw (c.as_slice-2.ensures.value, c.as_slice-3.ensures.value) at c.in_ok-ends.ensures.ok in
     let linked : c.in_ok-linked.linked.items ≡ map link_of (zip links c.in_ok-ends.ends.items) = c.in_ok-linked.ensures in
     let are : AreLinksOf packages links c.in_ok-linked.linked.items = rw linked (links_made packages links c.in_ok-ends.ends.items ends) in
     let known : All (AreEndsKnown packages) links = all_known packages links c.in_ok-ends.ends.items ends.count ends.named in

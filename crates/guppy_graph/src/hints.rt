@@ -1,0 +1,110 @@
+//! Hints where the package with an ID is.
+ghost use Rattle.std.specs.Prelude.{◌<◌, length};
+
+use crate::keys::position_of_id;
+use guppy_data::{PackageId, PackageRecord};
+use std::alloc::{AllocError, Global};
+
+// How many places of the table are looked at for one ID.
+const TRIES: usize = 8;
+
+// A place with no hint: there are fewer packages than would have this position.
+const NO_HINT: u32 = u32::MAX;
+
+/// Positions of packages, each at one of the few places that its ID's hash names. A hint is believed only
+/// where the package there has the ID, so the table may hold anything.
+#[derive(Drop)]
+pub(crate) struct Hints {
+    table: Vec<u32>,
+    ghost room: { 8 < length table.items },
+}
+
+// A number made of the text, eight bytes at a time. No contract needs anything of it.
+fn hash_of(text: &str) -> usize {
+    let (words, rest) = text.as_bytes().as_chunks::<8>();
+    let mut hash = 0;
+    for word in words.iter() {
+        hash = mixed(hash ^ usize::from_le_bytes(*word));
+    }
+    for byte in rest.iter() {
+        hash = hash.rotate_left(8) ^ usize::from(*byte);
+    }
+    mixed(hash)
+}
+
+// A number in which each bit of the given one shows in high bits and in low ones.
+fn mixed(number: usize) -> usize {
+    let product = number.wrapping_mul(0x9E37_79B9_7F4A_7C15);
+    product ^ product >> 32
+}
+
+impl Hints {
+    ghost use Rattle.std.specs.Prelude.{◌≤◌, ◌+◌, IfSome, MatchOption};
+    ghost use Rattle.guppy_graph.specs.Keys.{NoneBelow};
+    ghost use Rattle.guppy_graph.specs.Ids.{HasId};
+    ghost use Rattle.guppy_graph.specs.Indexes.{IsIdIndex};
+
+    /// Hints for all packages but those whose places are taken.
+    pub(crate) fn new(alloc: Global, packages: &[PackageRecord]) -> Result<Hints, AllocError>
+        requires { length packages.now ≤ 4294967295 }
+    {
+        let mut hints = Hints {
+            table: vec![in alloc; NO_HINT; 2 * packages.len() + TRIES + 1]?,
+        };
+        for (position, record) in packages.iter().enumerate() {
+            hints.put(&record.id, position as u32);
+        }
+        Ok(hints)
+    }
+
+    // The first of the places for the ID.
+    fn first_place(&self, id: &PackageId) -> usize
+        ensures { result + 8 < length self.now.table.items }
+    {
+        hash_of(id.repr()) % (self.table.len() - TRIES)
+    }
+
+    // Puts the position at the first of the places for the ID that is free.
+    fn put(&mut self, id: &PackageId, position: u32) {
+        let first = self.first_place(id);
+        for place in first..first + TRIES {
+            if self.table[place] == NO_HINT {
+                self.table[place] = position;
+                return;
+            }
+        }
+    }
+
+    // The package with the ID, if there is a hint at it.
+    fn hinted(&self, packages: &[PackageRecord], id: &PackageId) -> Option<usize>
+        ensures { IfSome result (HasId packages.now id.now) }
+    {
+        let first = self.first_place(id);
+        for place in first..first + TRIES {
+            let position = self.table[place] as usize;
+            match packages.get(position) {
+                Some(record) if record.id == *id => return Some(position),
+                _ => {}
+            }
+        }
+        None
+    }
+
+    /// A package with the ID. Takes a few comparisons, and a logarithm of the packages more where there is no
+    /// hint.
+    pub(crate) fn find(
+        &self,
+        packages: &[PackageRecord],
+        by_id: &[usize],
+        id: &PackageId,
+    ) -> Option<usize>
+        requires { IsIdIndex packages.now by_id.now }
+        ensures { MatchOption result (NoneBelow (HasId packages.now) id.now (length packages.now))
+            (HasId packages.now id.now) }
+    {
+        match self.hinted(packages, id) {
+            Some(position) => Some(position),
+            None => position_of_id(packages, by_id, id),
+        }
+    }
+}
