@@ -8,60 +8,56 @@ use Rattle.std.proofs.lemmas.Bool.{cases_eq}
 use Rattle.guppy_core.specs.IxSet.{IsIn}
 use Rattle.guppy.specs.declared.metadata.PackageMetadata.{PackageMetadata}
 use Rattle.guppy_graph.specs.Graph.{GraphData}
-use Rattle.guppy.specs.Listed.{package_in}
+use Rattle.guppy.specs.Views.{PackageData, package_in, package_data}
 use Rattle.guppy.specs.Asked.{asked_about, Answers, IsAskable, AreAnswered}
 
--- the packages of the graph at these positions
-abbrev pub packages_at : GraphData → List ℕ → List (GraphData × ℕ)
-packages_at graph positions = map (λ p. (graph, p)) positions
-
 -- the callback was asked about the first of the positions, and the others are still to come
-pub record IsAskedSoFar {F A : Type 0} (step : F → PackageMetadata → A → F → Type 0) (graph : GraphData) (positions : List ℕ) (callback : F) (to_come : List (GraphData × ℕ)) (answers : List (ℕ × A)) (now : F) : Type 0 where
+pub record IsAskedSoFar {F A : Type 0} (step : F → PackageMetadata → A → F → Type 0) (graph : GraphData) (positions : List ℕ) (callback : F) (to_come : List PackageData) (answers : List (ℕ × A)) (now : F) : Type 0 where
   pub left : List ℕ
   pub about : asked_about answers ++ left ≡ positions
-  pub others : to_come ≡ packages_at graph left
+  pub others : to_come ≡ map (package_in graph) left
   pub answered : Answers step graph callback answers now
 
 -- the first of some positions is that of the package that comes first
-record ComesFirst (graph : GraphData) (seen : GraphData × ℕ) (rest : List (GraphData × ℕ)) (left : List ℕ) : Type 0 where
+record ComesFirst (graph : GraphData) (seen : PackageData) (rest : List PackageData) (left : List ℕ) : Type 0 where
   later : List ℕ
-  left_is : left ≡ seen.1 ∷ later
-  seen_is : seen ≡ (graph, seen.1)
-  rest_is : rest ≡ packages_at graph later
+  left_is : left ≡ seen.position ∷ later
+  seen_is : seen ≡ package_in graph seen.position
+  rest_is : rest ≡ map (package_in graph) later
 
-first_to_come : (graph : GraphData) (seen : GraphData × ℕ) (rest : List (GraphData × ℕ)) (left : List ℕ) → seen ∷ rest ≡ packages_at graph left → ComesFirst graph seen rest left
+first_to_come : (graph : GraphData) (seen : PackageData) (rest : List PackageData) (left : List ℕ) → seen ∷ rest ≡ map (package_in graph) left → ComesFirst graph seen rest left
 first_to_come graph seen rest [] e = absurd (cc)
 first_to_come graph seen rest (p ∷ ps) e =
-    let seen_is : seen ≡ (graph, p) = cc in
-    let at : seen.1 ≡ p = ap (λ s. s.1) seen_is in
+    let seen_is : seen ≡ package_in graph p = cc in
+    let at : seen.position ≡ p = ap (λ s. s.position) seen_is in
     record {
       later = ps;
       left_is = ap (λ q. q ∷ ps) (sym at);
-      seen_is = seen_is ∙ ap (λ q. (graph, q)) (sym at);
+      seen_is = seen_is ∙ ap (package_in graph) (sym at);
       rest_is = cc;
     }
 
-no_position : (graph : GraphData) (left : List ℕ) → [] ≡ packages_at graph left → left ≡ []
+no_position : (graph : GraphData) (left : List ℕ) → [] ≡ map (package_in graph) left → left ≡ []
 no_position graph [] e = refl
 no_position graph (p ∷ ps) e = absurd (cc)
 
 module _ {F A : Type 0} (step : F → PackageMetadata → A → F → Type 0) (graph : GraphData) (positions : List ℕ) (callback : F) where
-  pub asked_none : (to_come : List (GraphData × ℕ)) → to_come ≡ packages_at graph positions → IsAskedSoFar step graph positions callback to_come [] callback
+  pub asked_none : (to_come : List PackageData) → to_come ≡ map (package_in graph) positions → IsAskedSoFar step graph positions callback to_come [] callback
   asked_none to_come e = record { left = positions; about = refl; others = e; answered = refl }
 
-  module _ (to_come : List (GraphData × ℕ)) (answers : List (ℕ × A)) (now : F) (so_far : IsAskedSoFar step graph positions callback to_come answers now) where
+  module _ (to_come : List PackageData) (answers : List (ℕ × A)) (now : F) (so_far : IsAskedSoFar step graph positions callback to_come answers now) where
     pub asked_all : to_come ≡ [] → asked_about answers ≡ positions
     asked_all none =
         let over = no_position graph so_far.left (sym none ∙ so_far.others) in
         sym (append-nil (asked_about answers)) ∙ (ap (λ l. asked_about answers ++ l) (sym over) ∙ so_far.about)
 
-    module _ (m : PackageMetadata) (rest : List (GraphData × ℕ)) (next : to_come ≡ package_in m ∷ rest) where
-      comes : ComesFirst graph (package_in m) rest so_far.left
-      comes = first_to_come graph (package_in m) rest so_far.left (sym next ∙ so_far.others)
+    module _ (m : PackageMetadata) (rest : List PackageData) (next : to_come ≡ package_data m ∷ rest) where
+      comes : ComesFirst graph (package_data m) rest so_far.left
+      comes = first_to_come graph (package_data m) rest so_far.left (sym next ∙ so_far.others)
 
       -- the package is one of the graph
       pub of_the_graph : m.graph.now ≡ graph
-      of_the_graph = ap (λ s. s.0) comes.seen_is
+      of_the_graph = ap (λ s. s.graph) comes.seen_is
 
       -- so there is room for its position
       pub fits : (set : List Bool) → length set ≡ length graph.packages → (p : ℕ) → p ≡ m.position → p < length set

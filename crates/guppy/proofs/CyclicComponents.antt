@@ -48,7 +48,7 @@ module _ {E : Type 0} (links : List (Link E)) where
   -- whether the link from a position to itself is found
   pub found_self_link : (p : ℕ) (number : Option ℕ) → MatchOption number (NoLink links p p) (LinkIs links p p) → is_some number ≡ has_self_link links p
   found_self_link p (Some n) l = sym (self_link_there p (record { number = n; link = l.0; found = l.1; near = l.2; far = l.3; kept = refl }))
-  found_self_link p None none = sym (false_from_ne_true _ (λ h. let s = self_link_leads p h in none s.number s.link s.found s.near s.far))
+  found_self_link p None none = sym (false_from_ne_true _ (λ h. let s = self_link_leads p h in none s.number (s.link, s.found, s.near, s.far)))
 
   cyclic_from_test : (b : List ℕ) → is_cyclic_component links b ≡ true → IsCyclicBlock (LinkStep Forward links) b
   cyclic_from_test b h = ⊎_elim

@@ -12,5 +12,6 @@ pub mod CyclicComponents
 pub mod Asked
 pub mod Halves
 pub mod Rooted
+pub mod Remaining
 pub mod Walking
 pub mod Same

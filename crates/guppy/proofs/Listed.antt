@@ -1,6 +1,6 @@
 -- The lists of a set of packages.
 use Rattle.std.proofs.Common.{◌≡◌, ◌∙◌, sym, ap, refl, arith, ℕ, zero, suc, ◌<◌, List, [], ◌∷◌, length, Option, Some, None, map, All}
-use Rattle.std.specs.Prelude.{IsSomeAnd, option_map}
+use Rattle.std.specs.Prelude.{IsSomeAnd, option_map, slice_get}
 use Rattle.std.specs.List.{filter_map, cons_option}
 use Rattle.std.proofs.lemmas.List.Elements.{All-tail}
 use Rattle.guppy_data.specs.declared.records.PackageRecord.{PackageRecord}
@@ -9,10 +9,12 @@ use Rattle.guppy.specs.declared.set.lists.ListedPackageIds.{ListedPackageIds}
 use Rattle.guppy.specs.declared.set.roots.RootIds.{RootIds}
 use Rattle.guppy_graph.specs.Graph.{GraphData}
 use Rattle.guppy_graph.specs.Ids.{id_at, ix_position}
+use Rattle.guppy.specs.declared.metadata.PackageMetadata.{PackageMetadata}
+use Rattle.guppy.specs.Views.{PackageData, package_in, package_data, graph_packages, package_position, OfPackage}
 use Rattle.guppy.specs.Listed.{id_of, ids_at, listed_ids_left, listed_left}
 use Rattle.guppy.specs.Rooted.{roots_left, root_ids_left}
 
-pub id_found : (o : Option PackageRecord) (id : List ℕ) → IsSomeAnd o (λ r. id ≡ r.id) → option_map (λ r. r.id) o ≡ Some id
+id_found : (o : Option PackageRecord) (id : List ℕ) → IsSomeAnd o (λ r. id ≡ r.id) → option_map (λ r. r.id) o ≡ Some id
 id_found None id h = absurd h
 id_found (Some r) id h = ap Some (sym h)
 
@@ -29,16 +31,16 @@ ids_at-count packages (p ∷ ps) below =
     ap (λ o. length (cons_option o (ids_at packages ps))) first.1
     ∙ ap suc (ids_at-count packages ps (All-tail (λ q. q < length packages) p ps below))
 
--- so has each that is seen with its graph
-ids_count : {X : Type 0} (f : X → ℕ) (g : GraphData) (xs : List X) → All (λ x. f x < length g.packages) xs → length (filter_map id_of (map (λ x. (g, f x)) xs)) ≡ length {A = GraphData × ℕ} (map (λ x. (g, f x)) xs)
+-- so has each as a value
+ids_count : {X : Type 0} (f : X → ℕ) (g : GraphData) (xs : List X) → All (λ x. f x < length g.packages) xs → length (filter_map id_of (map (λ x. package_in g (f x)) xs)) ≡ length (map (λ x. package_in g (f x)) xs)
 ids_count f g [] below = refl
 ids_count f g (x ∷ xs) below =
     let first = id_there g.packages (f x) (below 0 x (omega arith)) in
-    ap (λ o. length (cons_option o (filter_map id_of (map (λ y. (g, f y)) xs)))) first.1
+    ap (λ o. length (cons_option o (filter_map id_of (map (λ y. package_in g (f y)) xs)))) first.1
     ∙ ap suc (ids_count f g xs (All-tail (λ y. f y < length g.packages) x xs below))
 
--- the IDs of packages that are seen with their graph
-pub ids_of_seen : (g : GraphData) (ps : List ℕ) → filter_map id_of (map (λ p. (g, p)) ps) ≡ ids_at g.packages ps
+-- the IDs of packages as values
+pub ids_of_seen : (g : GraphData) (ps : List ℕ) → filter_map id_of (map (package_in g) ps) ≡ ids_at g.packages ps
 ids_of_seen g [] = refl
 ids_of_seen g (p ∷ ps) = ap (cons_option (id_at g.packages p)) (ids_of_seen g ps)
 
@@ -47,3 +49,11 @@ listed_ids_left-count s = ids_count (λ p. p) s.packages.graph.now s.packages.re
 
 pub root_ids_left-count : (s : RootIds) → length (root_ids_left s) ≡ length (roots_left s.packages)
 root_ids_left-count s = ids_count ix_position s.packages.graph.now (into_iter_items s.packages.rest) s.packages.in_graph
+
+-- where a package comes first, its ID does
+module _ (left rest : List PackageData) (here : PackageMetadata) (id : List ℕ) (steps : left ≡ package_data here ∷ rest) (is : OfPackage here (λ r. id ≡ r.id)) where
+  pub ids_first : filter_map id_of left ≡ id ∷ filter_map id_of rest
+  ids_first = ap (filter_map id_of) steps ∙ ap (λ o. cons_option o (filter_map id_of rest)) (id_found (slice_get (graph_packages here) (package_position here)) id is)
+
+  pub ids_fewer : length (filter_map id_of rest) < length (filter_map id_of left)
+  ids_fewer = let count = ap length ids_first in omega (arith, count)

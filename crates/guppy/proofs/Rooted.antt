@@ -8,6 +8,7 @@ use Rattle.guppy_search.proofs.Members.{IsIn-below}
 use Rattle.guppy_core.specs.Roots.{AreRoots}
 use Rattle.guppy_graph.specs.Ids.{ix_position}
 use Rattle.guppy_graph.specs.Graph.{GraphData}
+use Rattle.guppy.specs.Views.{package_in}
 
 -- roots are positions of the set's graph
 pub roots_within : (Step Same : ℕ → ℕ → Type 0) (set : List Bool) (roots : List PackageIx) → AreRoots Step Same set (map ix_position roots) → All (λ ix. ix_position ix < length set) roots
@@ -16,5 +17,5 @@ roots_within Step Same set roots are k d within =
     IsIn-below set (ix_position (get_or roots k d)) ((are.members (ix_position (get_or roots k d))).0 (k, at)).0
 
 -- the packages at the positions that indexes stand for
-pub packages_at_ixs : (g : GraphData) (ixs : List PackageIx) → map {B = GraphData × ℕ} (λ ix. (g, ix_position ix)) ixs ≡ map (λ p. (g, p)) (map ix_position ixs)
-packages_at_ixs g ixs = let seen : ℕ → GraphData × ℕ = λ p. (g, p) in sym (map-map seen ix_position ixs)
+pub packages_at_ixs : (g : GraphData) (ixs : List PackageIx) → map (λ ix. package_in g (ix_position ix)) ixs ≡ map (package_in g) (map ix_position ixs)
+packages_at_ixs g ixs = sym (map-map (package_in g) ix_position ixs)

@@ -11,7 +11,8 @@ use Rattle.guppy_data.specs.declared.records.PackageRecord.{PackageRecord}
 use Rattle.guppy_data.specs.declared.records.LinkRecord.{LinkRecord}
 use Rattle.guppy_graph.specs.Ids.{HasId}
 use Rattle.guppy.specs.Query.{QueryData, IncludesId, initials_of}
-use Rattle.guppy.specs.Visitors.{LinkData, StartsFromInitial}
+use Rattle.guppy.specs.Views.{LinkData}
+use Rattle.guppy.specs.Visitors.{StartsFromInitial}
 use Rattle.guppy_search.proofs.Lists.{Contains-first, Contains-later}
 use Rattle.guppy_graph.proofs.Named.{id_is}
 

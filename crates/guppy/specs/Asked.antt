@@ -4,7 +4,7 @@ use Rattle.std.specs.List.{Contains, FoldsTo}
 use Rattle.guppy_core.specs.IxSet.{IsIn, IsUnion}
 use Rattle.guppy.specs.declared.metadata.PackageMetadata.{PackageMetadata}
 use Rattle.guppy_graph.specs.Graph.{GraphData}
-use Rattle.guppy.specs.Listed.{package_in}
+use Rattle.guppy.specs.Views.{package_in, package_data}
 
 -- A list of answers has the position of each package that was asked about, with the answer.
 
@@ -16,7 +16,7 @@ module _ {F A : Type 0} where
   -- a call of the callback with the graph's package at the position may give the answer
   abbrev pub AnswersAt : (F → PackageMetadata → A → F → Type 0) → GraphData → F → ℕ → A → F → Type 0
   AnswersAt step graph f p answer g =
-      (m : PackageMetadata) × step f m answer g × (package_in m ≡ (graph, p))
+      (m : PackageMetadata) × step f m answer g × (package_data m ≡ package_in graph p)
 
   -- the callback's states over the answers: each step is one of its calls
   abbrev pub Answers : (F → PackageMetadata → A → F → Type 0) → GraphData → F → List (ℕ × A) → F
@@ -30,7 +30,7 @@ module _ {F A : Type 0} where
       (callback : F) : Type 0 where
     pub at : (earlier : List (ℕ × A)) (now : F) (p : ℕ) (later : List ℕ) (m : PackageMetadata)
         → asked_about earlier ++ p ∷ later ≡ positions → Answers step graph callback earlier now
-        → package_in m ≡ (graph, p) → pre now m
+        → package_data m ≡ package_in graph p → pre now m
 
 -- the set has exactly the positions that got the answer
 abbrev pub AreAnswered : {A : Type 0} → List (ℕ × A) → A → List Bool → Type 0
@@ -38,5 +38,5 @@ AreAnswered answers answer set = (p : ℕ) → IsIn set p ↔ Contains answers (
 
 -- no position is in both halves, and those in one of them are those of the set
 pub record AreHalves (set first second : List Bool) : Type 0 where
-  pub disjoint : (p : ℕ) → IsIn first p → IsIn second p → ⊥
+  pub disjoint : (p : ℕ) → IsIn first p → ¬ IsIn second p
   pub union : IsUnion first second set

@@ -1,9 +1,11 @@
--- Links that leave one package.
+-- Links that leave one package, and which of them an iterator has still to give.
 use Rattle.std.specs.Prelude.{◌≡◌, ℕ, List, Option, MatchOption, map, slice_get, IsSomeAnd}
 use Rattle.std.specs.Borrow.{Bor}
+use Rattle.std.specs.Slice.Iter.{iter_rest}
 use Rattle.guppy_search.specs.declared.ix.direction.DependencyDirection.{DependencyDirection}
 use Rattle.guppy_core.specs.Links.{near_end, far_end, links_at}
 use Rattle.guppy.specs.declared.metadata.PackageMetadata.{PackageMetadata}
+use Rattle.guppy.specs.declared.metadata.links.PackageLinks.{PackageLinks}
 use Rattle.guppy.specs.declared.link.PackageLink.{PackageLink}
 use Rattle.guppy.specs.Views.{graph_of, package_position, link_graph, link_number}
 use Rattle.guppy_graph.specs.Ids.{HasId}
@@ -13,6 +15,9 @@ use Rattle.guppy_graph.specs.Graph.{GraphData}
 abbrev pub links_leaving : PackageMetadata → DependencyDirection → List (Bor GraphData × ℕ)
 links_leaving m d =
     map (λ n. (graph_of m, n)) (links_at d (graph_of m).now.links (package_position m))
+
+abbrev pub links_left : PackageLinks → List (Bor GraphData × ℕ)
+links_left s = map (λ n. (s.graph, n)) (iter_rest s.rest)
 
 -- the link leaves the one position in the direction, and leads to the other
 abbrev pub IsLinkFrom : GraphData → DependencyDirection → ℕ → ℕ → ℕ → Type 0

@@ -9,7 +9,6 @@ pub mod Asked
 pub mod Rooted
 pub mod Views
 pub mod DirectLinks
-pub mod PackageLinks
 pub mod Walked
 pub mod Features
 pub mod FeatureIterators

@@ -1,4 +1,4 @@
--- What a view of a package, a link, a workspace or the cycles shows.
+-- What a view of a package, a link, a workspace or the cycles shows; packages and links as values.
 use Rattle.std.specs.Prelude.{ℕ, List, slice_get, IsSomeAnd}
 use Rattle.std.specs.Borrow.{Bor}
 use Rattle.guppy_search.specs.declared.graph_core.link.Link.{Link}
@@ -11,6 +11,24 @@ use Rattle.guppy.specs.declared.workspace.Workspace.{Workspace}
 use Rattle.guppy.specs.declared.cycles.Cycles.{Cycles}
 use Rattle.guppy_graph.specs.Graph.{GraphData}
 
+-- a package of a graph, by its position
+pub record PackageData : Type 0 where
+  pub graph : GraphData
+  pub position : ℕ
+
+-- a link of a graph, by its number
+pub record LinkData : Type 0 where
+  pub graph : GraphData
+  pub number : ℕ
+
+-- the package of the graph at the position
+abbrev pub package_in : GraphData → ℕ → PackageData
+package_in g p = record { graph = g; position = p }
+
+-- the link of the graph with the number
+abbrev pub link_in : GraphData → ℕ → LinkData
+link_in g n = record { graph = g; number = n }
+
 -- the graph that a package is of
 abbrev pub graph_of : PackageMetadata → Bor GraphData
 graph_of m = m.graph
@@ -22,6 +40,10 @@ graph_packages m = (graph_of m).now.packages
 -- the place of a package among them
 abbrev pub package_position : PackageMetadata → ℕ
 package_position m = m.position
+
+-- the package that a view shows
+abbrev pub package_data : PackageMetadata → PackageData
+package_data m = package_in (graph_of m).now (package_position m)
 
 -- a package is seen as its graph and its position
 abbrev pub package_seen : PackageMetadata → Bor GraphData × ℕ
@@ -38,6 +60,10 @@ link_graph l = l.graph
 -- the place of a link among the graph's links
 abbrev pub link_number : PackageLink → ℕ
 link_number l = l.number
+
+-- the link that a view shows
+abbrev pub link_data : PackageLink → LinkData
+link_data l = link_in (link_graph l).now (link_number l)
 
 -- a link is seen as its graph and its number
 abbrev pub link_seen : PackageLink → Bor GraphData × ℕ

@@ -3,23 +3,13 @@ use Rattle.std.specs.Prelude.{◌≡◌, ℕ, Bool, List}
 use Rattle.std.specs.Borrow.{Bor}
 use Rattle.guppy_core.specs.Resolve.{LeavesOne}
 use Rattle.guppy.specs.declared.link.PackageLink.{PackageLink}
-use Rattle.guppy.specs.Views.{link_graph, link_number}
+use Rattle.guppy.specs.Views.{LinkData, link_in, link_data}
 use Rattle.guppy_graph.specs.Ids.{HasId}
-use Rattle.guppy_graph.specs.Graph.{GraphData}
 use Rattle.guppy.specs.Query.{QueryData, IncludesId, initials_of}
-
--- a link of a graph, by its number
-pub record LinkData : Type 0 where
-  pub graph : GraphData
-  pub number : ℕ
-
--- the link that a view shows
-abbrev pub link_data : PackageLink → LinkData
-link_data l = record { graph = (link_graph l).now; number = link_number l }
 
 -- the link of the query's graph with this number
 abbrev pub query_link : QueryData → ℕ → LinkData
-query_link query n = record { graph = query.graph; number = n }
+query_link query n = link_in query.graph n
 
 -- what a visitor of the query may do at its link n
 abbrev pub VisitsAt : {V : Type 0} → (V → QueryData → LinkData → Bool → V → Type 0) → QueryData → V

@@ -31,7 +31,7 @@ impl PackageGraph {
 
 impl<'g> Cycles<'g> {
     ghost use Rattle.guppy.specs.Views.{cycles_graph, cycles_packages};
-    ghost use Rattle.guppy_graph.specs.Ordered.{IsOrdered};
+    ghost use Rattle.guppy_graph.specs.Graph.{IsInOrder};
     ghost use Rattle.guppy_graph.specs.Cycles.{AreOnOne};
     ghost use Rattle.guppy.specs.ListedCycles.{cycles_of, cycles_left};
 
@@ -68,9 +68,7 @@ impl<'g> Cycles<'g> {
         ensures left { cycles_left result ≡ cycles_of (cycles_graph self.entry).now }
         ensures common { (a b : List ℕ) → AreOnOne (cycles_left result) a b
             ↔ AreCyclic (cycles_graph self.entry).now a b }
-        ensures ordered { IsOrdered (length (cycles_packages self.entry))
-            (cycles_graph self.entry).now.links (cycles_graph self.entry).now.index
-            (cycles_graph self.entry).now.components }
+        ensures ordered { IsInOrder (cycles_graph self.entry).now }
     {
         AllCycles {
             graph: self.graph,
@@ -84,7 +82,7 @@ fn has_self_link(graph: &PackageGraph, ix: PackageIx) -> bool
     requires { ix_position ix < length graph.now.packages }
     ensures { result ≡ has_self_link graph.now.links (ix_position ix) }
 {
-    graph.graph().find_link(ix, ix).is_some()
+    graph.dep_graph().find_link(ix, ix).is_some()
 }
 
 /// Whether the component is a cycle.

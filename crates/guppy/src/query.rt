@@ -1,7 +1,8 @@
 //! Queries: where to start, in which direction to go, and the set that a resolve includes.
 ghost use Rattle.std.specs.Prelude.{◌≡◌, ◌↔◌, ◌<◌, IsTrue, length};
 ghost use Rattle.guppy.specs.Query.{initials_of};
-ghost use Rattle.guppy.specs.Visitors.{link_data, query_link, StartsFromInitial};
+ghost use Rattle.guppy.specs.Visitors.{query_link, StartsFromInitial};
+ghost use Rattle.guppy.specs.Views.{link_data};
 
 mod recorder;
 mod resolve;

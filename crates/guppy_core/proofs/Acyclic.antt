@@ -8,7 +8,7 @@ use Rattle.guppy_search.specs.declared.ix.direction.DependencyDirection.TheVaria
 use Rattle.guppy_search.specs.declared.graph_core.link.Link.{Link}
 use Rattle.guppy_search.specs.Reach.{Step, Walk, here}
 use Rattle.guppy_core.specs.Listing.{Stands, IsOnce, IsListing}
-use Rattle.guppy_core.specs.Topo.{IsEntered, FromRoot, IsTopo, HasNoCycle, LeadsOn}
+use Rattle.guppy_core.specs.Topo.{IsSteppedTo, FromRoot, IsTopo, HasNoCycle, LeadsOn}
 use Rattle.guppy_core.specs.Sccs.{AreSccs}
 use Rattle.guppy_search.proofs.Walks.{walk_from}
 use Rattle.guppy_core.proofs.Lengths.{length_of_once}
@@ -35,7 +35,7 @@ module _ {E : Type 0} (keep : E → Bool) (links : List (Link E)) (x : ℕ) wher
         sym t.near ∙ (ap (λ (z : Link E). z.from) (sym same) ∙ one (ap (λ (z : Link E). keep z.edge) same ∙ t.kept) (ap (λ (z : Link E). z.to) same ∙ t.far))
   ]
 
-  entered_below : (k : ℕ) → k ≤ length links → IsEntered (Step Forward keep links) x ⊎ NoneBelow k
+  entered_below : (k : ℕ) → k ≤ length links → IsSteppedTo (Step Forward keep links) x ⊎ NoneBelow k
   entered_below zero h = inr (λ a t l. absurd (omega arith))
   entered_below (suc k) h =
       let v = some_link links k (omega arith) in
@@ -55,14 +55,14 @@ module _ {E : Type 0} (keep : E → Bool) (links : List (Link E)) (x : ℕ) wher
         ]
       ]
 
-  pub entered_or_not : IsEntered (Step Forward keep links) x ⊎ ((a : ℕ) → Step Forward keep links a x → a ≡ x)
+  pub entered_or_not : IsSteppedTo (Step Forward keep links) x ⊎ ((a : ℕ) → Step Forward keep links a x → a ≡ x)
   entered_or_not = elim (entered_below (length links) (omega arith)) [
     | inl i ↦ inl i
     | inr none ↦ inr (λ a t. none a t (slice_get_within links t.number t.link t.found))
   ]
 
 -- Back from position to position, each another one, one comes to a root.
-module _ (R : ℕ → ℕ → Type 0) (n : ℕ) (entered : (x : ℕ) → IsEntered R x ⊎ ((a : ℕ) → R a x → a ≡ x)) (below : (a x : ℕ) → R a x → a < n) (none : HasNoCycle R) where
+module _ (R : ℕ → ℕ → Type 0) (n : ℕ) (entered : (x : ℕ) → IsSteppedTo R x ⊎ ((a : ℕ) → R a x → a ≡ x)) (below : (a x : ℕ) → R a x → a < n) (none : HasNoCycle R) where
   once_more : (a : ℕ) (xs : List ℕ) → IsOnce xs → (Stands xs a → ⊥) → IsOnce (a ∷ xs)
   once_more a xs once new zero zero x h k = refl
   once_more a xs once new zero (suc j) x h k = absurd (let e : a ≡ x = cc in new (j, subst (λ z. slice_get xs j ≡ Some z) (sym e) k))

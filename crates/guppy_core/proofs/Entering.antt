@@ -8,7 +8,7 @@ use Rattle.guppy_search.specs.declared.ix.direction.DependencyDirection.TheVaria
 use Rattle.guppy_search.specs.Reach.{Step}
 use Rattle.guppy_search.specs.IxSet.{has, IsIn}
 use Rattle.guppy_core.specs.Listing.{Stands, IsAbsence}
-use Rattle.guppy_core.specs.Topo.{IsEntered, IsRoot, LeadsAway}
+use Rattle.guppy_core.specs.Topo.{IsSteppedTo, IsIndexRoot, LeadsAway}
 use Rattle.guppy_core.proofs.Inserted.{has-set_kept, has-set_cases}
 use Rattle.guppy_search.proofs.Members.{has-replicate}
 use Rattle.guppy_core.proofs.Costs.{degree}
@@ -82,7 +82,7 @@ module _ {E : Type 0} (keep : E → Bool) (links : List (Link E)) (n x : ℕ) (s
 -- the set of those that are entered from positions below i
 pub record Entering {E : Type 0} (keep : E → Bool) (links : List (Link E)) (n i : ℕ) (s : List Bool) : Type 0 where
   pub limit_is : length s ≡ n
-  pub sound : (p : ℕ) → IsIn s p → IsEntered (Step Forward keep links) p
+  pub sound : (p : ℕ) → IsIn s p → IsSteppedTo (Step Forward keep links) p
   pub complete : (a p : ℕ) → a < i → LeadsAway (Step Forward keep links) a p → IsIn s p
 
 module _ {E : Type 0} (keep : E → Bool) (links : List (Link E)) (n : ℕ) where
@@ -103,14 +103,14 @@ module _ {E : Type 0} (keep : E → Bool) (links : List (Link E)) (n : ℕ) wher
         (cases_lt a i);
   }
 
-  pub entering_all : (i : ℕ) (s : List Bool) → Entering keep links n i s → ((a p : ℕ) → Step Forward keep links a p → a < n) → n ≤ i → (p : ℕ) → IsIn s p ↔ IsEntered (Step Forward keep links) p
+  pub entering_all : (i : ℕ) (s : List Bool) → Entering keep links n i s → ((a p : ℕ) → Step Forward keep links a p → a < n) → n ≤ i → (p : ℕ) → IsIn s p ↔ IsSteppedTo (Step Forward keep links) p
   entering_all i s m below all p = (
     m.sound p,
     λ e. m.complete e.0 p (let l = below e.0 p e.1.0 in omega arith) e.1,
   )
 
 -- those to which no step leads from another
-pub root_or_entered : (R : ℕ → ℕ → Type 0) (n : ℕ) (s : List Bool) (list : List ℕ) → length s ≡ n → ((p : ℕ) → IsIn s p ↔ IsEntered R p) → IsAbsence s (length s) list → (p : ℕ) → Stands list p ↔ IsRoot R n p
+pub root_or_entered : (R : ℕ → ℕ → Type 0) (n : ℕ) (s : List Bool) (list : List ℕ) → length s ≡ n → ((p : ℕ) → IsIn s p ↔ IsSteppedTo R p) → IsAbsence s (length s) list → (p : ℕ) → Stands list p ↔ IsIndexRoot R n p
 root_or_entered R n s list e m a p = (
   λ t.
       let b = (a.members p).0 t in

@@ -9,7 +9,7 @@ use Rattle.std.proofs.lemmas.List.{length-reverse}
 use Rattle.guppy_search.specs.IxSet.{has}
 use Rattle.guppy_core.specs.Finish.{IsFinishList}
 use Rattle.guppy_core.specs.Listing.{Stands, IsOnce, IsListing, IsAbsence}
-use Rattle.guppy_core.specs.Topo.{IsRoot, FromRoot, IsTopo}
+use Rattle.guppy_core.specs.Topo.{IsIndexRoot, FromRoot, IsTopo}
 use Rattle.guppy_core.proofs.Listings.{contains_stands, stands_contains, at_reversed, at_joined, joined_left, joined_right, reversed_stands, stands_reversed}
 use Rattle.guppy_core.proofs.Lengths.{length_of_all}
 
@@ -18,7 +18,7 @@ pub data Side (F rest : List ℕ) (i x : ℕ) : Type 0 where
   front : (j : ℕ) → slice_get F j ≡ Some x → (i + j) + 1 ≡ length F → Side F rest i x
   back : (j : ℕ) → slice_get rest j ≡ Some x → i ≡ length F + j → Side F rest i x
 
-module _ (R : ℕ → ℕ → Type 0) (n : ℕ) (F rest : List ℕ) (set : List Bool) (IsStart : ℕ → Type 0) (starts : (p : ℕ) → (IsStart p → IsRoot R n p) × (IsRoot R n p → IsStart p)) (f : IsFinishList R IsStart F) (below : (i x : ℕ) → slice_get F i ≡ Some x → x < n) (members : (p : ℕ) → (has set p ≡ true) ↔ Stands (reverse F) p) (a : IsAbsence set n rest) where
+module _ (R : ℕ → ℕ → Type 0) (n : ℕ) (F rest : List ℕ) (set : List Bool) (IsStart : ℕ → Type 0) (starts : (p : ℕ) → (IsStart p → IsIndexRoot R n p) × (IsIndexRoot R n p → IsStart p)) (f : IsFinishList R IsStart F) (below : (i x : ℕ) → slice_get F i ≡ Some x → x < n) (members : (p : ℕ) → (has set p ≡ true) ↔ Stands (reverse F) p) (a : IsAbsence set n rest) where
   order : List ℕ
   order = reverse F ++ rest
 
@@ -121,7 +121,7 @@ reversed_below n F a k d h =
     All-contains (λ p. p < n) F (get_or (reverse F) k d) a (stands_contains F (get_or (reverse F) k d) s)
 
 -- the same from what the calls say
-pub topo_from : (R : ℕ → ℕ → Type 0) (n : ℕ) (starts F rest : List ℕ) (set : List Bool) → ((p : ℕ) → Stands starts p ↔ IsRoot R n p) → IsFinishList R (Contains starts) F → All (λ p. p < n) F → length set ≡ n → ((p : ℕ) → (has set p ≡ true) ↔ Stands (reverse F) p) → IsAbsence set (length set) rest → IsTopo R n (reverse F ++ rest)
+pub topo_from : (R : ℕ → ℕ → Type 0) (n : ℕ) (starts F rest : List ℕ) (set : List Bool) → ((p : ℕ) → Stands starts p ↔ IsIndexRoot R n p) → IsFinishList R (Contains starts) F → All (λ p. p < n) F → length set ≡ n → ((p : ℕ) → (has set p ≡ true) ↔ Stands (reverse F) p) → IsAbsence set (length set) rest → IsTopo R n (reverse F ++ rest)
 topo_from R n starts F rest set roots f below limit members a =
     let a' : IsAbsence set n rest = subst (λ z. IsAbsence set z rest) limit a in
     topo_of R n F rest set (Contains starts) (λ p. (λ c. (roots p).0 (contains_stands starts p c), λ r. stands_contains starts p ((roots p).1 r))) f (λ i x h. All-contains (λ p. p < n) F x below (stands_contains F x (i, h))) members a'

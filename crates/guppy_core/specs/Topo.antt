@@ -8,16 +8,16 @@ abbrev pub LeadsAway : (ℕ → ℕ → Type 0) → ℕ → ℕ → Type 0
 LeadsAway R a p = R a p × (a ≢ p)
 
 -- a step leads to p from another position
-abbrev pub IsEntered : (ℕ → ℕ → Type 0) → ℕ → Type 0
-IsEntered R p = (a : ℕ) × LeadsAway R a p
+abbrev pub IsSteppedTo : (ℕ → ℕ → Type 0) → ℕ → Type 0
+IsSteppedTo R p = (a : ℕ) × LeadsAway R a p
 
 -- p is below n, and no step leads to it from another position
-abbrev pub IsRoot : (ℕ → ℕ → Type 0) → ℕ → ℕ → Type 0
-IsRoot R n p = (p < n) × ((a : ℕ) → R a p → a ≡ p)
+abbrev pub IsIndexRoot : (ℕ → ℕ → Type 0) → ℕ → ℕ → Type 0
+IsIndexRoot R n p = (p < n) × ((a : ℕ) → R a p → a ≡ p)
 
 -- a walk leads to p from a root
 abbrev pub FromRoot : (ℕ → ℕ → Type 0) → ℕ → ℕ → Type 0
-FromRoot R n = ReachedFrom R (IsRoot R n)
+FromRoot R n = ReachedFrom R (IsIndexRoot R n)
 
 -- a topological order of the positions below n
 pub record IsTopo (R : ℕ → ℕ → Type 0) (n : ℕ) (order : List ℕ) : Type 0 where

@@ -27,7 +27,10 @@ module _ (g : GraphData) (distinct : DistinctBelow g.packages (length g.packages
   )
   directly_by_link None none = (
     λ h. absurd (cc),
-    λ d. absurd (none d.4.number d.4.link d.4.found
-        (d.4.near ∙ position_is g.packages distinct a d.0 p d.2 has_a)
-        (d.4.far ∙ position_is g.packages distinct b d.1 q d.3 has_b)),
+    λ d. absurd (none d.4.number (
+      d.4.link,
+      d.4.found,
+      d.4.near ∙ position_is g.packages distinct a d.0 p d.2 has_a,
+      d.4.far ∙ position_is g.packages distinct b d.1 q d.3 has_b,
+    )),
   )

@@ -114,7 +114,7 @@ near_below n links ends x y s =
 -- a link from a position to itself is found where one is there
 pub loop_found : {E : Type 0} (links : List (Link E)) (p : ℕ) (number : Option ℕ) → MatchOption number (NoLink links p p) (LinkIs links p p) → (is_some number ≡ true) ↔ LinkStep Forward links p p
 loop_found links p (Some n) l = (λ _. record { number = n; link = l.0; found = l.1; near = l.2; far = l.3; kept = refl }, λ _. refl)
-loop_found links p None none = (λ h. absurd (cc), λ s. absurd (none s.number s.link s.found s.near s.far))
+loop_found links p None none = (λ h. absurd (cc), λ s. absurd (none s.number (s.link, s.found, s.near, s.far)))
 
 -- packages are on a cycle where their positions are
 pub cyclic_by_positions : (g : GraphData) → DistinctBelow g.packages (length g.packages) → (a b : List ℕ) (p q : ℕ) → HasId g.packages a p → HasId g.packages b q → (cyclic : Bool) → (cyclic ≡ true) ↔ HaveCycle (LinkStep Forward g.links) p q → (cyclic ≡ true) ↔ AreCyclic g a b

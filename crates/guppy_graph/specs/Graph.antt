@@ -20,6 +20,10 @@ pub record GraphData : Type 0 where
   pub index : List ℕ
   pub components : List (List ℕ)
 
+-- its index and its components are an order of its packages, by its links
+abbrev pub IsInOrder : GraphData → Type 0
+IsInOrder g = IsOrdered (length g.packages) g.links g.index g.components
+
 -- the packages and the workspace break no rule, the links lie between the packages, and the order
 -- is one by the links
 pub record IsPackageGraph (g : GraphData) : Type 0 where
@@ -27,7 +31,7 @@ pub record IsPackageGraph (g : GraphData) : Type 0 where
       record { nodes = g.packages; links = g.links } in v)
   pub accepted : ArePackagesAccepted g.packages g.workspace
   pub ends : All (AreEndsNamed g.packages) g.links
-  pub ordered : IsOrdered (length g.packages) g.links g.index g.components
+  pub ordered : IsInOrder g
 
 -- the graph holds exactly these records
 pub record Holds (g : GraphData) (packages : List PackageRecord) (links : List LinkRecord)

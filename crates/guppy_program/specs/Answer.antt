@@ -13,14 +13,14 @@ use Rattle.guppy_data.specs.declared.texts.error.Error.TheVariants.{PackageGraph
 use Rattle.guppy_data.specs.declared.texts.fault.VerifyFault.{VerifyFault}
 use Rattle.guppy.specs.Ids.{HasId, IsKnown}
 use Rattle.guppy.specs.Cycles.{AreCyclic, AreOnOne}
-use Rattle.guppy.specs.Graph.{GraphData}
+use Rattle.guppy.specs.Graph.{GraphData, IsInOrder}
 use Rattle.guppy.specs.Listed.{ids_at}
 use Rattle.guppy.specs.ListedCycles.{cycles_of}
-use Rattle.guppy.specs.Ordered.{IsOrdered}
 use Rattle.guppy.specs.Depends.{DependsOn}
 use Rattle.guppy.specs.Query.{SetData}
 use Rattle.guppy.specs.Refused.{IsFirstUnknown}
 use Rattle.guppy.specs.Rooted.{AreRootIds}
+use Rattle.guppy.specs.Views.{LinkData}
 use Rattle.guppy.specs.Verified.{IsVerified, IsFirstVerifyFault}
 use Rattle.guppy.specs.Walked.{AreWalkedLinks}
 use Rattle.guppy_command.specs.Command.{Command, reach, depends, order, roots, links, cycles, verify}
@@ -68,7 +68,7 @@ pub record IsDependsAnswer (g : GraphData) (from to : List ℕ) (output : List �
 
 -- the IDs of the packages in an order of them, one a line
 pub record IsOrderAnswer (g : GraphData) (output : List ℕ) : Type 0 where
-  pub ordered : IsOrdered (length g.packages) g.links g.index g.components
+  pub ordered : IsInOrder g
   pub printed : output ≡ lines_of (ids_at g.packages (concat g.components))
 
 -- the set of all packages
@@ -91,22 +91,23 @@ abbrev pub ends_of : Option (Link LinkRecord) → List ℕ
 ends_of (Some l) = l.from ∷ l.to ∷ []
 ends_of None = []
 
--- the IDs of the packages that the link goes from and to; a link is its graph and its number
-abbrev pub link_text : GraphData × ℕ → List ℕ
-link_text link = joined (ids_at link.0.packages (ends_of (slice_get link.0.links link.1)))
+-- the IDs of the packages that the link goes from and to
+abbrev pub link_text : LinkData → List ℕ
+link_text link =
+    joined (ids_at link.graph.packages (ends_of (slice_get link.graph.links link.number)))
 
 -- the links that are walked from the roots of all packages, in an order that the walk allows, one a
 -- line
 pub record IsLinksAnswer (direction : DependencyDirection) (g : GraphData)
     (output : List ℕ) : Type 0 where
-  pub walked : List (GraphData × ℕ)
+  pub walked : List LinkData
   pub exact : AreWalkedLinks direction (all_of g) walked
   pub printed : output ≡ lines_of (map link_text walked)
 
 -- the cycles in an order of the packages, one a line: two IDs stand on one line exactly where their
 -- packages are cyclic
 pub record IsCyclesAnswer (g : GraphData) (output : List ℕ) : Type 0 where
-  pub ordered : IsOrdered (length g.packages) g.links g.index g.components
+  pub ordered : IsInOrder g
   pub common : (a b : List ℕ) → AreOnOne (cycles_of g) a b ↔ AreCyclic g a b
   pub printed : output ≡ lines_of (map joined (cycles_of g))
 

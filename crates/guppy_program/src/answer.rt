@@ -4,7 +4,7 @@ ghost use Rattle.guppy.specs.Ids.{IsKnown};
 ghost use Rattle.guppy.specs.ListedCycles.{cycle_left};
 ghost use Rattle.guppy.specs.Query.{IncludesId};
 ghost use Rattle.guppy.specs.Refused.{NamesId, IsFirstUnknown};
-ghost use Rattle.guppy.specs.Walked.{link_in};
+ghost use Rattle.guppy.specs.Views.{link_data};
 ghost use Rattle.guppy_command.specs.Command.{verify};
 ghost use Rattle.guppy_program.specs.Answer.{line_of, lines_of, truth_line, IsReached, IsReachAnswer, IsDependsAnswer, IsOrderAnswer, IsRootsAnswer, joined, link_text, IsLinksAnswer, IsCyclesAnswer, IsVerifyAnswer, IsAnswer, IsCommandRefusal};
 ghost use Rattle.guppy_command.specs.Shown.{command_shown};
@@ -118,7 +118,7 @@ fn roots(
 // Writes the IDs of the packages that the link goes from and to, parted by a space, on a line.
 fn push_link(text: &mut String, link: PackageLink<'_>) -> Result<(), AllocError>
     ensures { OnOk result (string_bytes text.new ≡ string_bytes text.old
-        ++ line_of (link_text (link_in link.entry))) }
+        ++ line_of (link_text (link_data link.entry))) }
 {
     text.push_str(link.from().id().repr())?;
     text.push(' ')?;

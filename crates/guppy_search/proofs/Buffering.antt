@@ -6,10 +6,10 @@ use Rattle.std.proofs.lemmas.Option.{slice_get_within}
 use Rattle.std.proofs.lemmas.List.Elements.{Contains-push, Contains-append_left, Contains-append_right, Contains-append_cases, Contains-push_cases}
 use Rattle.guppy_search.specs.declared.ix.direction.DependencyDirection.{DependencyDirection}
 use Rattle.guppy_search.specs.declared.graph_core.link.Link.{Link}
-use Rattle.guppy_search.specs.Links.{near_end, links_at, EndsBelow}
+use Rattle.guppy_search.specs.Links.{near_end, links_at, EndsBelow, IsLedTo}
 use Rattle.guppy_search.specs.IxSet.{IsIn, member_count, positions_in}
 use Rattle.guppy_search.specs.Resolve.{LeavesOne}
-use Rattle.guppy_search.specs.Buffered.{Question, IsAsked, IsFarEnd, IsFound, IsTimely, IsOrderly, IsAbout, AskedOnce, IsAskable, JudgesBuffered, Asks, EndsInError, Adds}
+use Rattle.guppy_search.specs.Buffered.{Question, IsAsked, IsFound, IsTimely, IsOrderly, IsAbout, AskedOnce, IsAskable, JudgesBuffered, Asks, EndsInError, Adds}
 use Rattle.guppy_search.specs.Buffered.Question.{discover, filter}
 use Rattle.guppy_search.specs.Buffering.{Buffering, Takes, Stops, MayAskOn}
 use Rattle.guppy_search.proofs.Lists.{nothing_in, Contains-first, Contains-later, Contains-cons_cases, EachAfter-nil, EachAfter-push, FoldsTo-append}
@@ -82,7 +82,7 @@ module _ {E : Type 0} (d : DependencyDirection) (links : List (Link E)) (initial
         | inl i ↦ (a.after_has p).1 (inl ((included p).1 (inl i)))
         | inr q ↦ elim (Contains-push_cases trace (question, handed) q.0 q.1) [
           | inl c ↦ (a.after_has p).1 (inl ((included p).1 (inr (q.0, c, q.2))))
-          | inr e ↦ a.followed p (subst (λ (entry : Question × List ℕ). IsFarEnd d links entry.1 p) (sym e) q.2)
+          | inr e ↦ a.followed p (subst (λ (entry : Question × List ℕ). IsLedTo d links entry.1 p) (sym e) q.2)
         ]
       ],
     )

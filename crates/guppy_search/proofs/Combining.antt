@@ -59,12 +59,25 @@ same_count words others count count' set set' is is' same =
     let l' = length-marks_of others count' in
     omega arith
 
+-- the words are made of these and the others, pair by pair
+pub record AreMade (of : ℕ → ℕ → ℕ) (words others now : List ℕ) : Type 0 where
+  pub size : length now ≡ length words
+  pub fits : (k : ℕ) → k < length words → (get_or others k 0 < 2 ^ 64) × (get_or now k 0 < 2 ^ 64)
+  pub each : (k : ℕ) → k < length words → get_or now k 0 ≡ of (get_or words k 0) (get_or others k 0)
+
+-- so they are where they were made of slices of both
+pub made_of_slices : (of : ℕ → ℕ → ℕ) (words others old theirs now : List ℕ) → old ≡ words → theirs ≡ others → length now ≡ length old → ((k : ℕ) → k < length old → (get_or theirs k 0 < 2 ^ 64) × (get_or now k 0 < 2 ^ 64)) → ((k : ℕ) → k < length old → get_or now k 0 ≡ of (get_or old k 0) (get_or theirs k 0)) → AreMade of words others now
+made_of_slices of words others old theirs now is is' size fits each = record {
+  size = rw (← is) size;
+  fits = rw (← is, ← is') fits;
+  each = rw (← is, ← is') each;
+}
+
 -- two sets of as many positions, and the words that are made of theirs
 module _ (of : ℕ → ℕ → ℕ) (both : Bool → Bool → Bool) (bits : CombinesBits of both) (nothing : both false false ≡ false)
     (words others now : List ℕ) (count count' len len' : ℕ) (s : IsBitSet words count len) (t : IsBitSet others count' len')
     (set set' : List Bool) (is : marks_of words count ≡ set) (is' : marks_of others count' ≡ set') (same : length set' ≡ length set)
-    (fits : (k : ℕ) → k < length words → (get_or others k 0 < 2 ^ 64) × (get_or now k 0 < 2 ^ 64)) (size : length now ≡ length words)
-    (each : (k : ℕ) → k < length words → get_or now k 0 ≡ of (get_or words k 0) (get_or others k 0)) where
+    (made : AreMade of words others now) where
   counts : count' ≡ count
   counts = same_count words others count count' set set' is is' same
 
@@ -75,7 +88,7 @@ module _ (of : ℕ → ℕ → ℕ) (both : Bool → Bool → Bool) (bits : Comb
       let e = counts in
       ⊎_elim
       (λ l. let low : p % 64 < 64 = omega arith in
-      rw (each (p / 64) l) (bits (get_or words (p / 64) 0) (get_or others (p / 64) 0) (p % 64) (fits (p / 64) l).0 low))
+      rw (made.each (p / 64) l) (bits (get_or words (p / 64) 0) (get_or others (p / 64) 0) (p % 64) (made.fits (p / 64) l).0 low))
       (λ ge.
       marked_past now p (omega arith) ∙ sym (ap (λ a. both a (is_marked others p)) (marked_past words p ge) ∙ ap (λ b. both false b) (marked_past others p (omega arith)) ∙ nothing))
       (cases_lt (p / 64) (length words))
@@ -99,7 +112,7 @@ module _ (of : ℕ → ℕ → ℕ) (both : Bool → Bool → Bool) (bits : Comb
   clears p h = let e = counts in marked p ∙ ap (λ a. both a (is_marked others p)) (s.clear p h) ∙ ap (λ b. both false b) (t.clear p (omega arith)) ∙ nothing
 
   counted_bits : sum_by count_ones now ≡ member_count (marks_of now count)
-  counted_bits = count-marks_of now count (let r = s.room in let e = size in omega arith) (λ k h. (fits k (let e = size in omega arith)).1) clears
+  counted_bits = count-marks_of now count (let r = s.room in let e = made.size in omega arith) (λ k h. (made.fits k (let e = made.size in omega arith)).1) clears
 
   -- the size fits
   pub combined_few : sum_by count_ones now < 2 ^ 64
@@ -112,7 +125,7 @@ module _ (of : ℕ → ℕ → ℕ) (both : Bool → Bool → Bool) (bits : Comb
 
   pub combined_set : (sum : ℕ) → sum ≡ sum_by count_ones now → IsBitSet now count sum
   combined_set sum counted = record {
-    room = size ∙ s.room;
+    room = made.size ∙ s.room;
     small = s.small;
     counted = counted ∙ counted_bits;
     fit = λ p h. ⊎_elim (s.fit p) (λ i. t.fit p i) (rw (is, is') (one_of (has set p) (has set' p) (has (marks_of now count) p) (combined_has p) h));

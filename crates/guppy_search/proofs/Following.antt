@@ -5,10 +5,10 @@ use Rattle.std.proofs.lemmas.List.{get_or-set_same}
 use Rattle.std.proofs.lemmas.List.Elements.{Contains-push, Contains-append_left, Contains-append_cases, Contains-push_cases}
 use Rattle.guppy_search.specs.declared.ix.direction.DependencyDirection.{DependencyDirection}
 use Rattle.guppy_search.specs.declared.graph_core.link.Link.{Link}
-use Rattle.guppy_search.specs.Links.{far_end}
+use Rattle.guppy_search.specs.Links.{far_end, IsLedTo}
 use Rattle.guppy_search.specs.IxSet.{IsIn, member_count, positions_from, positions_in}
 use Rattle.guppy_search.specs.Resolve.{EachAfter}
-use Rattle.guppy_search.specs.Buffered.{IsFarEnd, Adds}
+use Rattle.guppy_search.specs.Buffered.{Adds}
 use Rattle.guppy_search.proofs.Lists.{nothing_in, EachAfter-nil, EachAfter-push, EachAfter-cons, EachAfter-append, EachAfter-with, Contains-cons_cases}
 use Rattle.guppy_search.proofs.Members.{member-set_cases, member-set_keeps}
 use Rattle.guppy_search.proofs.Positions.{positions_from-are, length-positions_from}
@@ -26,11 +26,11 @@ module _ {E : Type 0} (d : DependencyDirection) (links : List (Link E)) where
 
   -- one more link
   module _ (numbers : List ℕ) (s : List Bool) (added : List ℕ) (s' : List Bool) (n : ℕ) (link : Link E) (found : slice_get links n ≡ Some link) where
-    IsFarEnd-more : (p : ℕ) → IsFarEnd d links numbers p → IsFarEnd d links (numbers ++ n ∷ []) p
-    IsFarEnd-more p h = (h.0, h.1, Contains-append_left numbers (n ∷ []) h.0 h.2, h.3, h.4)
+    IsLedTo-more : (p : ℕ) → IsLedTo d links numbers p → IsLedTo d links (numbers ++ n ∷ []) p
+    IsLedTo-more p h = (h.0, h.1, Contains-append_left numbers (n ∷ []) h.0 h.2, h.3, h.4)
 
-    IsFarEnd-cases : (p : ℕ) → IsFarEnd d links (numbers ++ n ∷ []) p → IsFarEnd d links numbers p ⊎ (far_end d link ≡ p)
-    IsFarEnd-cases p h = elim (Contains-push_cases numbers n h.0 h.2) [
+    IsLedTo-cases : (p : ℕ) → IsLedTo d links (numbers ++ n ∷ []) p → IsLedTo d links numbers p ⊎ (far_end d link ≡ p)
+    IsLedTo-cases p h = elim (Contains-push_cases numbers n h.0 h.2) [
       | inl c ↦ inl (h.0, h.1, c, h.3, h.4)
       | inr e ↦
           let found_h = h.3 in
@@ -42,8 +42,8 @@ module _ {E : Type 0} (d : DependencyDirection) (links : List (Link E)) where
     Adds-known i a = record {
       once = a.once;
       lacked = a.lacked;
-      led_to = λ p c. IsFarEnd-more p (a.led_to p c);
-      followed = λ p h. elim (IsFarEnd-cases p h) [ inl k ↦ a.followed p k | inr e ↦ subst (IsIn s') e i ];
+      led_to = λ p c. IsLedTo-more p (a.led_to p c);
+      followed = λ p h. elim (IsLedTo-cases p h) [ inl k ↦ a.followed p k | inr e ↦ subst (IsIn s') e i ];
       after_has = a.after_has;
     }
 
@@ -57,10 +57,10 @@ module _ {E : Type 0} (d : DependencyDirection) (links : List (Link E)) where
             | inr e ↦ λ i. lacks ((a.after_has far).1 (inl (rw e i)))
           ];
           led_to = λ p c. elim (Contains-push_cases added far p c) [
-            | inl k ↦ IsFarEnd-more p (a.led_to p k)
+            | inl k ↦ IsLedTo-more p (a.led_to p k)
             | inr e ↦ (n, link, Contains-push numbers n, found, e)
           ];
-          followed = λ p h. elim (IsFarEnd-cases p h) [
+          followed = λ p h. elim (IsLedTo-cases p h) [
             | inl k ↦ member-set_keeps s' far p below (a.followed p k)
             | inr e ↦ subst (IsIn (set s' far true)) e (get_or-set_same s' far true false below)
           ];

@@ -7,11 +7,11 @@ use Rattle.std.proofs.lemmas.List.Elements.{filter-append, Contains-push, Contai
 use Rattle.guppy_search.specs.declared.ix.direction.DependencyDirection.{DependencyDirection}
 use Rattle.guppy_search.specs.declared.ix.direction.DependencyDirection.TheVariants.{Forward, Reverse}
 use Rattle.guppy_search.specs.declared.graph_core.link.Link.{Link}
-use Rattle.guppy_search.specs.Links.{near_end, far_end}
+use Rattle.guppy_search.specs.Links.{near_end, far_end, IsLedTo}
 use Rattle.guppy_search.specs.IxSet.{IsIn}
 use Rattle.guppy_search.specs.Reach.{LinkStep}
 use Rattle.guppy_search.specs.Resolve.{EachAfter, IsShown, LeavesOne, IsIncluded, JudgesResolve, accepted_links}
-use Rattle.guppy_search.specs.Walked.{IsInside, StepInside, IsWalked, IsLedTo, AreWalked}
+use Rattle.guppy_search.specs.Walked.{IsInside, StepInside, IsWalked, AreWalked}
 use Rattle.guppy_search.proofs.Lists.{nothing_in, EachAfter-nil, EachAfter-push, EachAfter-along}
 use Rattle.guppy_search.proofs.Reached.{AnswersBy, StepsAre, kept_accepted, judged_reached}
 

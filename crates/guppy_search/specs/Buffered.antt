@@ -1,10 +1,10 @@
 -- What a search with a buffered filter asks, and which positions it includes.
-use Rattle.std.specs.Prelude.{◌≡◌, ◌⊎◌, ◌↔◌, ℕ, ◌<◌, Bool, true, if◌then◌else◌, List, [], ◌∷◌, Option, Some, None, slice_get, MatchOption}
+use Rattle.std.specs.Prelude.{◌≡◌, ◌⊎◌, ◌↔◌, ℕ, ◌<◌, Bool, true, if◌then◌else◌, List, [], ◌∷◌, Option, Some, None, MatchOption}
 use Rattle.std.specs.List.{Contains, FoldsTo}
 use Rattle.std.specs.Borrow.{Bor}
 use Rattle.guppy_search.specs.declared.ix.direction.DependencyDirection.{DependencyDirection}
 use Rattle.guppy_search.specs.declared.graph_core.link.Link.{Link}
-use Rattle.guppy_search.specs.Links.{far_end}
+use Rattle.guppy_search.specs.Links.{IsLedTo}
 use Rattle.guppy_search.specs.IxSet.{IsIn}
 use Rattle.guppy_search.specs.Resolve.{EachAfter, LeavesOne}
 
@@ -20,17 +20,12 @@ pub data Question : Type 0 where
 abbrev pub IsAsked : List (Question × List ℕ) → Question → Type 0
 IsAsked trace question = (handed : List ℕ) × Contains trace (question, handed)
 
--- one of the links leads to the position
-abbrev pub IsFarEnd : {E : Type 0} → DependencyDirection → List (Link E) → List ℕ → ℕ → Type 0
-IsFarEnd {E} d links numbers p =
-    (n : ℕ) × (l : Link E) × Contains numbers n × (slice_get links n ≡ Some l) × (far_end d l ≡ p)
-
 -- the position is an initial one, or a link that was handed back leads to it
 abbrev pub IsFound : {E : Type 0} → DependencyDirection → List (Link E) → List Bool
     → List (Question × List ℕ) → ℕ → Type 0
 IsFound d links initials trace p =
     IsIn initials p ⊎ ((entry : Question × List ℕ) × Contains trace entry
-    × IsFarEnd d links entry.1 p)
+    × IsLedTo d links entry.1 p)
 
 -- the question may come after these: about a position that was found, or about a link that leaves
 -- one that was discovered
@@ -114,8 +109,8 @@ pub record Adds {E : Type 0} (d : DependencyDirection) (links : List (Link E)) (
     (set : List Bool) (added : List ℕ) (after : List Bool) : Type 0 where
   pub once : EachAfter (λ before p. ¬ Contains before p) added
   pub lacked : (p : ℕ) → Contains added p → ¬ IsIn set p
-  pub led_to : (p : ℕ) → Contains added p → IsFarEnd d links numbers p
-  pub followed : (p : ℕ) → IsFarEnd d links numbers p → IsIn after p
+  pub led_to : (p : ℕ) → Contains added p → IsLedTo d links numbers p
+  pub followed : (p : ℕ) → IsLedTo d links numbers p → IsIn after p
   pub after_has : (p : ℕ) → IsIn after p ↔ (IsIn set p ⊎ Contains added p)
 
 module _ {V F : Type 0} where

@@ -16,12 +16,11 @@ pub record IsGraph {N E : Type 0} (g : GraphValue N E) : Type 0 where
   pub single : (i j : ℕ) (a b : Link E) → slice_get g.links i ≡ Some a
       → slice_get g.links j ≡ Some b → SamePair a b → i ≡ j
 
--- no link leads from one to the other
-abbrev pub NoLink : {E : Type 0} → List (Link E) → ℕ → ℕ → Type 0
-NoLink {E} links from to =
-    (n : ℕ) (l : Link E) → slice_get links n ≡ Some l → l.from ≡ from → l.to ≡ to → ⊥
-
 -- n is the number of a link that leads from one to the other
 abbrev pub LinkIs : {E : Type 0} → List (Link E) → ℕ → ℕ → ℕ → Type 0
 LinkIs {E} links from to n =
     (l : Link E) × (slice_get links n ≡ Some l) × (l.from ≡ from) × (l.to ≡ to)
+
+-- no link leads from one to the other
+abbrev pub NoLink : {E : Type 0} → List (Link E) → ℕ → ℕ → Type 0
+NoLink links from to = (n : ℕ) → ¬ LinkIs links from to n

@@ -1,5 +1,5 @@
 -- Links between positions, and their ends in a direction.
-use Rattle.std.specs.Prelude.{◌||◌, nat_le, ◌≡◌, ◌==◌, ℕ, ◌+◌, ◌<◌, Bool, if◌then◌else◌, List, [], ◌∷◌}
+use Rattle.std.specs.Prelude.{◌||◌, nat_le, ◌≡◌, ◌==◌, ℕ, ◌+◌, ◌<◌, Bool, if◌then◌else◌, List, [], ◌∷◌, Some, slice_get, Contains}
 use Rattle.guppy_search.specs.declared.ix.direction.DependencyDirection.{DependencyDirection}
 use Rattle.guppy_search.specs.declared.ix.direction.DependencyDirection.TheVariants.{Forward, Reverse}
 use Rattle.guppy_search.specs.declared.graph_core.link.Link.{Link}
@@ -18,6 +18,11 @@ near_end Reverse l = l.to
 abbrev pub far_end : {E : Type 0} → DependencyDirection → Link E → ℕ
 far_end Forward l = l.to
 far_end Reverse l = l.from
+
+-- one of the links with these numbers leads to the position
+abbrev pub IsLedTo : {E : Type 0} → DependencyDirection → List (Link E) → List ℕ → ℕ → Type 0
+IsLedTo {E} d links numbers p =
+    (n : ℕ) × (l : Link E) × Contains numbers n × (slice_get links n ≡ Some l) × (far_end d l ≡ p)
 
 -- the numbers of the elements that pass, ascending, where the first has the number i
 abbrev pub numbers_where : {A : Type 0} → (A → Bool) → ℕ → List A → List ℕ

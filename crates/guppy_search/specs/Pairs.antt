@@ -7,7 +7,7 @@ use Rattle.guppy_search.specs.Links.{SamePair, EndsBelow, is_unknown}
 -- the first i links of the row lead elsewhere
 abbrev pub NoneTo : {E : Type 0} → List (Link E) → ℕ → List ℕ → ℕ → Type 0
 NoneTo {E} links to row i =
-    (k : ℕ) (l : Link E) → k < i → slice_get links (slice_index row k) ≡ Some l → l.to ≡ to → ⊥
+    (k : ℕ) (l : Link E) → k < i → slice_get links (slice_index row k) ≡ Some l → l.to ≢ to
 
 -- the link n is the first of the row that leads there
 pub record IsFirstTo {E : Type 0} (links : List (Link E)) (to : ℕ) (row : List ℕ)

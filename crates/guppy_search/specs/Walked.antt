@@ -3,7 +3,7 @@ use Rattle.std.specs.Prelude.{◌≡◌, ◌⊎◌, ◌↔◌, ℕ, Bool, List, 
 use Rattle.guppy_search.specs.declared.ix.direction.DependencyDirection.{DependencyDirection}
 use Rattle.guppy_search.specs.declared.ix.direction.DependencyDirection.TheVariants.{Forward}
 use Rattle.guppy_search.specs.declared.graph_core.link.Link.{Link}
-use Rattle.guppy_search.specs.Links.{near_end, far_end}
+use Rattle.guppy_search.specs.Links.{near_end, IsLedTo}
 use Rattle.guppy_search.specs.Pairs.{to_at}
 use Rattle.guppy_search.specs.IxSet.{IsIn}
 use Rattle.guppy_search.specs.Reach.{LinkStep, ReachedFrom, Mutual}
@@ -25,11 +25,6 @@ pub record IsWalked {E : Type 0} (d : DependencyDirection) (links : List (Link E
   pub found : slice_get links n ≡ Some link
   pub inside : IsInside set link
   pub reached : ReachedFrom (StepInside (LinkStep d links) set) IsStart (near_end d link)
-
--- one of the listed links leads to the position
-abbrev pub IsLedTo : {E : Type 0} → DependencyDirection → List (Link E) → List ℕ → ℕ → Type 0
-IsLedTo {E} d links listed p =
-    (n : ℕ) × (l : Link E) × Contains listed n × (slice_get links n ≡ Some l) × (far_end d l ≡ p)
 
 -- the list has the numbers of the walked links
 pub record AreWalked {E : Type 0} (d : DependencyDirection) (links : List (Link E))

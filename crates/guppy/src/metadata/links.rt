@@ -12,8 +12,7 @@ use std::slice;
 
 impl<'g> PackageMetadata<'g> {
     ghost use Rattle.guppy.specs.Views.{graph_of, graph_packages, package_position};
-    ghost use Rattle.guppy.specs.DirectLinks.{links_leaving, IsLinkFrom, IsLinkBetween};
-    ghost use Rattle.guppy.specs.PackageLinks.{links_left};
+    ghost use Rattle.guppy.specs.DirectLinks.{links_leaving, links_left, IsLinkFrom, IsLinkBetween};
 
     /// The links that leave this package in the direction, ascending by number: Forward those to its
     /// dependencies, Reverse those from its dependents. A link from the package to itself is among
@@ -25,7 +24,7 @@ impl<'g> PackageMetadata<'g> {
             graph: self.graph,
             rest: self
                 .graph
-                .graph()
+                .dep_graph()
                 .links_of(self.package_ix(), direction)
                 .iter(),
         }
@@ -83,7 +82,7 @@ impl<'g> PackageMetadata<'g> {
             (IsLinkFrom (graph_of self.entry).now direction (package_position self.entry)
             (ix_position other)) }
     {
-        let graph = self.graph.graph();
+        let graph = self.graph.dep_graph();
         match direction {
             DependencyDirection::Forward => graph.find_link(self.package_ix(), other),
             DependencyDirection::Reverse => graph.find_link(other, self.package_ix()),
@@ -126,7 +125,7 @@ pub struct PackageLinks<'g> {
 impl<'g> Iterator for PackageLinks<'g> {
     ghost use Rattle.std.specs.Iterator.{YieldsFirstBy, item_count};
     ghost use Rattle.guppy.specs.Views.{link_seen};
-    ghost use Rattle.guppy.specs.PackageLinks.{links_left};
+    ghost use Rattle.guppy.specs.DirectLinks.{links_left};
 
     type Item = PackageLink<'g>;
 

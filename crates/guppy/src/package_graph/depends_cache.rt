@@ -45,7 +45,7 @@ impl<'g> DependsCache<'g> {
         ensures graph { IfOk result (λ c. c ≡ graph.now) }
         ensures error { IsOkUnless result Error.OutOfMemory }
     {
-        let room = ReachCache::new(graph.graph())?;
+        let room = ReachCache::new(graph.dep_graph())?;
         Ok(DependsCache { graph, room })
     }
 
@@ -66,7 +66,7 @@ impl<'g> DependsCache<'g> {
     {
         let (from, to) = self.graph.pair_of(a, b)?;
         let forward = DependencyDirection::Forward;
-        Ok(self.room.reaches(self.graph.graph(), from, to, forward))
+        Ok(self.room.reaches(self.graph.dep_graph(), from, to, forward))
     }
 }
 

@@ -109,7 +109,7 @@ impl PackageGraph {
         ensures { IsPermutation (ids_of self.now.packages) (ids_left result) }
     {
         PackageIds {
-            rest: self.graph().nodes().iter(),
+            rest: self.dep_graph().nodes().iter(),
         }
     }
 

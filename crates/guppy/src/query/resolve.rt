@@ -20,12 +20,12 @@ struct Asking<'v, 'a, 'g, V> {
 }
 
 impl<V: PackageLinkVisitor> LinkVisitor for Asking<'_, '_, '_, V> {
-    ghost use Rattle.std.specs.Prelude.{◌≡◌, ℕ, ◌<◌, ◌∷◌, length};
+    ghost use Rattle.std.specs.Prelude.{◌≡◌, ◌≢◌, ℕ, ◌<◌, ◌∷◌, length};
     ghost use Rattle.guppy.specs.Visitors.{VisitsAt, MayVisitAt};
 
     ghost visits = { λ s n b t. VisitsAt V.visits s.context.now s.visitor.now n b t.visitor.now
         × (t.context ≡ s.context)
-        × ((m : ℕ) → (m ≡ n → ⊥) → MayVisitAt V.can_visit s.context.now s.visitor.now m
+        × ((m : ℕ) → m ≢ n → MayVisitAt V.can_visit s.context.now s.visitor.now m
         → MayVisitAt V.can_visit s.context.now t.visitor.now m) };
 
     ghost place = { λ s. s.visitor.ghost_name ∷ V.place s.visitor.now };
@@ -99,7 +99,7 @@ impl<'g> PackageQuery<'g> {
         ensures error { IsOkUnless result Error.OutOfMemory }
     {
         let graph = self.graph();
-        let core = ResolveCore::new(graph.graph(), self.initial_ixs(), self.direction())?;
+        let core = ResolveCore::new(graph.dep_graph(), self.initial_ixs(), self.direction())?;
         Ok(PackageSet { graph, core })
     }
 
@@ -231,7 +231,7 @@ fn resolve_by_number<'g, V: LinkVisitor>(
     let query = context.query();
     let graph = query.graph();
     let included = reachable_with(
-        graph.graph(),
+        graph.dep_graph(),
         query.initial_ixs(),
         query.direction(),
         visitor,

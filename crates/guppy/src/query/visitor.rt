@@ -1,7 +1,7 @@
 //! The visitors of a query.
-ghost use Rattle.std.specs.Prelude.{◌≡◌, ⊤, ℕ, Bool, List, [], ◌∷◌};
+ghost use Rattle.std.specs.Prelude.{◌≡◌, ◌≢◌, ⊤, ℕ, Bool, List, [], ◌∷◌};
 ghost use Rattle.guppy.specs.Query.{QueryData};
-ghost use Rattle.guppy.specs.Visitors.{LinkData, link_data};
+ghost use Rattle.guppy.specs.Views.{LinkData, link_data};
 
 use crate::link::PackageLink;
 use crate::query::PackageLinkContext;
@@ -26,7 +26,7 @@ pub trait PackageLinkVisitor {
     fn visit_link(&mut self, cx: &PackageLinkContext<'_>, link: PackageLink<'_>) -> bool
         requires { can_visit self.old cx.now (link_data link) }
         ensures visits { visits self.old cx.now (link_data link.entry) result self.new }
-        ensures others { (l : LinkData) → (l ≡ link_data link.entry → ⊥)
+        ensures others { (l : LinkData) → l ≢ link_data link.entry
             → can_visit self.old cx.now l → can_visit self.new cx.now l }
         ensures same_place { place self.new ≡ place self.old };
 }

@@ -19,7 +19,7 @@ impl PackageGraph {
     pub fn same_packages(&self, other: &PackageGraph) -> bool
         ensures { IsTrue result ↔ (ids_of self.now.packages ≡ ids_of other.now.packages) }
     {
-        have_same_ids(self.graph().nodes(), other.graph().nodes())
+        have_same_ids(self.dep_graph().nodes(), other.dep_graph().nodes())
     }
 }
 
@@ -59,7 +59,7 @@ impl<'g> PackageSet<'g> {
         requires { length self.now.graph.packages ≡ length other.now.graph.packages }
         ensures { result ≡ pointwise beq self.now.included other.now.included }
     {
-        let graph = self.graph.graph();
+        let graph = self.graph.dep_graph();
         let included = self.core.included();
         let others = other.core.included();
         for position in 0..graph.node_count() {

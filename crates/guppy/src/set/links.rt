@@ -30,7 +30,7 @@ impl<'g> PackageSet<'g> {
         ensures error { IsOkUnless result Error.OutOfMemory }
     {
         let graph = self.graph;
-        let rest = self.core.links(graph.graph(), graph.sccs(), direction)?;
+        let rest = self.core.links(graph.dep_graph(), graph.sccs(), direction)?;
         Ok(WalkedLinks { graph, rest })
     }
 }
@@ -45,11 +45,12 @@ pub struct WalkedLinks<'g> {
 
 impl<'g> Iterator for WalkedLinks<'g> {
     ghost use Rattle.std.specs.Iterator.{YieldsFirstBy, item_count};
-    ghost use Rattle.guppy.specs.Walked.{link_in, walked_left};
+    ghost use Rattle.guppy.specs.Views.{link_data};
+    ghost use Rattle.guppy.specs.Walked.{walked_left};
 
     type Item = PackageLink<'g>;
 
-    ghost next_gives = { YieldsFirstBy link_in walked_left };
+    ghost next_gives = { YieldsFirstBy link_data walked_left };
 
     ghost remaining = { item_count walked_left };
 

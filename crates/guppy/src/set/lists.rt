@@ -9,7 +9,7 @@ use guppy_core::{DependencyDirection, IndexType, Topo};
 use guppy_data::PackageId;
 
 impl<'g> PackageSet<'g> {
-    ghost use Rattle.guppy_graph.specs.Ordered.{IsOrdered};
+    ghost use Rattle.guppy_graph.specs.Graph.{IsInOrder};
     ghost use Rattle.guppy.specs.Listed.{positions_listed, packages_listed, listed_left, ids_at, listed_ids_left};
 
     /// The IDs of the set's packages, listed as `packages` lists them. Takes no memory.
@@ -17,8 +17,7 @@ impl<'g> PackageSet<'g> {
         ensures left { listed_ids_left result
             ≡ ids_at self.now.graph.packages (positions_listed direction self.now) }
         ensures count { length (listed_ids_left result) ≡ member_count self.now.included }
-        ensures ordered { IsOrdered (length self.now.graph.packages) self.now.graph.links
-            self.now.graph.index self.now.graph.components }
+        ensures ordered { IsInOrder self.now.graph }
     {
         ListedPackageIds {
             packages: self.packages(direction),
@@ -41,8 +40,7 @@ impl<'g> PackageSet<'g> {
             ↔ IsIn self.now.included p }
         ensures once { IsOnce (positions_listed direction self.now) }
         ensures count { length (listed_left result) ≡ member_count self.now.included }
-        ensures ordered { IsOrdered (length self.now.graph.packages) self.now.graph.links
-            self.now.graph.index self.now.graph.components }
+        ensures ordered { IsInOrder self.now.graph }
     {
         ListedPackages {
             graph: self.graph,
@@ -62,11 +60,12 @@ pub struct ListedPackages<'s, 'g> {
 
 impl<'s, 'g> Iterator for ListedPackages<'s, 'g> {
     ghost use Rattle.std.specs.Iterator.{YieldsFirstBy, item_count};
-    ghost use Rattle.guppy.specs.Listed.{package_in, listed_left};
+    ghost use Rattle.guppy.specs.Views.{package_data};
+    ghost use Rattle.guppy.specs.Listed.{listed_left};
 
     type Item = PackageMetadata<'g>;
 
-    ghost next_gives = { YieldsFirstBy package_in listed_left };
+    ghost next_gives = { YieldsFirstBy package_data listed_left };
 
     ghost remaining = { item_count listed_left };
 

@@ -28,7 +28,7 @@ impl PackageGraph {
             ≡ replicate (length self.now.packages) true) }
         ensures error { IsOkUnless result Error.OutOfMemory }
     {
-        let core = ResolveCore::all_nodes(self.graph())?;
+        let core = ResolveCore::all_nodes(self.dep_graph())?;
         Ok(PackageSet { graph: self, core })
     }
 
@@ -136,7 +136,7 @@ impl PackageGraph {
         ensures error { IsOkUnless result Error.OutOfMemory }
         ensures is_graph { IsPackageGraph self.now }
     {
-        let core = ResolveCore::from_ixs(self.graph(), ixs.into_iter())?;
+        let core = ResolveCore::from_ixs(self.dep_graph(), ixs.into_iter())?;
         Ok(PackageSet { graph: self, core })
     }
 }
@@ -156,7 +156,7 @@ impl<'g> PackageMetadata<'g> {
         ensures error { IsOkUnless result Error.OutOfMemory }
     {
         let graph = self.graph;
-        let core = ResolveCore::from_ixs(graph.graph(), iter::once(self.package_ix()))?;
+        let core = ResolveCore::from_ixs(graph.dep_graph(), iter::once(self.package_ix()))?;
         Ok(PackageSet { graph, core })
     }
 }

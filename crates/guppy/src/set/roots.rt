@@ -37,7 +37,7 @@ impl<'g> PackageSet<'g> {
         ensures error { IsOkUnless result Error.OutOfMemory }
     {
         let graph = self.graph;
-        let roots = self.core.roots(graph.graph(), graph.sccs(), direction)?;
+        let roots = self.core.roots(graph.dep_graph(), graph.sccs(), direction)?;
         Ok(RootPackages {
             graph,
             rest: roots.into_iter(),
@@ -56,12 +56,12 @@ pub struct RootPackages<'g> {
 
 impl<'g> Iterator for RootPackages<'g> {
     ghost use Rattle.std.specs.Iterator.{YieldsFirstBy, item_count};
-    ghost use Rattle.guppy.specs.Listed.{package_in};
+    ghost use Rattle.guppy.specs.Views.{package_data};
     ghost use Rattle.guppy.specs.Rooted.{roots_left};
 
     type Item = PackageMetadata<'g>;
 
-    ghost next_gives = { YieldsFirstBy package_in roots_left };
+    ghost next_gives = { YieldsFirstBy package_data roots_left };
 
     ghost remaining = { item_count roots_left };
 

@@ -124,7 +124,7 @@ impl<'g> Iterator for MembersByPath<'g> {
     fn next(&mut self) -> Option<(Utf8Path<'g>, PackageMetadata<'g>)> {
         match self.members.next() {
             Some(member) => {
-                let path = path_at(member.graph.graph().nodes(), member.position);
+                let path = path_at(member.graph.dep_graph().nodes(), member.position);
                 Some((path, member))
             }
             None => None,
@@ -161,7 +161,7 @@ impl<'g> Iterator for MembersByName<'g> {
     fn next(&mut self) -> Option<(&'g str, PackageMetadata<'g>)> {
         match self.members.next() {
             Some(member) => {
-                let name = name_at(member.graph.graph().nodes(), member.position);
+                let name = name_at(member.graph.dep_graph().nodes(), member.position);
                 Some((name, member))
             }
             None => None,

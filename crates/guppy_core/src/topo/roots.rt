@@ -4,7 +4,7 @@ ghost use Rattle.guppy_search.specs.IxSet.{IsIn};
 ghost use Rattle.guppy_search.specs.Links.{links_at};
 ghost use Rattle.guppy_search.specs.Reach.{Step};
 ghost use Rattle.guppy_core.specs.Listing.{Stands};
-ghost use Rattle.guppy_core.specs.Topo.{IsEntered, IsRoot, LeadsAway};
+ghost use Rattle.guppy_core.specs.Topo.{IsSteppedTo, IsIndexRoot, LeadsAway};
 
 use crate::topo::lists::absent;
 use guppy_search::{CountedGraph, DependencyDirection, GraphSpec, IxSet};
@@ -50,7 +50,7 @@ fn entered<G: GraphSpec, F: Fn(&G::Edge) -> bool>(
     requires keeps { (e : _) (b : Bool) → F.post keep.now e b → b ≡ kept e.now }
     ensures count { IfOk result (λ set. length set ≡ length graph.old.graph.nodes) }
     ensures members { IfOk result
-        (λ set. (p : ℕ) → IsIn set p ↔ IsEntered (Step Forward kept graph.old.graph.links) p) }
+        (λ set. (p : ℕ) → IsIn set p ↔ IsSteppedTo (Step Forward kept graph.old.graph.links) p) }
     ensures looks { graph.new.looks ≤ graph.old.looks + length graph.old.graph.links }
     ensures graph { graph.new.graph ≡ graph.old.graph }
 {
@@ -72,7 +72,7 @@ pub(crate) fn roots<G: GraphSpec, F: Fn(&G::Edge) -> bool>(
     requires keeps { (e : _) (b : Bool) → F.post keep.now e b → b ≡ kept e.now }
     ensures below { IfOk result (λ roots. All (λ p. p < length graph.old.graph.nodes) roots.items) }
     ensures roots { IfOk result (λ roots. (p : ℕ) → Stands roots.items p
-        ↔ IsRoot (Step Forward kept graph.old.graph.links) (length graph.old.graph.nodes) p) }
+        ↔ IsIndexRoot (Step Forward kept graph.old.graph.links) (length graph.old.graph.nodes) p) }
     ensures looks { graph.new.looks ≤ graph.old.looks + length graph.old.graph.links }
     ensures graph { graph.new.graph ≡ graph.old.graph }
 {

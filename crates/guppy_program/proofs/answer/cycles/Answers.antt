@@ -1,8 +1,7 @@
 use Rattle.std.proofs.Common.{◌≡◌, ◌∙◌, ◌↔◌, sym, ap, subst, append_assoc, rules, ◌++◌, ◌∷◌, [], Bor, length, map, string_bytes}
 use Rattle.guppy.specs.Cycles.{AreCyclic, AreOnOne}
-use Rattle.guppy.specs.Graph.{GraphData}
+use Rattle.guppy.specs.Graph.{IsInOrder}
 use Rattle.guppy.specs.ListedCycles.{cycle_left, cycles_left, cycles_of}
-use Rattle.guppy.specs.Ordered.{IsOrdered}
 use Rattle.guppy_program.specs.Answer.{lines_of, joined}
 use Rattle.guppy_program.proofs.Included.{all_given}
 use Rattle.guppy_program.proofs.Ordering.{lines-push}
@@ -24,7 +23,7 @@ returns c =
     let all = all_given cycle_left cycles_left items _ c.next.new.self _ gave c.in-None.ensures.steps in
     let left : cycles_left items ≡ cycles_of c.args.graph.now = c.all_cycles-cycle-items.ensures.left ∙ ap (λ (g : Bor GraphData). cycles_of g.now) c.cycles.ensures in
     record {
-      ordered = subst (λ (g : Bor GraphData). IsOrdered (length g.now.packages) g.now.links g.now.index g.now.components) c.cycles.ensures c.all_cycles-cycle-items.ensures.ordered;
+      ordered = subst (λ (g : Bor GraphData). IsInOrder g.now) c.cycles.ensures c.all_cycles-cycle-items.ensures.ordered;
       common = λ a b. subst (λ cycles. AreOnOne cycles a b ↔ AreCyclic c.args.graph.now a b) left
           (subst (λ (g : Bor GraphData). AreOnOne (cycles_left items) a b ↔ AreCyclic g.now a b) c.cycles.ensures (c.all_cycles-cycle-items.ensures.common a b));
       printed = c.loop-cycle.invariant ∙ ap (λ cycles. lines_of (map joined cycles)) (all ∙ left);

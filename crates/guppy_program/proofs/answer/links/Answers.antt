@@ -1,6 +1,7 @@
 use Rattle.std.proofs.Common.{◌∙◌, sym, ap, subst, ◌++◌, map}
 use Rattle.guppy.specs.Query.{SetData}
-use Rattle.guppy.specs.Walked.{AreWalkedLinks, link_in, walked_left}
+use Rattle.guppy.specs.Views.{link_data}
+use Rattle.guppy.specs.Walked.{AreWalkedLinks, walked_left}
 use Rattle.guppy_program.specs.Answer.{lines_of, line_of, link_text}
 use Rattle.guppy_program.proofs.Included.{all_given}
 use Rattle.guppy_program.proofs.Ordering.{lines-push}
@@ -9,15 +10,15 @@ use Rattle.guppy_program.proofs.answer.links.Goals as goal
 
 pub loop-link-preserved : goal.loop-link-preserved
 loop-link-preserved c =
-    c.in_ok-push_link.ensures ∙ ap (λ bytes. bytes ++ line_of (link_text (link_in c.in-Some.link))) c.loop-link.invariant
-    ∙ sym (lines-push link_text link_in c.loop-link.yielded c.in-Some.link)
+    c.in_ok-push_link.ensures ∙ ap (λ bytes. bytes ++ line_of (link_text (link_data c.in-Some.link))) c.loop-link.invariant
+    ∙ sym (lines-push link_text link_data c.loop-link.yielded c.in-Some.link)
 
 pub returns-clause-ok : goal.returns-clause-ok
 returns-clause-ok c =
     let all = c.in_ok-all.all in
     let walked = c.in_ok-walked.walked in
     let gave = rw c.into_iter-link-iterator.ensures.into_iter_gives at c.loop-link.yielded_by in
-    let given = all_given link_in walked_left walked _ c.next.new.self _ gave c.in-None.ensures.steps in
+    let given = all_given link_data walked_left walked _ c.next.new.self _ gave c.in-None.ensures.steps in
     record {
       walked = walked_left walked;
       exact = subst (λ (s : SetData). AreWalkedLinks c.args.direction s (walked_left walked)) (set_is_all all c.args.graph.now c.in_ok-all.ensures.graph c.in_ok-all.ensures.all) c.in_ok-walked.ensures.walked;

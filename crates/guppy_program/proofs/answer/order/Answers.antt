@@ -1,9 +1,8 @@
 use Rattle.std.proofs.Common.{◌∙◌, refl, ap, subst, ℕ, List, Bor, map, length}
 use Rattle.std.proofs.lemmas.Iterator.{items_from_drains}
 use Rattle.std.proofs.lemmas.Iterator.Consumers.{YieldsList-from_first}
-use Rattle.guppy.specs.Graph.{GraphData}
+use Rattle.guppy.specs.Graph.{IsInOrder}
 use Rattle.guppy.specs.Listed.{listed_ids_left}
-use Rattle.guppy.specs.Ordered.{IsOrdered}
 use Rattle.guppy_program.specs.Answer.{lines_of}
 use Rattle.guppy_program.proofs.Ordering.{all_listed}
 use Rattle.guppy_program.proofs.answer.order.Goals as goal
@@ -14,8 +13,7 @@ returns-clause-ok c =
     let all = c.in_ok-all.all in
     let ran = c.in_ok-ids.ensures.ran in
     let given = items_from_drains ran.0 ran.1 (YieldsList-from_first (λ (r : Bor (List ℕ)). r.now) listed_ids_left {s = c.package_ids.result} (listed_ids_left c.package_ids.result) refl) in
-    let ordered : IsOrdered (length g.packages) g.links g.index g.components =
-    subst (λ (v : GraphData). IsOrdered (length v.packages) v.links v.index v.components) c.in_ok-all.ensures.graph c.package_ids.ensures.ordered in
+    let ordered : IsInOrder g = subst IsInOrder c.in_ok-all.ensures.graph c.package_ids.ensures.ordered in
     record {
       ordered = ordered;
       printed = c.in_ok-lines_of.ensures

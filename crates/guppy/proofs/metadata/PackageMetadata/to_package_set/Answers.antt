@@ -11,7 +11,7 @@ pub from_ixs-requires-clause-below : goal.from_ixs-requires-clause-below
 from_ixs-requires-clause-below c =
     let packages = c.args.self.graph.now.packages in
     let below : ix_position c.package_ix.result < length packages = rw c.package_ix.ensures c.args.self.in_graph in
-    rw c.graph.ensures.nodes (holds_along _ (λ ix. ix_position ix < length packages) _ _
+    rw c.dep_graph.ensures.nodes (holds_along _ (λ ix. ix_position ix < length packages) _ _
     (YieldsList-from_once (Some c.package_ix.result) c.once.ensures.item)
     (All-cons (λ ix. ix_position ix < length packages) c.package_ix.result [] below (λ k d h. absurd (omega arith))))
 
@@ -22,7 +22,7 @@ returns-clause-members c =
     let there = rw one at members.2 in
     let at = c.package_ix.ensures in
     record {
-      count_is = c.in_ok-core.ensures.count ∙ ap length c.graph.ensures.nodes;
+      count_is = c.in_ok-core.ensures.count ∙ ap length c.dep_graph.ensures.nodes;
       members = λ p. (
         λ h. only_one p (ix_position c.package_ix.result) ((there p).0 h) ∙ at,
         λ same. (there p).1 (subst (λ q. Contains (ix_position c.package_ix.result ∷ []) q) (at ∙ sym same) (Contains-push [] (ix_position c.package_ix.result))),

@@ -1,4 +1,4 @@
-use Rattle.guppy.specs.Visitors.{link_data}
+use Rattle.guppy.specs.Views.{link_data}
 use Rattle.guppy.proofs.Visiting.{near_end-below, starts_there, starts_back}
 use Rattle.guppy.proofs.query.PackageLinkContext.starts_from_initial.Goals as goal
 

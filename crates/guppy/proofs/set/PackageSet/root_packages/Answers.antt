@@ -1,8 +1,8 @@
-use Rattle.std.proofs.Common.{◌∙◌, ℕ, ◌<◌, map, All, ap, subst}
+use Rattle.std.proofs.Common.{◌∙◌, ◌<◌, map, All, ap, subst}
 use Rattle.std.specs.Vec.Iter.{into_iter_items}
 use Rattle.guppy_graph.specs.Ids.{ix_position}
-use Rattle.guppy_graph.specs.Graph.{GraphData}
 use Rattle.guppy.specs.Query.{SetData}
+use Rattle.guppy.specs.Views.{package_in}
 use Rattle.guppy.specs.Rooted.{AreRootPackages}
 use Rattle.guppy.proofs.Rooted.{roots_within, packages_at_ixs}
 use Rattle.guppy.proofs.set.PackageSet.root_packages.Goals as goal
@@ -15,6 +15,6 @@ invariant_of-result c = record {
 pub returns-clause-roots : goal.returns-clause-roots
 returns-clause-roots c =
     let graph = c.self.inside.graph.now in
-    let reach = rw (c.sccs.ensures.components, c.graph.ensures.nodes, c.graph.ensures.links) at c.in_ok-roots.ensures.reach in
-    subst (λ (s : SetData). AreRootPackages c.args.direction s (map {B = GraphData × ℕ} (λ ix. (graph, ix_position ix)) (into_iter_items c.into_iter.result))) c.self.view_is
-    (map ix_position c.in_ok-roots.roots.items, reach graph.index c.sccs.ensures.graph.ordered.components_are, ap (map {B = GraphData × ℕ} (λ ix. (graph, ix_position ix))) c.into_iter.ensures.rest ∙ packages_at_ixs graph c.in_ok-roots.roots.items)
+    let reach = rw (c.sccs.ensures.components, c.dep_graph.ensures.nodes, c.dep_graph.ensures.links) at c.in_ok-roots.ensures.reach in
+    subst (λ (s : SetData). AreRootPackages c.args.direction s (map (λ ix. package_in graph (ix_position ix)) (into_iter_items c.into_iter.result))) c.self.view_is
+    (map ix_position c.in_ok-roots.roots.items, reach graph.index c.sccs.ensures.graph.ordered.components_are, ap (map (λ ix. package_in graph (ix_position ix))) c.into_iter.ensures.rest ∙ packages_at_ixs graph c.in_ok-roots.roots.items)

@@ -1,4 +1,4 @@
-use Rattle.std.proofs.Common.{◌<◌, ◌++◌, reverse, subst, ◌≡◌, ◌∙◌, length}
+use Rattle.std.proofs.Common.{◌<◌, subst, ◌≡◌, ◌∙◌, length}
 use Rattle.guppy_search.proofs.Exits.{if_ok}
 use Rattle.guppy_search.specs.Reach.{Step}
 use Rattle.guppy_search.specs.declared.ix.direction.DependencyDirection.TheVariants.{Forward, Reverse}
@@ -22,16 +22,10 @@ pub returns-clause-acyclic : goal.returns-clause-acyclic
 returns-clause-acyclic g c =
     let graph = c.args.graph.now.graph in
     let R = Step {E = g.row.G-Edge.Denot} Forward g.kept graph.links in
-    let count : c.node_count-count.result ≡ length graph.nodes = c.node_count-count.ensures.count in
-    let finish = rw (c.in_ok-starts.ensures.graph, c.as_slice.ensures.value) at c.in_ok-order.ensures.order in
-    let below = rw c.in_ok-starts.ensures.graph at c.in_ok-order.ensures.positions in
-    let members = rw (c.as_slice-2.ensures.value, c.reverse.ensures.items) at c.in_ok-reached.ensures.members in
-    let topo = topo_from R (length graph.nodes) c.in_ok-starts.starts.items c.in_ok-order.order.items c.in_ok-rest.rest.items c.in_ok-reached.reached c.in_ok-starts.ensures.roots finish below (c.in_ok-reached.ensures.count ∙ count) members c.in_ok-rest.ensures in
     let ends = c.node_count-count.ensures.graph.ends in
-    rw (c.in_ok-extend_from_slice.ensures.items, c.reverse.ensures.items, c.as_slice-3.ensures.value) (λ none.
-    topo_leads_on R (length graph.nodes) (entered_or_not g.kept graph.links)
+    λ none. topo_leads_on R (length graph.nodes) (entered_or_not g.kept graph.links)
     (λ a x t. subst (λ z. z < length graph.nodes) t.near (far_end_below Reverse graph.links (length graph.nodes) t.number t.link t.found ends))
-    none (reverse c.in_ok-order.order.items ++ c.in_ok-rest.rest.items) topo)
+    none _ (returns-clause-topo g c)
 
 pub returns-in_err-starts-clause-topo : goal.returns-in_err-starts-clause-topo
 returns-in_err-starts-clause-topo g c = if_ok _ _ c.from_residual.ensures.0

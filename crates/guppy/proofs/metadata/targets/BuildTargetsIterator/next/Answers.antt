@@ -1,20 +1,17 @@
-use Rattle.std.proofs.Common.{All, ◌∙◌, ◌<◌, ◌∷◌, ap, arith, ℕ, length, refl, subst, sym, Some, None, slice_get}
+use Rattle.std.proofs.Common.{All, ◌∙◌, ◌<◌, ◌∷◌, ap, arith, ℕ, length, refl, subst, sym, slice_get}
 use Rattle.std.specs.List.{cons_option, filter_map}
-use Rattle.std.specs.Slice.Iter.{iter_rest, iter_steps}
-use Rattle.std.proofs.lemmas.List.Elements.{All-head, All-tail}
+use Rattle.std.specs.Slice.Iter.{iter_rest}
+use Rattle.std.proofs.lemmas.List.Elements.{All-head}
 use Rattle.std.proofs.lemmas.Option.{slice_get_read}
 use Rattle.guppy.specs.TargetIterators.{targets_left}
+use Rattle.guppy.proofs.Remaining.{remaining}
 use Rattle.guppy.proofs.metadata.targets.BuildTargetsIterator.next.Goals as goal
 
 pub invariant_of-self : goal.invariant_of-self
 invariant_of-self c =
     let old = c.args.self.now in
-    let P : ℕ → Type 0 = λ t. t < length old.targets.now in
     record {
-      in_package = (elim c.next.result as (λ r. iter_steps old.rest r c.next.new.self → All P (iter_rest c.next.new.self)) [
-        | None ↦ λ h. subst (λ it. All P (iter_rest it)) (sym h.1) old.in_package
-        | Some x ↦ λ h. All-tail P x.now _ (subst (All P) h old.in_package)
-      ]) c.next.ensures.steps;
+      in_package = remaining (λ t. t < length old.targets.now) old.rest c.next.new.self c.next.result c.next.ensures.steps old.in_package;
       named = old.named;
     }
 

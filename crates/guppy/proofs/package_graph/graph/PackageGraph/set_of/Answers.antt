@@ -9,7 +9,7 @@ pub from_ixs-requires-clause-below : goal.from_ixs-requires-clause-below
 from_ixs-requires-clause-below c =
     let v = c.args.ixs in
     let count = c.args.self.now.packages in
-    rw c.graph.ensures.nodes (holds_along _ (λ ix. ix_position ix < length count) _ _
+    rw c.dep_graph.ensures.nodes (holds_along _ (λ ix. ix_position ix < length count) _ _
     (YieldsList-from_vec v.items c.into_iter.ensures.rest (omega (arith, c.into_iter.ensures.len, v.ok.0)))
     (All-ix_position (λ p. p < length count) v.items c.requires))
 

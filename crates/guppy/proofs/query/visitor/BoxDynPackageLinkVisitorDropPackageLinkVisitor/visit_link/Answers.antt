@@ -1,7 +1,7 @@
 -- A call goes to the value in the box, and leaves its table as it was.
 use Rattle.std.proofs.Common.{◌≡◌, ℕ, Bool, refl, sym, subst}
 use mathlib.Core.List.{mem-append_right}
-use Rattle.guppy.specs.Visitors.{LinkData, link_data}
+use Rattle.guppy.specs.Views.{LinkData, link_data}
 use Rattle.guppy.proofs.query.visitor.BoxDynPackageLinkVisitorDropPackageLinkVisitor.visit_link.Goals as goal
 
 pub visit_link-requires : goal.visit_link-requires

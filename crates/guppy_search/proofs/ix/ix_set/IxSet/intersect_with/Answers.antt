@@ -1,5 +1,5 @@
-use Rattle.std.proofs.Common.{◌≡◌, ℕ, ◌<◌, ◌^◌, ◌∙◌, ap, length, get_or, drop, refl, arith, rules, ◌&&◌, bit_and}
-use Rattle.guppy_search.proofs.Combining.{and_bits, in_intersection, written_back, same_count, combined_has, combined_few, combined_set}
+use Rattle.std.proofs.Common.{length, drop, refl, arith, rules, ◌&&◌, bit_and}
+use Rattle.guppy_search.proofs.Combining.{and_bits, in_intersection, written_back, made_of_slices, same_count, combined_has, combined_few, combined_set}
 use Rattle.guppy_search.specs.IxSet.{has, marks_of}
 use Rattle.guppy_search.proofs.ix.ix_set.IxSet.intersect_with.Goals as goal
 
@@ -17,34 +17,25 @@ count_set_bits-self-inside-requires g c =
     let i = c.self.inside in
     let o = c.other.inside in
     let now = c.combine.new.words in
-    let size : length now ≡ length i.words.items = c.combine.auto.words ∙ ap length c.deref_mut.ensures.value in
-    let ok = i.words.ok in
-    let back = written_back now (drop (length now) i.words.items) i.words.len (omega arith) in
-    let made : (k : ℕ) → k < length i.words.items → get_or now k 0 ≡ bit_and (get_or i.words.items k 0) (get_or o.words.items k 0) = rw (← c.deref_mut.ensures.value, ← c.deref.ensures.value) (λ k h. let m = c.combine.ensures.made k h in search rules) in
-    let fits : (k : ℕ) → k < length i.words.items → (get_or o.words.items k 0 < 2 ^ 64) × (get_or now k 0 < 2 ^ 64) = rw (← c.deref_mut.ensures.value, ← c.deref.ensures.value) c.combine.ensures.fits in
-    rw (c.deref-2.ensures.value, back) (combined_few bit_and (λ a b. a && b) and_bits refl i.words.items o.words.items now i.count o.count i.len o.len c.self.invariant c.other.invariant c.args.self.now c.args.other.now c.self.view_is c.other.view_is c.requires fits size made)
+    let made = made_of_slices bit_and i.words.items o.words.items _ _ now c.deref_mut.ensures.value c.deref.ensures.value c.combine.auto.words c.combine.ensures.fits (λ k h. let m = c.combine.ensures.made k h in search rules) in
+    let back = written_back now (drop (length now) i.words.items) i.words.len (let ok = i.words.ok in let size = made.size in omega arith) in
+    rw (c.deref-2.ensures.value, back) (combined_few bit_and (λ a b. a && b) and_bits refl i.words.items o.words.items now i.count o.count i.len o.len c.self.invariant c.other.invariant c.args.self.now c.args.other.now c.self.view_is c.other.view_is c.requires made)
 
 pub invariant_of-self : goal.invariant_of-self
 invariant_of-self g c =
     let i = c.self.inside in
     let o = c.other.inside in
     let now = c.combine.new.words in
-    let size : length now ≡ length i.words.items = c.combine.auto.words ∙ ap length c.deref_mut.ensures.value in
-    let ok = i.words.ok in
-    let back = written_back now (drop (length now) i.words.items) i.words.len (omega arith) in
-    let made : (k : ℕ) → k < length i.words.items → get_or now k 0 ≡ bit_and (get_or i.words.items k 0) (get_or o.words.items k 0) = rw (← c.deref_mut.ensures.value, ← c.deref.ensures.value) (λ k h. let m = c.combine.ensures.made k h in search rules) in
-    let fits : (k : ℕ) → k < length i.words.items → (get_or o.words.items k 0 < 2 ^ 64) × (get_or now k 0 < 2 ^ 64) = rw (← c.deref_mut.ensures.value, ← c.deref.ensures.value) c.combine.ensures.fits in
+    let made = made_of_slices bit_and i.words.items o.words.items _ _ now c.deref_mut.ensures.value c.deref.ensures.value c.combine.auto.words c.combine.ensures.fits (λ k h. let m = c.combine.ensures.made k h in search rules) in
+    let back = written_back now (drop (length now) i.words.items) i.words.len (let ok = i.words.ok in let size = made.size in omega arith) in
     let count = rw (c.deref-2.ensures.value, back) at c.count_set_bits-self-inside.ensures in
-    rw back (combined_set bit_and (λ a b. a && b) and_bits refl i.words.items o.words.items now i.count o.count i.len o.len c.self.invariant c.other.invariant c.args.self.now c.args.other.now c.self.view_is c.other.view_is c.requires fits size made c.count_set_bits-self-inside.result count)
+    rw back (combined_set bit_and (λ a b. a && b) and_bits refl i.words.items o.words.items now i.count o.count i.len o.len c.self.invariant c.other.invariant c.args.self.now c.args.other.now c.self.view_is c.other.view_is c.requires made c.count_set_bits-self-inside.result count)
 
 pub returns-clause-members : goal.returns-clause-members
 returns-clause-members g c =
     let i = c.self.inside in
     let o = c.other.inside in
     let now = c.combine.new.words in
-    let size : length now ≡ length i.words.items = c.combine.auto.words ∙ ap length c.deref_mut.ensures.value in
-    let ok = i.words.ok in
-    let back = written_back now (drop (length now) i.words.items) i.words.len (omega arith) in
-    let made : (k : ℕ) → k < length i.words.items → get_or now k 0 ≡ bit_and (get_or i.words.items k 0) (get_or o.words.items k 0) = rw (← c.deref_mut.ensures.value, ← c.deref.ensures.value) (λ k h. let m = c.combine.ensures.made k h in search rules) in
-    let fits : (k : ℕ) → k < length i.words.items → (get_or o.words.items k 0 < 2 ^ 64) × (get_or now k 0 < 2 ^ 64) = rw (← c.deref_mut.ensures.value, ← c.deref.ensures.value) c.combine.ensures.fits in
-    rw back (λ p. in_intersection (has c.args.self.now p) (has c.args.other.now p) (has (marks_of now i.count) p) (combined_has bit_and (λ a b. a && b) and_bits refl i.words.items o.words.items now i.count o.count i.len o.len c.self.invariant c.other.invariant c.args.self.now c.args.other.now c.self.view_is c.other.view_is c.requires fits size made p))
+    let made = made_of_slices bit_and i.words.items o.words.items _ _ now c.deref_mut.ensures.value c.deref.ensures.value c.combine.auto.words c.combine.ensures.fits (λ k h. let m = c.combine.ensures.made k h in search rules) in
+    let back = written_back now (drop (length now) i.words.items) i.words.len (let ok = i.words.ok in let size = made.size in omega arith) in
+    rw back (λ p. in_intersection (has c.args.self.now p) (has c.args.other.now p) (has (marks_of now i.count) p) (combined_has bit_and (λ a b. a && b) and_bits refl i.words.items o.words.items now i.count o.count i.len o.len c.self.invariant c.other.invariant c.args.self.now c.args.other.now c.self.view_is c.other.view_is c.requires made p))
