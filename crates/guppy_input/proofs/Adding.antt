@@ -13,9 +13,9 @@ use Rattle.guppy_data.specs.declared.texts.dependency_kind.DependencyKind.{Depen
 use Rattle.guppy_input.specs.declared.fault.RunFault.{RunFault}
 use Rattle.guppy_input.specs.declared.fault.RunFault.TheVariants.{Library, BadArguments, BadLine, InputFailed, OutputFailed}
 use Rattle.guppy_input.specs.declared.records.Records.{Records}
-use Rattle.guppy_input.specs.Text.{Entry, a_package, a_link, entry_of, is_good, words}
+use Rattle.guppy_input.specs.Text.{Statement, a_package, a_link, statement_of, is_good, words}
 use Rattle.guppy_input.specs.Records.{AreRecordsOf, IsPackageOf, IsLinkOf, package_of, link_of}
-use Rattle.guppy_input.specs.Reading.{AddsEntries, IsLineFault, IsReadingFault}
+use Rattle.guppy_input.specs.Reading.{AddsStatements, IsLineFault, IsReadingFault}
 use Rattle.guppy_input.proofs.Lines.{slice_get-drop, take-one_more, drop-one_more}
 
 all_zip_push : {A B : Type 0} (R : A → B → Type 0) (xs : List A) (ys : List B) (x : A) (y : B) → AllZip R xs ys → R x y → AllZip R (xs ++ x ∷ []) (ys ++ y ∷ [])
@@ -25,38 +25,38 @@ all_zip_push R (a ∷ as') [] x y tied tie = absurd tied
 all_zip_push R (a ∷ as') (b ∷ bs) x y tied tie = (tied.0, all_zip_push R as' bs x y tied.1 tie)
 
 pub package_added : (packages : List PackageRecord) (links : List LinkRecord) (workspace : WorkspaceRecord) (id : List ℕ) (package' : PackageRecord) → IsPackageOf id package'
-    → (entries : List Entry) → AreRecordsOf entries packages links workspace → AreRecordsOf (entries ++ a_package id ∷ []) (packages ++ package' ∷ []) links workspace
-package_added packages links workspace id p is entries were = record {
-  packages_are = rw (filter_map-append package_of entries (a_package id ∷ [])) (all_zip_push IsPackageOf (filter_map package_of entries) packages id p were.packages_are is);
-  links_are = rw (filter_map-append link_of entries (a_package id ∷ []), append-nil (filter_map link_of entries)) were.links_are;
+    → (statements : List Statement) → AreRecordsOf statements packages links workspace → AreRecordsOf (statements ++ a_package id ∷ []) (packages ++ package' ∷ []) links workspace
+package_added packages links workspace id p is statements were = record {
+  packages_are = rw (filter_map-append package_of statements (a_package id ∷ [])) (all_zip_push IsPackageOf (filter_map package_of statements) packages id p were.packages_are is);
+  links_are = rw (filter_map-append link_of statements (a_package id ∷ []), append-nil (filter_map link_of statements)) were.links_are;
   workspace_is = were.workspace_is;
 }
 
 pub link_added : (packages : List PackageRecord) (links : List LinkRecord) (workspace : WorkspaceRecord) (from to : List ℕ) (section : DependencyKind) (link : LinkRecord)
     → IsLinkOf (record { from = from; to = to; section = section }) link
-    → (entries : List Entry) → AreRecordsOf entries packages links workspace → AreRecordsOf (entries ++ a_link from to section ∷ []) packages (links ++ link ∷ []) workspace
-link_added packages links workspace from to section l is entries were = record {
-  packages_are = rw (filter_map-append package_of entries (a_link from to section ∷ []), append-nil (filter_map package_of entries)) were.packages_are;
-  links_are = rw (filter_map-append link_of entries (a_link from to section ∷ [])) (all_zip_push IsLinkOf (filter_map link_of entries) links (record { from = from; to = to; section = section }) l were.links_are is);
+    → (statements : List Statement) → AreRecordsOf statements packages links workspace → AreRecordsOf (statements ++ a_link from to section ∷ []) packages (links ++ link ∷ []) workspace
+link_added packages links workspace from to section l is statements were = record {
+  packages_are = rw (filter_map-append package_of statements (a_link from to section ∷ []), append-nil (filter_map package_of statements)) were.packages_are;
+  links_are = rw (filter_map-append link_of statements (a_link from to section ∷ [])) (all_zip_push IsLinkOf (filter_map link_of statements) links (record { from = from; to = to; section = section }) l were.links_are is);
   workspace_is = were.workspace_is;
 }
 
-filter_map-one : (entry : Option Entry) → cons_option entry [] ≡ option_to_list entry
+filter_map-one : (statement : Option Statement) → cons_option statement [] ≡ option_to_list statement
 filter_map-one None = refl
 filter_map-one (Some e) = refl
 
-none_either_way : (b : Bool) → (if b then None else None) ≡ (let none : Option Entry = None in none)
+none_either_way : (b : Bool) → (if b then None else None) ≡ (let none : Option Statement = None in none)
 none_either_way true = refl
 none_either_way false = refl
 
-entry_of-nil : entry_of [] ≡ None
+statement_of-nil : statement_of [] ≡ None
 unfolding words
-entry_of-nil = none_either_way (is_utf8 [])
+statement_of-nil = none_either_way (is_utf8 [])
 
 -- an empty line adds nothing
-pub nothing_added : (records : Records) (line : List ℕ) → length line ≡ 0 → AddsEntries records records (option_to_list (entry_of line))
-nothing_added records [] none entries were = rw (entry_of-nil, append-nil entries) were
-nothing_added records (b ∷ bs) none entries were = absurd (omega arith)
+pub nothing_added : (records : Records) (line : List ℕ) → length line ≡ 0 → AddsStatements records records (option_to_list (statement_of line))
+nothing_added records [] none statements were = rw (statement_of-nil, append-nil statements) were
+nothing_added records (b ∷ bs) none statements were = absurd (omega arith)
 
 -- the first lines of the text are good, and the rest are still to come
 pub record HasPassed (text rest : List ℕ) (passed : ℕ) : Type 0 where
@@ -73,14 +73,14 @@ has_passed_more text rest line after passed was first good = rw (add-one passed)
 })
 
 -- the records of the lines that were passed
-abbrev pub entries_passed : List ℕ → ℕ → List Entry
-entries_passed text passed = filter_map entry_of (take passed (lines text))
+abbrev pub statements_passed : List ℕ → ℕ → List Statement
+statements_passed text passed = filter_map statement_of (take passed (lines text))
 
-pub entries_passed-more : (text rest line after : List ℕ) (passed : ℕ) → HasPassed text rest passed → lines rest ≡ line ∷ lines after
-    → entries_passed text (passed + 1) ≡ entries_passed text passed ++ option_to_list (entry_of line)
-entries_passed-more text rest line after passed was first =
+pub statements_passed-more : (text rest line after : List ℕ) (passed : ℕ) → HasPassed text rest passed → lines rest ≡ line ∷ lines after
+    → statements_passed text (passed + 1) ≡ statements_passed text passed ++ option_to_list (statement_of line)
+statements_passed-more text rest line after passed was first =
     rw (add-one passed, take-one_more passed (lines text) line (lines after) (was.left ∙ first))
-    (filter_map-append entry_of (take passed (lines text)) (line ∷ []) ∙ ap (λ l. filter_map entry_of (take passed (lines text)) ++ l) (filter_map-one (entry_of line)))
+    (filter_map-append statement_of (take passed (lines text)) (line ∷ []) ∙ ap (λ l. filter_map statement_of (take passed (lines text)) ++ l) (filter_map-one (statement_of line)))
 
 pub bad_line : (text rest line after : List ℕ) (passed : ℕ) (fault : RunFault) → HasPassed text rest passed → lines rest ≡ line ∷ lines after
     → IsLineFault line (passed + 1) fault → IsReadingFault text fault

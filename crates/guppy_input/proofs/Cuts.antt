@@ -4,7 +4,7 @@ use Rattle.std.specs.Prelude.{not, ◌==◌}
 use Rattle.std.specs.List.{slice_split, onto_first, prefix_len, position_or_len, before_first, after_first}
 use Rattle.std.proofs.lemmas.List.Splits.{slice_split_first}
 use Rattle.std.proofs.Common.{None}
-use Rattle.guppy_input.specs.Text.{words, entry_of_words}
+use Rattle.guppy_input.specs.Text.{words, statement_of_words}
 
 -- where nothing passes, the one part is all
 pub split_none : {X : Type 0} (p : X → Bool) (xs : List X) → position_or_len p xs ≡ length xs → slice_split p xs ≡ xs ∷ []
@@ -26,7 +26,7 @@ pub split_some : {X : Type 0} (p : X → Bool) (xs : List X) (P : List (List X) 
 split_some p [] P h = h [] []
 split_some p (x ∷ xs) P h = elim (p x) as (λ b. P (cond b ([] ∷ slice_split p xs) (onto_first x (slice_split p xs)))) [ true ↦ h [] _ | false ↦ elim (slice_split p xs) as (λ l. P (onto_first x l)) [ [] ↦ h _ _ | w ∷ ws ↦ h _ _ ] ]
 
--- five words and more are no entry
-pub words_more : (a b c d text : List ℕ) → entry_of_words (a ∷ b ∷ c ∷ d ∷ words text) ≡ None
+-- five words and more are no statement
+pub words_more : (a b c d text : List ℕ) → statement_of_words (a ∷ b ∷ c ∷ d ∷ words text) ≡ None
 unfolding words
-words_more a b c d text = split_some (λ b. b == 32) text (λ l. entry_of_words (a ∷ b ∷ c ∷ d ∷ l) ≡ None) (λ w ws. refl)
+words_more a b c d text = split_some (λ b. b == 32) text (λ l. statement_of_words (a ∷ b ∷ c ∷ d ∷ l) ≡ None) (λ w ws. refl)

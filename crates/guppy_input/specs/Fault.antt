@@ -14,7 +14,4 @@ fault_text OutputFailed = codes "output failed"
 
 abbrev pub status_of : RunFault → ℕ
 status_of (Library error) = 1
-status_of BadArguments = 2
-status_of (BadLine number) = 2
-status_of InputFailed = 2
-status_of OutputFailed = 2
+status_of _ = 2

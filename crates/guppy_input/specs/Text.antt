@@ -7,9 +7,9 @@ use Rattle.guppy_data.specs.declared.texts.dependency_kind.DependencyKind.{Depen
 use Rattle.guppy_data.specs.declared.texts.dependency_kind.DependencyKind.TheVariants.{Normal, Development, Build}
 
 -- what a line says: a package with this ID, or a link from one to another in this section
-pub data Entry : Type 0 where
-  a_package : List ℕ → Entry
-  a_link : List ℕ → List ℕ → DependencyKind → Entry
+pub data Statement : Type 0 where
+  a_package : List ℕ → Statement
+  a_link : List ℕ → List ℕ → DependencyKind → Statement
 
 abbrev pub section_of : List ℕ → Option DependencyKind
 section_of word = if bytes_eq word (codes "normal") then Some Normal
@@ -29,28 +29,28 @@ is_empty [] = true
 is_empty (b ∷ bs) = false
 
 -- `package ID` or `link FROM TO SECTION`, no word of it empty
-abbrev pub entry_of_words : List (List ℕ) → Option Entry
-entry_of_words (word ∷ id ∷ []) =
+abbrev pub statement_of_words : List (List ℕ) → Option Statement
+statement_of_words (word ∷ id ∷ []) =
     if bytes_eq word (codes "package") && not (is_empty id) then Some (a_package id) else None
-entry_of_words (word ∷ from ∷ to ∷ section ∷ []) =
+statement_of_words (word ∷ from ∷ to ∷ section ∷ []) =
     if bytes_eq word (codes "link") && (not (is_empty from) && not (is_empty to)) then option_map
     (a_link from to) (section_of section) else None
-entry_of_words _ = None
+statement_of_words _ = None
 
-abbrev pub entry_of_text : List ℕ → Option Entry
-entry_of_text text = entry_of_words (words text)
+abbrev pub statement_of_text : List ℕ → Option Statement
+statement_of_text text = statement_of_words (words text)
 
 -- what a line says, if it is UTF-8 and has one of the two forms
-abbrev pub entry_of : List ℕ → Option Entry
-entry_of line = if is_utf8 line then entry_of_text line else None
+abbrev pub statement_of : List ℕ → Option Statement
+statement_of line = if is_utf8 line then statement_of_text line else None
 
 -- a line is good that is empty or says something
 abbrev pub is_good : List ℕ → Bool
-is_good line = is_empty line || is_some (entry_of line)
+is_good line = is_empty line || is_some (statement_of line)
 
 -- what the lines of an input say, one after another
-abbrev pub entries_of : List ℕ → List Entry
-entries_of input = filter_map entry_of (lines input)
+abbrev pub statements_of : List ℕ → List Statement
+statements_of input = filter_map statement_of (lines input)
 
 abbrev pub IsAllGood : List ℕ → Type 0
 IsAllGood input = AllPass is_good (lines input)

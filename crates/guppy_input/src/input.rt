@@ -2,9 +2,9 @@
 ghost use Rattle.std.specs.Prelude.{◌≡◌, ◌==◌, ◌<◌, [], ◌∷◌, length, true, position, MatchOption, IfOk, IfErr, OnOk};
 ghost use Rattle.std.specs.Option.{option_to_list};
 ghost use Rattle.std.specs.Str.Lines.{lines, strip_carriage_return};
-ghost use Rattle.guppy_input.specs.Text.{entry_of, entries_of, is_good, IsAllGood};
+ghost use Rattle.guppy_input.specs.Text.{statement_of, statements_of, is_good, IsAllGood};
 ghost use Rattle.guppy_input.specs.Records.{AreRecordsOf};
-ghost use Rattle.guppy_input.specs.Reading.{AddsEntries, IsLineFault, IsReadingFault};
+ghost use Rattle.guppy_input.specs.Reading.{AddsStatements, IsLineFault, IsReadingFault};
 
 use crate::fault::RunFault;
 use crate::records::Records;
@@ -48,8 +48,8 @@ fn next_line(text: &[u8]) -> Option<(&[u8], &[u8])>
 // Adds what this line says, which is nothing where it is empty.
 fn add_line(records: &mut Records, alloc: Global, line: &[u8], number: u64) -> Result<(), RunFault>
     ensures good { OnOk result (is_good line.now ≡ true) }
-    ensures added { OnOk result (AddsEntries records.old records.new
-        (option_to_list (entry_of line.now))) }
+    ensures added { OnOk result (AddsStatements records.old records.new
+        (option_to_list (statement_of line.now))) }
     ensures err { IfErr result (IsLineFault line.now number) }
 {
     if line.is_empty() {
@@ -67,7 +67,7 @@ fn add_line(records: &mut Records, alloc: Global, line: &[u8], number: u64) -> R
 pub fn records_of(alloc: Global, text: &[u8]) -> Result<Records, RunFault>
     ensures good { OnOk result (IsAllGood text.now) }
     ensures ok { IfOk result (λ r. AreRecordsOf
-        (entries_of text.now) r.packages.items r.links.items r.workspace) }
+        (statements_of text.now) r.packages.items r.links.items r.workspace) }
     ensures err { IfErr result (IsReadingFault text.now) }
 {
     let mut records = Records::new(alloc)?;

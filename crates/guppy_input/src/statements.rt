@@ -1,8 +1,8 @@
 //! What a line says.
 ghost use Rattle.std.specs.Prelude.{◌≡◌, ◌∷◌, option_map};
 ghost use Rattle.std.specs.Option.{option_copied};
-ghost use Rattle.guppy_input.specs.Text.{section_of, words, words_after, entry_of, entry_of_text};
-ghost use Rattle.guppy_input.specs.Shown.{entry_shown};
+ghost use Rattle.guppy_input.specs.Text.{section_of, words, words_after, statement_of, statement_of_text};
+ghost use Rattle.guppy_input.specs.Shown.{statement_shown};
 
 use guppy_data::DependencyKind;
 
@@ -41,7 +41,7 @@ fn cut(text: &str) -> (&str, Option<&str>)
 
 #[tactic(auto, using(crate::proofs::Cuts::words_more))]
 fn statement_of_text(text: &str) -> Option<Statement<'_>>
-    ensures { option_map entry_shown result ≡ entry_of_text text.now }
+    ensures { option_map statement_shown result ≡ statement_of_text text.now }
 {
     let (first, rest) = cut(text);
     let (second, rest) = cut(rest?);
@@ -72,7 +72,7 @@ fn statement_of_text(text: &str) -> Option<Statement<'_>>
 
 /// What a line says, if it says anything. Takes time linear in the line's length, and no memory.
 pub fn statement_of(line: &[u8]) -> Option<Statement<'_>>
-    ensures { option_map entry_shown result ≡ entry_of line.now }
+    ensures { option_map statement_shown result ≡ statement_of line.now }
 {
     match str::from_utf8(line) {
         Ok(text) => statement_of_text(text),

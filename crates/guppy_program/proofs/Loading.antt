@@ -6,12 +6,12 @@ use Rattle.guppy_data.specs.declared.records.PackageRecord.{PackageRecord}
 use Rattle.guppy_data.specs.declared.records.LinkRecord.{LinkRecord}
 use Rattle.guppy_data.specs.declared.records.WorkspaceRecord.{WorkspaceRecord}
 use Rattle.guppy.specs.Refused.{TellsFault, IsRefusal}
-use Rattle.guppy_input.specs.Text.{IsAllGood, entries_of}
+use Rattle.guppy_input.specs.Text.{IsAllGood, statements_of}
 use Rattle.guppy_input.specs.Records.{AreRecordsOf}
 use Rattle.guppy_program.specs.Loaded.{IsRecordFault}
 
 pub records_refused : (input : List ℕ) (packages : List PackageRecord) (links : List LinkRecord) (workspace : WorkspaceRecord) (error : Error)
-    → IsAllGood input → AreRecordsOf (entries_of input) packages links workspace → IsRefusal packages links workspace error → TellsFault (IsRecordFault input) error
+    → IsAllGood input → AreRecordsOf (statements_of input) packages links workspace → IsRefusal packages links workspace error → TellsFault (IsRecordFault input) error
 records_refused input packages links workspace (PackageGraphConstructError fault) good said refused =
     record { good = good; packages = packages; links = links; workspace = workspace; said = said; first = refused }
 records_refused input packages links workspace (UnknownPackageId id) good said refused = absurd refused

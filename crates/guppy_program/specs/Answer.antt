@@ -9,7 +9,7 @@ use Rattle.guppy_search.specs.declared.graph_core.link.Link.{Link}
 use Rattle.guppy_core.specs.Reach.{LinkStep, ReachedFrom}
 use Rattle.guppy_data.specs.declared.records.LinkRecord.{LinkRecord}
 use Rattle.guppy_data.specs.declared.texts.error.Error.{Error}
-use Rattle.guppy_data.specs.declared.texts.error.Error.TheVariants.{PackageGraphConstructError, UnknownPackageId, UnknownFeatureId, UnknownWorkspacePath, UnknownWorkspaceName, PackageGraphInternalError, FeatureGraphInternalError, OutOfMemory}
+use Rattle.guppy_data.specs.declared.texts.error.Error.TheVariants.{UnknownPackageId, PackageGraphInternalError, OutOfMemory}
 use Rattle.guppy_data.specs.declared.texts.fault.VerifyFault.{VerifyFault}
 use Rattle.guppy.specs.Ids.{HasId, IsKnown}
 use Rattle.guppy.specs.Cycles.{AreCyclic, AreOnOne}
@@ -130,11 +130,7 @@ IsAnswer verify g output = IsVerifyAnswer g output
 abbrev pub ids_named : Command → List (List ℕ)
 ids_named (reach direction ids) = ids
 ids_named (depends from to) = from ∷ to ∷ []
-ids_named order = []
-ids_named (roots direction) = []
-ids_named (links direction) = []
-ids_named cycles = []
-ids_named verify = []
+ids_named _ = []
 
 -- the ID is the first of the command that is no package's
 abbrev pub IsFirstUnknownNamed : Command → GraphData → List ℕ → Type 0
@@ -142,21 +138,12 @@ IsFirstUnknownNamed command g id = IsFirstUnknown g.packages (ids_named command)
 
 -- the fault is the first of the graph, and the command asks for it
 abbrev pub IsVerifyFault : Command → GraphData → VerifyFault → Type 0
-IsVerifyFault (reach direction ids) g fault = ⊥
-IsVerifyFault (depends from to) g fault = ⊥
-IsVerifyFault order g fault = ⊥
-IsVerifyFault (roots direction) g fault = ⊥
-IsVerifyFault (links direction) g fault = ⊥
-IsVerifyFault cycles g fault = ⊥
 IsVerifyFault verify g fault = IsFirstVerifyFault g fault
+IsVerifyFault _ g fault = ⊥
 
 -- the library refuses the command so, or memory ran out
 abbrev pub IsCommandRefusal : Command → GraphData → Error → Type 0
-IsCommandRefusal command g (PackageGraphConstructError fault) = ⊥
 IsCommandRefusal command g (UnknownPackageId id) = IsFirstUnknownNamed command g id
-IsCommandRefusal command g (UnknownFeatureId id feature) = ⊥
-IsCommandRefusal command g (UnknownWorkspacePath path) = ⊥
-IsCommandRefusal command g (UnknownWorkspaceName name) = ⊥
 IsCommandRefusal command g (PackageGraphInternalError fault) = IsVerifyFault command g fault
-IsCommandRefusal command g (FeatureGraphInternalError text) = ⊥
 IsCommandRefusal command g OutOfMemory = Unit {0}
+IsCommandRefusal command g _ = ⊥

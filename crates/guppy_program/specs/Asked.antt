@@ -1,10 +1,10 @@
 -- What the program makes of a command and an input, before it writes.
 use Rattle.std.specs.Prelude.{ℕ, List, Option}
 use Rattle.guppy_data.specs.declared.texts.error.Error.{Error}
-use Rattle.guppy_data.specs.declared.texts.error.Error.TheVariants.{PackageGraphConstructError, UnknownPackageId, UnknownFeatureId, UnknownWorkspacePath, UnknownWorkspaceName, PackageGraphInternalError, FeatureGraphInternalError, OutOfMemory}
+use Rattle.guppy_data.specs.declared.texts.error.Error.TheVariants.{PackageGraphConstructError, UnknownPackageId, PackageGraphInternalError, OutOfMemory}
 use Rattle.guppy.specs.Graph.{GraphData}
 use Rattle.guppy_input.specs.declared.fault.RunFault.{RunFault}
-use Rattle.guppy_input.specs.declared.fault.RunFault.TheVariants.{Library, BadArguments, BadLine, InputFailed, OutputFailed}
+use Rattle.guppy_input.specs.declared.fault.RunFault.TheVariants.{Library, BadLine, InputFailed}
 use Rattle.guppy_input.specs.Text.{IsFirstBadLine}
 use Rattle.guppy_command.specs.Command.{Command}
 use Rattle.guppy_program.specs.Loaded.{IsLoaded, IsRecordFault}
@@ -24,21 +24,16 @@ abbrev pub IsInputRefusal : Command → List ℕ → Error → Type 0
 IsInputRefusal command input (PackageGraphConstructError fault) = IsRecordFault input fault
 IsInputRefusal command input (UnknownPackageId id) =
     OfLoaded input (λ g. IsFirstUnknownNamed command g id)
-IsInputRefusal command input (UnknownFeatureId id feature) = ⊥
-IsInputRefusal command input (UnknownWorkspacePath path) = ⊥
-IsInputRefusal command input (UnknownWorkspaceName name) = ⊥
 IsInputRefusal command input (PackageGraphInternalError fault) =
     OfLoaded input (λ g. IsVerifyFault command g fault)
-IsInputRefusal command input (FeatureGraphInternalError text) = ⊥
 IsInputRefusal command input OutOfMemory = Unit {0}
+IsInputRefusal command input _ = ⊥
 
 -- a line is bad, or the library refuses the input or the command, or memory ran out
 abbrev pub IsInputFault : Command → List ℕ → RunFault → Type 0
 IsInputFault command input (Library error) = IsInputRefusal command input error
-IsInputFault command input BadArguments = ⊥
 IsInputFault command input (BadLine n) = IsFirstBadLine input n
-IsInputFault command input InputFailed = ⊥
-IsInputFault command input OutputFailed = ⊥
+IsInputFault command input _ = ⊥
 
 -- the source could not be read, or there is such a fault of all that it had, or memory ran out
 abbrev pub IsSourceFault : Command → Option (List ℕ) → Option (List ℕ) → RunFault → Type 0
@@ -46,14 +41,9 @@ IsSourceFault command old new (Library (PackageGraphConstructError fault)) =
     OfWholeInput old new (λ input. IsRecordFault input fault)
 IsSourceFault command old new (Library (UnknownPackageId id)) =
     OfWholeInput old new (λ input. OfLoaded input (λ g. IsFirstUnknownNamed command g id))
-IsSourceFault command old new (Library (UnknownFeatureId id feature)) = ⊥
-IsSourceFault command old new (Library (UnknownWorkspacePath path)) = ⊥
-IsSourceFault command old new (Library (UnknownWorkspaceName name)) = ⊥
 IsSourceFault command old new (Library (PackageGraphInternalError fault)) =
     OfWholeInput old new (λ input. OfLoaded input (λ g. IsVerifyFault command g fault))
-IsSourceFault command old new (Library (FeatureGraphInternalError text)) = ⊥
 IsSourceFault command old new (Library OutOfMemory) = Unit {0}
-IsSourceFault command old new BadArguments = ⊥
 IsSourceFault command old new (BadLine n) = OfWholeInput old new (λ input. IsFirstBadLine input n)
 IsSourceFault command old new InputFailed = Unit {0}
-IsSourceFault command old new OutputFailed = ⊥
+IsSourceFault command old new _ = ⊥

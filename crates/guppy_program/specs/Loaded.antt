@@ -8,8 +8,8 @@ use Rattle.guppy.specs.Accepted.{IsAccepted, IsFirstFault}
 use Rattle.guppy.specs.Graph.{GraphData, Holds}
 use Rattle.guppy.specs.Refused.{TellsFault}
 use Rattle.guppy_input.specs.declared.fault.RunFault.{RunFault}
-use Rattle.guppy_input.specs.declared.fault.RunFault.TheVariants.{Library, BadArguments, BadLine, InputFailed, OutputFailed}
-use Rattle.guppy_input.specs.Text.{IsAllGood, IsFirstBadLine, entries_of}
+use Rattle.guppy_input.specs.declared.fault.RunFault.TheVariants.{Library, BadLine}
+use Rattle.guppy_input.specs.Text.{IsAllGood, IsFirstBadLine, statements_of}
 use Rattle.guppy_input.specs.Records.{AreRecordsOf}
 
 -- every line is good, the records that they say break no rule, and the graph holds exactly these
@@ -18,7 +18,7 @@ pub record IsLoaded (input : List ℕ) (g : GraphData) : Type 0 where
   pub packages : List PackageRecord
   pub links : List LinkRecord
   pub workspace : WorkspaceRecord
-  pub said : AreRecordsOf (entries_of input) packages links workspace
+  pub said : AreRecordsOf (statements_of input) packages links workspace
   pub accepted : IsAccepted packages links workspace
   pub held : Holds g packages links workspace
 
@@ -28,14 +28,12 @@ pub record IsRecordFault (input : List ℕ) (fault : ConstructFault) : Type 0 wh
   pub packages : List PackageRecord
   pub links : List LinkRecord
   pub workspace : WorkspaceRecord
-  pub said : AreRecordsOf (entries_of input) packages links workspace
+  pub said : AreRecordsOf (statements_of input) packages links workspace
   pub first : IsFirstFault packages links workspace fault
 
 -- the number is that of the first bad line, or every line is good and the error tells the first
 -- fault of the records, or memory ran out
 abbrev pub IsLoadFault : List ℕ → RunFault → Type 0
 IsLoadFault input (Library error) = TellsFault (IsRecordFault input) error
-IsLoadFault input BadArguments = ⊥
 IsLoadFault input (BadLine n) = IsFirstBadLine input n
-IsLoadFault input InputFailed = ⊥
-IsLoadFault input OutputFailed = ⊥
+IsLoadFault input _ = ⊥

@@ -2,11 +2,11 @@
 use Rattle.std.specs.Prelude.{◌≡◌, ◌↔◌, ℕ, Bool, List, ◌++◌, Option, Some, IfSome, IsNone, Result, Ok, Err, OnOk, IsErrOf}
 use Rattle.std.specs.Io.KnownBytes.{IsAtEnd, Appends}
 use Rattle.guppy_data.specs.declared.texts.error.Error.{Error}
-use Rattle.guppy_data.specs.declared.texts.error.Error.TheVariants.{PackageGraphConstructError, UnknownPackageId, UnknownFeatureId, UnknownWorkspacePath, UnknownWorkspaceName, PackageGraphInternalError, FeatureGraphInternalError, OutOfMemory}
+use Rattle.guppy_data.specs.declared.texts.error.Error.TheVariants.{PackageGraphConstructError, UnknownPackageId, PackageGraphInternalError, OutOfMemory}
 use Rattle.guppy_data.specs.declared.texts.fault.VerifyFault.{VerifyFault}
 use Rattle.guppy.specs.Graph.{GraphData}
 use Rattle.guppy_input.specs.declared.fault.RunFault.{RunFault}
-use Rattle.guppy_input.specs.declared.fault.RunFault.TheVariants.{Library, BadArguments, BadLine, InputFailed, OutputFailed}
+use Rattle.guppy_input.specs.declared.fault.RunFault.TheVariants.{Library, BadArguments, OutputFailed}
 use Rattle.guppy_input.specs.Text.{IsFirstBadLine}
 use Rattle.guppy_input.specs.Reading.{is_input_fault, is_output_fault}
 use Rattle.guppy_command.specs.Command.{Command, command_of}
@@ -57,22 +57,16 @@ IsLibraryRefusal args old new (PackageGraphConstructError fault) =
     OfWholeInput old new (λ input. IsRecordFault input fault)
 IsLibraryRefusal args old new (UnknownPackageId id) =
     OfWholeInput old new (λ input. IsUnknownId args input id)
-IsLibraryRefusal args old new (UnknownFeatureId id feature) = ⊥
-IsLibraryRefusal args old new (UnknownWorkspacePath path) = ⊥
-IsLibraryRefusal args old new (UnknownWorkspaceName name) = ⊥
 IsLibraryRefusal args old new (PackageGraphInternalError fault) =
     OfWholeInput old new (λ input. IsFaultFound args input fault)
-IsLibraryRefusal args old new (FeatureGraphInternalError text) = ⊥
 IsLibraryRefusal args old new OutOfMemory = Unit {0}
+IsLibraryRefusal args old new _ = ⊥
 
 -- a run that gives up before it writes leaves the sink as it was
 abbrev pub WritesNothing : {T W : Type 0} → W → W → Result T RunFault → Type 0
 WritesNothing old new (Ok x) = Unit {0}
-WritesNothing old new (Err (Library error)) = new ≡ old
-WritesNothing old new (Err BadArguments) = new ≡ old
-WritesNothing old new (Err (BadLine n)) = new ≡ old
-WritesNothing old new (Err InputFailed) = new ≡ old
 WritesNothing old new (Err OutputFailed) = Unit {0}
+WritesNothing old new (Err fault) = new ≡ old
 
 -- what a run of the program did to its source and its sink, and what came of it; the fields are the
 -- clauses of `run`

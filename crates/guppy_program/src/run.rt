@@ -16,6 +16,7 @@ use guppy_input::device::{Sink, Source};
 use guppy_input::fault::RunFault;
 use guppy_input::transfer::{read_all, write_all};
 use std::alloc::Global;
+use std::mem;
 
 // What the command prints of the graph that the input says.
 fn answer_input(alloc: Global, command: &Command<'_>, input: &[u8]) -> Result<String, RunFault>
@@ -24,7 +25,11 @@ fn answer_input(alloc: Global, command: &Command<'_>, input: &[u8]) -> Result<St
     ensures err { IfErr result (IsInputFault (command_shown command.now) input.now) }
 {
     let graph = load(alloc, input)?;
-    Ok(answer(alloc, &graph, command)?)
+    let text = answer(alloc, &graph, command);
+    // The process ends once the answer is written, and gives all memory back at once; to let go of the
+    // parts of a large graph one by one takes some tenths of the whole time.
+    mem::forget(graph);
+    Ok(text?)
 }
 
 // What the command prints of the graph that the whole input says.
@@ -67,6 +72,8 @@ fn print<W: Sink>(writer: &mut W, text: &str) -> Result<(), RunFault>
 /// the graph, and the first fault is given. Want of memory may come at any growth, in place of every fault not yet found. The
 /// answer is whole before its first byte is written, so a refusal writes nothing, and `OutputFailed`
 /// leaves a beginning of the answer.
+///
+/// The graph is forgotten, not let go: its memory is given back when the process ends.
 ///
 /// Neither device may have failed before. Time grows with the input's length, and with the packages and
 /// links times the logarithm of the packages.

@@ -18,9 +18,8 @@ use crate::queries::{self, ask_query};
 use crate::records::{graph_of, ids};
 use crate::sets::{self, beside, other_graph};
 use crate::views::{self, ask_package, ask_workspace};
-use guppy::PackageGraph;
 use guppy::set::laws::resolved_sets_are_whole;
-use guppy_data::{Error, PackageId};
+use guppy::{Error, PackageGraph, PackageId};
 use std::alloc::{AllocError, Global};
 use std::process::Abort;
 

@@ -2,8 +2,7 @@
 use crate::examples::Answer;
 use crate::lists::put_cycles;
 use crate::sets::ask_set;
-use guppy::{DependsCache, PackageGraph};
-use guppy_data::{Error, PackageId};
+use guppy::{DependsCache, Error, PackageGraph, PackageId};
 
 // How many packages and links there are, and how many the walks over IDs, packages and members have.
 fn put_counts(graph: &PackageGraph, out: &mut Answer) {

@@ -3,11 +3,9 @@ ghost use Rattle.std.specs.Iterator.{IsFinite};
 
 use crate::examples::Answer;
 use crate::records::{numbered_name, shape_of};
-use guppy::{CycleIds, PackageGraph};
-use guppy_core::{
-    CountedGraph, DependencyDirection, Graph, GraphSpec, Link, PackageIx, Sccs, TopoWithCycles,
-};
-use guppy_data::{Error, PackageId};
+use guppy::graph::{DependencyDirection, PackageIx};
+use guppy::positions::{CountedGraph, Graph, GraphSpec, Link, Sccs, TopoWithCycles};
+use guppy::{CycleIds, Error, PackageGraph, PackageId};
 use std::alloc::{AllocError, Global};
 use std::process::Abort;
 

@@ -10,9 +10,9 @@ use crate::examples::Answer;
 use crate::sets::{direction_of, put_letters};
 use crate::visitors::RefusesOnce;
 use guppy::{
-    PackageGraph, PackageLink, PackageLinkContext, PackageLinkVisitor, PackageQuery, PackageSet,
+    Error, PackageGraph, PackageId, PackageLink, PackageLinkContext, PackageLinkVisitor,
+    PackageQuery, PackageSet,
 };
-use guppy_data::{Error, PackageId};
 
 // Accepts its first calls, so many.
 #[derive(Drop)]

@@ -21,17 +21,12 @@
 //! development, and `a-b` none. It takes any version, and `a>b#^1` those that meet the requirement.
 //! `filled` fills each field of the first package, the first link and the workspace.
 use crate::filled::fill;
-use guppy::PackageGraph;
-use guppy_data::{
-    BuildTargetKindRecord, BuildTargetRecord, DepRequiredOrOptional, DependencyReqImpl, Error,
-    LinkRecord, OwnedBuildTargetId, PackageId, PackagePublishRecord, PackageRecord,
-    PackageSourceRecord, PlatformStatusImpl, SortedSet, Utf8PathBuf, WorkspaceRecord,
+use guppy::graph::{
+    BuildTargetKindRecord, BuildTargetRecord, DependencyReqImpl, LinkRecord, OwnedBuildTargetId,
+    PackageRecord, PackageSourceRecord, WorkspaceRecord,
 };
-use indexmap::{IndexMap, IndexSet};
-use semver::{Version, VersionReq};
-use serde_json::Value;
+use guppy::{Error, PackageGraph, PackageId, SortedSet, Utf8PathBuf, Version, VersionReq};
 use std::alloc::{AllocError, Global};
-use std::collections::BTreeMap;
 use std::process::Abort;
 
 /// The records of a graph.
@@ -67,24 +62,12 @@ fn no_path(alloc: Global) -> Utf8PathBuf {
     Utf8PathBuf::new(String::new(alloc))
 }
 
-// Asked for everywhere, or nowhere.
-fn asked_for(alloc: Global, is_asked_for: bool) -> DepRequiredOrOptional {
-    DepRequiredOrOptional {
-        build_if: if is_asked_for {
-            PlatformStatusImpl::Always
-        } else {
-            PlatformStatusImpl::never(alloc)
-        },
-        default_features_if: PlatformStatusImpl::never(alloc),
-        no_default_features_if: PlatformStatusImpl::never(alloc),
-        feature_targets: BTreeMap::new(alloc),
-    }
-}
-
+// Required everywhere, or asked for nowhere.
 fn section(alloc: Global, is_present: bool) -> DependencyReqImpl {
-    DependencyReqImpl {
-        required: asked_for(alloc, is_present),
-        optional: asked_for(alloc, false),
+    if is_present {
+        DependencyReqImpl::required(alloc)
+    } else {
+        DependencyReqImpl::never(alloc)
     }
 }
 
@@ -95,32 +78,20 @@ fn add_package(
     id_text: &str,
     name: &str,
 ) {
-    let package = PackageRecord {
-        id: id(rt, alloc, id_text),
-        name: text(rt, alloc, name),
-        version: Version::new(1, 2, 3),
-        authors: Vec::new(alloc),
-        description: None,
-        license: None,
-        license_file: None,
-        source: PackageSourceRecord::Path(no_path(alloc)),
-        manifest_path: no_path(alloc),
-        categories: Vec::new(alloc),
-        keywords: Vec::new(alloc),
-        readme: None,
-        repository: None,
-        homepage: None,
-        documentation: None,
-        edition: String::new(alloc),
-        metadata_table: Value::Null,
-        links: None,
-        publish: PackagePublishRecord::Unrestricted,
-        default_run: None,
-        rust_version: None,
-        named_features: IndexMap::new(alloc),
-        optional_deps: IndexSet::new(alloc),
-        build_targets: Vec::new(alloc),
-    };
+    let id = id(rt, alloc, id_text);
+    let package_name = text(rt, alloc, name);
+    let version = Version::new(1, 2, 3);
+    let source = PackageSourceRecord::Path(no_path(alloc));
+    let edition = String::new(alloc);
+    let package = PackageRecord::new(
+        alloc,
+        id,
+        package_name,
+        version,
+        source,
+        no_path(alloc),
+        edition,
+    );
     packages.push(package).expect(rt, name);
 }
 
@@ -239,18 +210,14 @@ fn add_link(
     version_req: VersionReq,
 ) {
     let (from, to, [normal, build, dev]) = ends;
-    let link = LinkRecord {
-        from: id(rt, alloc, from),
-        to: id(rt, alloc, to),
-        dep_name: String::new(alloc),
-        resolved_name: String::new(alloc),
-        version_req,
-        registry: None,
-        path: None,
-        normal: section(alloc, normal),
-        build: section(alloc, build),
-        dev: section(alloc, dev),
-    };
+    let from_id = id(rt, alloc, from);
+    let to_id = id(rt, alloc, to);
+    let dep_name = String::new(alloc);
+    let resolved_name = String::new(alloc);
+    let mut link = LinkRecord::new(alloc, from_id, to_id, dep_name, resolved_name, version_req);
+    link.normal = section(alloc, normal);
+    link.build = section(alloc, build);
+    link.dev = section(alloc, dev);
     links.push(link).expect(rt, from);
 }
 
@@ -356,13 +323,7 @@ fn records_of(rt: &impl Abort, alloc: Global, line: &str) -> Records {
     let mut records = Records {
         packages: Vec::new(alloc),
         links: Vec::new(alloc),
-        workspace: WorkspaceRecord {
-            root: no_path(alloc),
-            target_directory: no_path(alloc),
-            build_directory: None,
-            metadata_table: Value::Null,
-            default_members: Vec::new(alloc),
-        },
+        workspace: WorkspaceRecord::new(alloc, no_path(alloc), no_path(alloc)),
     };
     records.add(rt, alloc, line);
     records

@@ -6,9 +6,8 @@
 //! letters and how many they are, where nothing does. `make` makes a set of the first two packages and the
 //! next two.
 use crate::examples::Answer;
-use guppy::{PackageGraph, PackageMetadata, PackageSet};
-use guppy_core::{DependencyDirection, IndexType};
-use guppy_data::{Error, PackageId};
+use guppy::graph::{DependencyDirection, IndexType};
+use guppy::{Error, PackageGraph, PackageId, PackageMetadata, PackageSet};
 
 const LETTERS: [&str; 4] = ["a", "b", "c", "d"];
 

@@ -1,10 +1,11 @@
 //! What is read out of a graph: fields, links, build targets, members and default members.
 use crate::examples::Answer;
 use crate::sets::direction_of;
-use guppy::{PackageGraph, PackageLink, PackageMetadata};
-use guppy_data::{BuildTargetId, DependencyKind, Error, PackageId, Utf8Path};
-use semver::Version;
-use serde_json::Value;
+use guppy::graph::BuildTargetId;
+use guppy::{
+    DependencyKind, Error, JsonValue, PackageGraph, PackageId, PackageLink, PackageMetadata,
+    Utf8Path, Version,
+};
 
 fn text_of<'g>(package: PackageMetadata<'g>, field: &str) -> Option<&'g str> {
     match field {
@@ -49,7 +50,7 @@ fn holds(package: PackageMetadata<'_>, field: &str) -> Option<bool> {
     let holds = match field {
         "version" => *package.version() == Version::new(1, 2, 3),
         "rust-version" => package.rust_version() == Some(&Version::new(1, 85, 0)),
-        "metadata-table" => *package.metadata_table() == Value::Bool(true),
+        "metadata-table" => *package.metadata_table() == JsonValue::Bool(true),
         "in-workspace" => package.in_workspace(),
         "publish" => package.publish().can_publish_to("registry"),
         "has-default-feature" => package.has_default_feature(),
@@ -379,7 +380,7 @@ fn workspace_holds(graph: &PackageGraph, question: &str, argument: &str) -> bool
     match question {
         "has-path" => workspace.contains_path(Utf8Path::new(argument)),
         "has-name" => workspace.contains_name(argument),
-        _ => *workspace.metadata_table() == Value::Bool(false),
+        _ => *workspace.metadata_table() == JsonValue::Bool(false),
     }
 }
 

@@ -1,6 +1,6 @@
 use Rattle.std.proofs.Common.{rules, arith}
 use Rattle.std.proofs.lemmas.Result.{err_from_is_err_and}
-use Rattle.guppy_input.proofs.Adding.{has_passed_none, has_passed_more, entries_passed-more, bad_line}
+use Rattle.guppy_input.proofs.Adding.{has_passed_none, has_passed_more, statements_passed-more, bad_line}
 use Rattle.guppy_input.proofs.input.records_of.Goals as goal
 
 pub loop-line-init : goal.loop-line-init
@@ -15,5 +15,5 @@ pub loop-line-preserved : goal.loop-line-preserved
 loop-line-preserved c = record {
   count = omega (arith, c.in-Some.ensures.1);
   lines_are = has_passed_more _ _ _ c.in-Some.after.now _ c.loop-line.invariant.lines_are c.in-Some.ensures.0 c.in_ok-add_line.ensures.good;
-  records_are = rw (entries_passed-more c.args.text.now c.loop-line.rest.now c.in-Some.line.now c.in-Some.after.now c.loop-line.passed c.loop-line.invariant.lines_are c.in-Some.ensures.0) (c.in_ok-add_line.ensures.added _ c.loop-line.invariant.records_are);
+  records_are = rw (statements_passed-more c.args.text.now c.loop-line.rest.now c.in-Some.line.now c.in-Some.after.now c.loop-line.passed c.loop-line.invariant.lines_are c.in-Some.ensures.0) (c.in_ok-add_line.ensures.added _ c.loop-line.invariant.records_are);
 }
