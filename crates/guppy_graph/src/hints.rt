@@ -1,4 +1,4 @@
-//! Hints where the package with an ID is.
+//! Hints at where the package with an ID is.
 ghost use Rattle.std.specs.Prelude.{◌<◌, length};
 
 use crate::keys::position_of_id;
@@ -8,7 +8,7 @@ use std::alloc::{AllocError, Global};
 // How many places of the table are looked at for one ID.
 const TRIES: usize = 8;
 
-// A place with no hint: there are fewer packages than would have this position.
+// A place with no hint: the position of no package.
 const NO_HINT: u32 = u32::MAX;
 
 /// Positions of packages, each at one of the few places that its ID's hash names. A hint is believed only
@@ -90,8 +90,8 @@ impl Hints {
         None
     }
 
-    /// A package with the ID. Takes a few comparisons, and a logarithm of the packages more where there is no
-    /// hint.
+    /// A package with the ID. Takes at most eight comparisons, and where no hint holds a logarithm of the
+    /// packages more.
     pub(crate) fn find(
         &self,
         packages: &[PackageRecord],
