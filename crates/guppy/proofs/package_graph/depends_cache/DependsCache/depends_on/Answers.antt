@@ -14,7 +14,7 @@ returns-clause-answer c =
     let p = ix_position c.in_ok-from.from in
     let q = ix_position c.in_ok-from.to in
     let has = c.in_ok-from.ensures in
-    let walks = rw c.graph.ensures.links at c.reaches.ensures.answer in
+    let walks = rw c.dep_graph.ensures.links at c.reaches.ensures.answer in
     rw (← c.self.view_is) (
       λ yes_. (p, q, has.first, has.second, walks.0 yes_),
       λ d.
