@@ -6,7 +6,7 @@ use Rattle.guppy_data.specs.declared.texts.error.Error.TheVariants.{PackageGraph
 use Rattle.guppy_data.specs.declared.texts.fault.VerifyFault.{VerifyFault}
 use Rattle.guppy.specs.Graph.{GraphData}
 use Rattle.guppy_input.specs.declared.fault.RunFault.{RunFault}
-use Rattle.guppy_input.specs.declared.fault.RunFault.TheVariants.{Library, BadArguments, OutputFailed}
+use Rattle.guppy_input.specs.declared.fault.RunFault.TheVariants.{Library, BadArguments, BadLine, OutputFailed}
 use Rattle.guppy_input.specs.Text.{IsFirstBadLine}
 use Rattle.guppy_input.specs.Reading.{is_input_fault, is_output_fault}
 use Rattle.guppy_command.specs.Command.{Command, command_of}

@@ -1,6 +1,6 @@
 use Rattle.std.proofs.Common.{◌≡◌, ◌∙◌, ◌↔◌, sym, ap, subst, append_assoc, rules, ◌++◌, ◌∷◌, [], Bor, length, map, string_bytes}
 use Rattle.guppy.specs.Cycles.{AreCyclic, AreOnOne}
-use Rattle.guppy.specs.Graph.{IsInOrder}
+use Rattle.guppy.specs.Graph.{GraphData, IsInOrder}
 use Rattle.guppy.specs.ListedCycles.{cycle_left, cycles_left, cycles_of}
 use Rattle.guppy_program.specs.Answer.{lines_of, joined}
 use Rattle.guppy_program.proofs.Included.{all_given}
