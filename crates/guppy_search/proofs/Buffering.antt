@@ -89,7 +89,7 @@ module _ {E : Type 0} (d : DependencyDirection) (links : List (Link E)) (initial
 
   module _ (trace : List (Question × List ℕ)) (s : List Bool) (handed added : List ℕ) (s' : List Bool) (a : Adds d links handed s added s') (waiting : List ℕ) (balance : length (waiting ++ added) + member_count s ≡ length waiting + member_count s') where
     -- the next position that waits is discovered
-    pub Buffering-discovered : (p : ℕ) → Buffering d links initials trace s (waiting ++ p ∷ []) [] → Buffering d links initials (trace ++ (discover p, handed) ∷ []) s' (waiting ++ added) (links_at d links p)
+    Buffering-discovered : (p : ℕ) → Buffering d links initials trace s (waiting ++ p ∷ []) [] → Buffering d links initials (trace ++ (discover p, handed) ∷ []) s' (waiting ++ added) (links_at d links p)
     Buffering-discovered p b =
         let q = discover p in
         let w = Waits-pop s waiting p b.waits in
@@ -173,6 +173,11 @@ module _ {E : Type 0} (d : DependencyDirection) (links : List (Link E)) (initial
           ascending = λ r t h k. b.ascending (suc r) (suc t) (omega arith) (omega arith);
           waits = Waits-adds d links handed s waiting added s' a balance b.waits;
         }
+
+  -- the position that is taken from those that wait is discovered
+  pub Buffering-followed : (trace : List (Question × List ℕ)) (s : List Bool) (handed added : List ℕ) (s' : List Bool) → Adds d links handed s added s' → (waiting waited waits : List ℕ) (p : ℕ) → waited ≡ waiting ++ p ∷ [] → waits ≡ waiting ++ added → length waits + member_count s ≡ length waiting + member_count s'
+      → Buffering d links initials trace s waited [] → Buffering d links initials (trace ++ (discover p, handed) ∷ []) s' waits (links_at d links p)
+  Buffering-followed trace s handed added s' a waiting waited waits p taken more balance b = rw more (Buffering-discovered trace s handed added s' a waiting (rw more at balance) p (rw taken at b))
 
   -- The next question is answered by an error.
   module _ {T : Type 0} (answers : T → Question → Option (List ℕ) → T → Type 0) (trace : List (Question × List ℕ)) (s : List Bool) (waiting : List ℕ) (first state last : T) (asks : Asks answers first trace state) where

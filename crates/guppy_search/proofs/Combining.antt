@@ -6,6 +6,7 @@ use Rattle.std.proofs.Math.Seq.{take-append_seam}
 use Rattle.std.proofs.lemmas.Bool.{cases_lt, cases_eq}
 use Rattle.std.proofs.lemmas.List.{get_or-set_same, get_or-set_other, get_or_past}
 use Rattle.std.proofs.lemmas.Nat.Bits.{bit_at-lt, bit_at_and, bit_at_or, bit_at_xor, bit_at_not}
+use Rattle.guppy_search.specs.Bitwise.{IsBitwise}
 use Rattle.guppy_search.specs.IxSet.{has, member_count, is_marked, marks_of, IsBitSet}
 use Rattle.guppy_search.proofs.Marks.{length-marks_of, has-marks_of, has-view}
 use Rattle.guppy_search.proofs.Members.{member_count-le-length}
@@ -41,10 +42,6 @@ module _ (Makes : ℕ → ℕ → ℕ → Type 0) (old others : List ℕ) where
     kept = λ j h. get_or-set_other now k j v 0 (λ e. omega arith) ∙ m.kept j (omega arith);
   }
 
--- the bits of what is combined
-abbrev pub CombinesBits : (ℕ → ℕ → ℕ) → (Bool → Bool → Bool) → Type 0
-CombinesBits of both = (a b i : ℕ) → b < 2 ^ 64 → i < 64 → eqb (bit_at (of a b) i) 1 ≡ both (eqb (bit_at a i) 1) (eqb (bit_at b i) 1)
-
 has_past : (words : List ℕ) (count p : ℕ) → count ≤ p → has (marks_of words count) p ≡ false
 has_past words count p h = get_or_past (marks_of words count) p false (rw (length-marks_of words count) h)
 
@@ -60,24 +57,24 @@ same_count words others count count' set set' is is' same =
     omega arith
 
 -- the words are made of these and the others, pair by pair
-pub record AreMade (of : ℕ → ℕ → ℕ) (words others now : List ℕ) : Type 0 where
+pub record AreMade (Makes : ℕ → ℕ → ℕ → Type 0) (words others now : List ℕ) : Type 0 where
   pub size : length now ≡ length words
   pub fits : (k : ℕ) → k < length words → (get_or others k 0 < 2 ^ 64) × (get_or now k 0 < 2 ^ 64)
-  pub each : (k : ℕ) → k < length words → get_or now k 0 ≡ of (get_or words k 0) (get_or others k 0)
+  pub each : (k : ℕ) → k < length words → Makes (get_or words k 0) (get_or others k 0) (get_or now k 0)
 
 -- so they are where they were made of slices of both
-pub made_of_slices : (of : ℕ → ℕ → ℕ) (words others old theirs now : List ℕ) → old ≡ words → theirs ≡ others → length now ≡ length old → ((k : ℕ) → k < length old → (get_or theirs k 0 < 2 ^ 64) × (get_or now k 0 < 2 ^ 64)) → ((k : ℕ) → k < length old → get_or now k 0 ≡ of (get_or old k 0) (get_or theirs k 0)) → AreMade of words others now
-made_of_slices of words others old theirs now is is' size fits each = record {
+pub made_of_slices : (Makes : ℕ → ℕ → ℕ → Type 0) (words others old theirs now : List ℕ) → old ≡ words → theirs ≡ others → length now ≡ length old → ((k : ℕ) → k < length old → (get_or theirs k 0 < 2 ^ 64) × (get_or now k 0 < 2 ^ 64)) → ((k : ℕ) → k < length old → Makes (get_or old k 0) (get_or theirs k 0) (get_or now k 0)) → AreMade Makes words others now
+made_of_slices Makes words others old theirs now is is' size fits each = record {
   size = rw (← is) size;
   fits = rw (← is, ← is') fits;
   each = rw (← is, ← is') each;
 }
 
 -- two sets of as many positions, and the words that are made of theirs
-module _ (of : ℕ → ℕ → ℕ) (both : Bool → Bool → Bool) (bits : CombinesBits of both) (nothing : both false false ≡ false)
+module _ (Makes : ℕ → ℕ → ℕ → Type 0) (both : Bool → Bool → Bool) (w : IsBitwise Makes both)
     (words others now : List ℕ) (count count' len len' : ℕ) (s : IsBitSet words count len) (t : IsBitSet others count' len')
     (set set' : List Bool) (is : marks_of words count ≡ set) (is' : marks_of others count' ≡ set') (same : length set' ≡ length set)
-    (made : AreMade of words others now) where
+    (made : AreMade Makes words others now) where
   counts : count' ≡ count
   counts = same_count words others count count' set set' is is' same
 
@@ -88,9 +85,9 @@ module _ (of : ℕ → ℕ → ℕ) (both : Bool → Bool → Bool) (bits : Comb
       let e = counts in
       ⊎_elim
       (λ l. let low : p % 64 < 64 = omega arith in
-      rw (made.each (p / 64) l) (bits (get_or words (p / 64) 0) (get_or others (p / 64) 0) (p % 64) (made.fits (p / 64) l).0 low))
+      w.bits (get_or words (p / 64) 0) (get_or others (p / 64) 0) (get_or now (p / 64) 0) (p % 64) (made.fits (p / 64) l).0 low (made.each (p / 64) l))
       (λ ge.
-      marked_past now p (omega arith) ∙ sym (ap (λ a. both a (is_marked others p)) (marked_past words p ge) ∙ ap (λ b. both false b) (marked_past others p (omega arith)) ∙ nothing))
+      marked_past now p (omega arith) ∙ sym (ap (λ a. both a (is_marked others p)) (marked_past words p ge) ∙ ap (λ b. both false b) (marked_past others p (omega arith)) ∙ w.clear))
       (cases_lt (p / 64) (length words))
 
   pub combined_has : (p : ℕ) → has (marks_of now count) p ≡ both (has set p) (has set' p)
@@ -100,16 +97,16 @@ module _ (of : ℕ → ℕ → ℕ) (both : Bool → Bool → Bool) (bits : Comb
       (λ l. let l' : p < count' = omega arith in
       has-marks_of now count p l ∙ marked p ∙ ap (λ a. both a (is_marked others p)) (has-view words count p set is l) ∙ ap (λ b. both (has set p) b) (has-view others count' p set' is' l'))
       (λ ge.
-      has_past now count p ge ∙ sym (ap (λ a. both a (has set' p)) (rw (← is) (has_past words count p ge)) ∙ ap (λ b. both false b) (rw (← is') (has_past others count' p (omega arith))) ∙ nothing))
+      has_past now count p ge ∙ sym (ap (λ a. both a (has set' p)) (rw (← is) (has_past words count p ge)) ∙ ap (λ b. both false b) (rw (← is') (has_past others count' p (omega arith))) ∙ w.clear))
       (cases_lt p count)
 
   one_of : (a b c : Bool) → c ≡ both a b → c ≡ true → (a ≡ true) ⊎ (b ≡ true)
   one_of true b c e h = inl refl
   one_of false true c e h = inr refl
-  one_of false false c e h = absurd (let f : c ≡ false = e ∙ nothing in cc)
+  one_of false false c e h = absurd (let f : c ≡ false = e ∙ w.clear in cc)
 
   clears : (p : ℕ) → count ≤ p → is_marked now p ≡ false
-  clears p h = let e = counts in marked p ∙ ap (λ a. both a (is_marked others p)) (s.clear p h) ∙ ap (λ b. both false b) (t.clear p (omega arith)) ∙ nothing
+  clears p h = let e = counts in marked p ∙ ap (λ a. both a (is_marked others p)) (s.clear p h) ∙ ap (λ b. both false b) (t.clear p (omega arith)) ∙ w.clear
 
   counted_bits : sum_by count_ones now ≡ member_count (marks_of now count)
   counted_bits = count-marks_of now count (let r = s.room in let e = made.size in omega arith) (λ k h. (made.fits k (let e = made.size in omega arith)).1) clears
@@ -145,19 +142,18 @@ by_digits of both p q r s (suc zero) (suc zero) h k = s
 by_digits of both p q r s (suc (suc a)) b h k = absurd (omega arith)
 by_digits of both p q r s a (suc (suc b)) h k = absurd (omega arith)
 
-pub or_bits : CombinesBits bit_or (λ a b. a || b)
-or_bits a b i k l = rw (bit_at_or a b i) (by_digits max (λ x y. x || y) refl refl refl refl (bit_at a i) (bit_at b i) (bit_at-lt a i) (bit_at-lt b i))
-
-pub and_bits : CombinesBits bit_and (λ a b. a && b)
-and_bits a b i k l = rw (bit_at_and a b i) (by_digits min (λ x y. x && y) refl refl refl refl (bit_at a i) (bit_at b i) (bit_at-lt a i) (bit_at-lt b i))
+-- an operation is one by bits where it makes of two words the word that a function by bits makes
+module _ (Makes : ℕ → ℕ → ℕ → Type 0) (of : ℕ → ℕ → ℕ) (makes : (a b made : ℕ) → Makes a b made → made ≡ of a b) where
+  by_bits : (both : Bool → Bool → Bool) → both false false ≡ false → ((a b i : ℕ) → b < 2 ^ 64 → i < 64 → eqb (bit_at (of a b) i) 1 ≡ both (eqb (bit_at a i) 1) (eqb (bit_at b i) 1)) → IsBitwise Makes both
+  by_bits both clear bits = record {
+    bits = λ a b made i k l m. rw (makes a b made m) (bits a b i k l);
+    clear = clear;
+  }
 
 -- one of the two, and not the other
 abbrev pub differ : Bool → Bool → Bool
 differ true b = not b
 differ false b = b
-
-pub xor_bits : CombinesBits bit_xor differ
-xor_bits a b i k l = rw (bit_at_xor a b i) (by_digits (λ x y. (x + y) % 2) differ refl refl refl refl (bit_at a i) (bit_at b i) (bit_at-lt a i) (bit_at-lt b i))
 
 -- the first without the second
 abbrev pub except : Bool → Bool → Bool
@@ -167,8 +163,22 @@ except false b = false
 abbrev pub and_not : ℕ → ℕ → ℕ
 and_not a b = bit_and a (bit_not w64 b)
 
-pub and_not_bits : CombinesBits and_not except
-and_not_bits a b i k l = rw (bit_at_and a (bit_not w64 b) i, bit_at_not w64 b i k l) (by_digits (λ x y. min x (1 - y)) except refl refl refl refl (bit_at a i) (bit_at b i) (bit_at-lt a i) (bit_at-lt b i))
+module _ (Makes : ℕ → ℕ → ℕ → Type 0) where
+  pub or_bits : ((a b made : ℕ) → Makes a b made → made ≡ bit_or a b) → IsBitwise Makes (λ x y. x || y)
+  or_bits makes = by_bits Makes bit_or makes (λ x y. x || y) refl (λ a b i k l.
+    rw (bit_at_or a b i) (by_digits max (λ x y. x || y) refl refl refl refl (bit_at a i) (bit_at b i) (bit_at-lt a i) (bit_at-lt b i)))
+
+  pub and_bits : ((a b made : ℕ) → Makes a b made → made ≡ bit_and a b) → IsBitwise Makes (λ x y. x && y)
+  and_bits makes = by_bits Makes bit_and makes (λ x y. x && y) refl (λ a b i k l.
+    rw (bit_at_and a b i) (by_digits min (λ x y. x && y) refl refl refl refl (bit_at a i) (bit_at b i) (bit_at-lt a i) (bit_at-lt b i)))
+
+  pub xor_bits : ((a b made : ℕ) → Makes a b made → made ≡ bit_xor a b) → IsBitwise Makes differ
+  xor_bits makes = by_bits Makes bit_xor makes differ refl (λ a b i k l.
+    rw (bit_at_xor a b i) (by_digits (λ x y. (x + y) % 2) differ refl refl refl refl (bit_at a i) (bit_at b i) (bit_at-lt a i) (bit_at-lt b i)))
+
+  pub and_not_bits : ((a b made : ℕ) → Makes a b made → made ≡ and_not a b) → IsBitwise Makes except
+  and_not_bits makes = by_bits Makes and_not makes except refl (λ a b i k l.
+    rw (bit_at_and a (bit_not w64 b) i, bit_at_not w64 b i k l) (by_digits (λ x y. min x (1 - y)) except refl refl refl refl (bit_at a i) (bit_at b i) (bit_at-lt a i) (bit_at-lt b i)))
 
 -- what the set has at a position, in words of membership
 

@@ -1,5 +1,5 @@
 -- Each step of a search.
-use Rattle.std.proofs.Common.{◌≡◌, ◌⊎◌, ℕ, suc, ◌+◌, ◌<◌, Bool, true, false, inl, inr, List, [], ◌∷◌, ◌++◌, length, get_or, set, refl, sym, ap, subst, ◌∙◌, length-append, append_assoc, arith, Some}
+use Rattle.std.proofs.Common.{◌≡◌, ◌⊎◌, ℕ, suc, ◌+◌, ◌<◌, ◌≤◌, Bool, true, false, inl, inr, List, [], ◌∷◌, ◌++◌, length, get_or, set, refl, sym, ap, subst, ◌∙◌, length-append, append_assoc, arith, Some}
 use Rattle.std.specs.Prelude.{slice_get, Contains, All, ◌==◌}
 use Rattle.std.proofs.lemmas.Bool.{false_from_ne_true}
 use Rattle.std.proofs.lemmas.List.{append-nil, get_or_default, get_or-set_same}
@@ -41,6 +41,14 @@ Waits-pop s waiting p w = (
   w.in_set p (Contains-push waiting p),
   (EachAfter-pop _ waiting p w.once).1,
 )
+
+-- what is taken from those that wait is a position of the set
+pub taken_below : (s : List Bool) (waiting rest : List ℕ) (p : ℕ) → Waits s waiting → waiting ≡ rest ++ p ∷ [] → p < length s
+taken_below s waiting rest p w e = IsIn-below s p (Waits-pop s rest p (rw e at w)).1
+
+-- and no more wait then than there are in the set
+pub taken_few : (s : List Bool) (waiting rest : List ℕ) (p : ℕ) → Waits s waiting → waiting ≡ rest ++ p ∷ [] → length rest ≤ member_count s
+taken_few s waiting rest p w e = (Waits-pop s rest p (rw e at w)).0.few
 
 pub Seeded-begin : (initials : List Bool) (set : List Bool) → ((p : ℕ) → ¬ IsIn set p) → Seeded initials set [] (positions_in initials)
 Seeded-begin initials set none = record {

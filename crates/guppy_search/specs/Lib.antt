@@ -1,4 +1,5 @@
 pub mod IxSet
+pub mod Bitwise
 pub mod Links
 pub mod Graph
 pub mod Pairs

@@ -163,8 +163,8 @@ fn follow_all<G: GraphSpec>(
     ensures count { length set.new ≡ length set.old }
     ensures added { (added : List ℕ) × (waiting.new.items ≡ waiting.old.items ++ added)
         × Adds direction graph.now.links numbers.items set.old added set.new }
-    ensures balance { vec_len waiting.new + member_count set.old
-        ≡ vec_len waiting.old + member_count set.new }
+    ensures balance { length waiting.new.items + member_count set.old
+        ≡ length waiting.old.items + member_count set.new }
     ensures capacity { vec_capacity waiting.new ≡ vec_capacity waiting.old }
 {
     for number in &numbers {

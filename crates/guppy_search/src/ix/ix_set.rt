@@ -1,5 +1,6 @@
-ghost use Rattle.std.specs.Prelude.{◌≡◌, ◌↔◌, ◌==◌, ℕ, ◌<◌, ◌^◌, true, false, not, List, [], length, map, drop, IfOk, MatchOption, All, Contains, slice_set, replicate};
+ghost use Rattle.std.specs.Prelude.{◌≡◌, ◌↔◌, ◌==◌, ℕ, ◌<◌, ◌^◌, Bool, true, false, not, List, [], length, map, drop, IfOk, MatchOption, All, Contains, slice_set, replicate};
 ghost use Rattle.std.specs.Iterator.{IsFinite, HoldsAlong, Drains};
+ghost use Rattle.guppy_search.specs.Bitwise.{IsBitwise};
 
 use crate::ix::index_type::{GraphSpec, IndexType};
 use crate::ix::words::{combine, count_set_bits};
@@ -160,6 +161,22 @@ impl<G: GraphSpec> IxSet<G> {
         true
     }
 
+    /// Puts in place of each word what the operation makes of it and of the other set's word, bit by
+    /// bit. The other set is of as many nodes.
+    fn combine_with<F: Fn(u64, u64) -> u64>(&mut self, other: &Self, operation: F)
+        requires count { length other.now ≡ length self.old }
+        requires callable { F.IsAlwaysCallable operation }
+        requires bitwise { (both : Bool → Bool → Bool)
+            × IsBitwise (λ a b r. F.post operation a b r) both }
+        ensures count { length self.new ≡ length self.old }
+        ensures members { (both : Bool → Bool → Bool)
+            → IsBitwise (λ a b r. F.post operation a b r) both
+            → (p : ℕ) → has self.new p ≡ both (has self.old p) (has other.now p) }
+    {
+        combine(&mut self.words, &other.words, operation);
+        self.len = count_set_bits(&self.words);
+    }
+
     /// Puts in the positions of the other set, which is of as many nodes.
     ///
     /// Time grows with the node count, 64 positions a step. Takes no memory.
@@ -168,8 +185,7 @@ impl<G: GraphSpec> IxSet<G> {
         ensures count { length self.new ≡ length self.old }
         ensures members { IsUnion self.old other.now self.new }
     {
-        combine(&mut self.words, &other.words, |word, theirs| word | theirs);
-        self.len = count_set_bits(&self.words);
+        self.combine_with(other, |word, theirs| word | theirs);
     }
 
     /// Takes out the positions that are not in the other set, which is of as many nodes.
@@ -180,8 +196,7 @@ impl<G: GraphSpec> IxSet<G> {
         ensures count { length self.new ≡ length self.old }
         ensures members { IsIntersection self.old other.now self.new }
     {
-        combine(&mut self.words, &other.words, |word, theirs| word & theirs);
-        self.len = count_set_bits(&self.words);
+        self.combine_with(other, |word, theirs| word & theirs);
     }
 
     /// Takes out the positions of the other set that are in this one, and puts in its others. The
@@ -193,8 +208,7 @@ impl<G: GraphSpec> IxSet<G> {
         ensures count { length self.new ≡ length self.old }
         ensures members { IsSymmetricDifference self.old other.now self.new }
     {
-        combine(&mut self.words, &other.words, |word, theirs| word ^ theirs);
-        self.len = count_set_bits(&self.words);
+        self.combine_with(other, |word, theirs| word ^ theirs);
     }
 
     /// The positions that are not in the other set, which is of as many nodes.
@@ -207,8 +221,7 @@ impl<G: GraphSpec> IxSet<G> {
         ensures members { IfOk result (IsDifference self.now other.now) }
     {
         let mut rest = self.clone()?;
-        combine(&mut rest.words, &other.words, |word, theirs| word & !theirs);
-        rest.len = count_set_bits(&rest.words);
+        rest.combine_with(other, |word, theirs| word & !theirs);
         Ok(rest)
     }
 

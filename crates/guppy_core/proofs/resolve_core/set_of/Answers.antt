@@ -18,8 +18,5 @@ returns-clause-members g c =
     let drained = Copied-Drains c.copied.result s.0 s.1 ∙ (ap iter_rest c.copied.ensures.source ∙ c.iter.ensures.rest) in
     subst (λ xs. (p : ℕ) → IsIn c.in_ok-set.set p ↔ Contains (map g.G.Ix.IndexType.index_of xs) p) drained s.2
 
-pub returns-in_err-set-clause-count : goal.returns-in_err-set-clause-count
-returns-in_err-set-clause-count g c = if_ok _ _ c.from_residual.ensures.0
-
-pub returns-in_err-set-clause-members : goal.returns-in_err-set-clause-members
-returns-in_err-set-clause-members g c = if_ok _ _ c.from_residual.ensures.0
+pub returns-in_err-set : goal.returns-in_err-set
+returns-in_err-set g c = let none = c.from_residual.ensures.0 in record { count = if_ok _ _ none; members = if_ok _ _ none }

@@ -38,38 +38,11 @@ returns g c =
       ends = c.in_ok-edges.ensures.ends;
     }
 
-pub returns-in_err-roots-clause-walked : goal.returns-in_err-roots-clause-walked
-returns-in_err-roots-clause-walked g c = if_ok _ _ c.from_residual.ensures.0
+pub returns-in_err-roots : goal.returns-in_err-roots
+returns-in_err-roots g c = let none = c.from_residual.ensures.0 in record { walked = if_ok _ _ none; reach = if_ok _ _ none; all = if_ok _ _ none; ends = if_ok _ _ none }
 
-pub returns-in_err-roots-clause-reach : goal.returns-in_err-roots-clause-reach
-returns-in_err-roots-clause-reach g c = if_ok _ _ c.from_residual.ensures.0
+pub returns-in_err-starts : goal.returns-in_err-starts
+returns-in_err-starts g c = let none = c.from_residual-in_err-starts.ensures.0 in record { walked = if_ok _ _ none; reach = if_ok _ _ none; all = if_ok _ _ none; ends = if_ok _ _ none }
 
-pub returns-in_err-roots-clause-all : goal.returns-in_err-roots-clause-all
-returns-in_err-roots-clause-all g c = if_ok _ _ c.from_residual.ensures.0
-
-pub returns-in_err-roots-clause-ends : goal.returns-in_err-roots-clause-ends
-returns-in_err-roots-clause-ends g c = if_ok _ _ c.from_residual.ensures.0
-
-pub returns-in_err-starts-clause-walked : goal.returns-in_err-starts-clause-walked
-returns-in_err-starts-clause-walked g c = if_ok _ _ c.from_residual-in_err-starts.ensures.0
-
-pub returns-in_err-starts-clause-reach : goal.returns-in_err-starts-clause-reach
-returns-in_err-starts-clause-reach g c = if_ok _ _ c.from_residual-in_err-starts.ensures.0
-
-pub returns-in_err-starts-clause-all : goal.returns-in_err-starts-clause-all
-returns-in_err-starts-clause-all g c = if_ok _ _ c.from_residual-in_err-starts.ensures.0
-
-pub returns-in_err-starts-clause-ends : goal.returns-in_err-starts-clause-ends
-returns-in_err-starts-clause-ends g c = if_ok _ _ c.from_residual-in_err-starts.ensures.0
-
-pub returns-in_err-edges-clause-walked : goal.returns-in_err-edges-clause-walked
-returns-in_err-edges-clause-walked g c = if_ok _ _ c.from_residual-in_err-edges.ensures.0
-
-pub returns-in_err-edges-clause-reach : goal.returns-in_err-edges-clause-reach
-returns-in_err-edges-clause-reach g c = if_ok _ _ c.from_residual-in_err-edges.ensures.0
-
-pub returns-in_err-edges-clause-all : goal.returns-in_err-edges-clause-all
-returns-in_err-edges-clause-all g c = if_ok _ _ c.from_residual-in_err-edges.ensures.0
-
-pub returns-in_err-edges-clause-ends : goal.returns-in_err-edges-clause-ends
-returns-in_err-edges-clause-ends g c = if_ok _ _ c.from_residual-in_err-edges.ensures.0
+pub returns-in_err-edges : goal.returns-in_err-edges
+returns-in_err-edges g c = let none = c.from_residual-in_err-edges.ensures.0 in record { walked = if_ok _ _ none; reach = if_ok _ _ none; all = if_ok _ _ none; ends = if_ok _ _ none }

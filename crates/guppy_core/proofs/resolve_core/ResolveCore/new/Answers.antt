@@ -4,11 +4,5 @@ use Rattle.guppy_core.proofs.resolve_core.ResolveCore.new.Goals as goal
 pub returns-clause-reached : goal.returns-clause-reached
 returns-clause-reached g c = rw c.from_included.ensures c.in_ok-included.ensures.reached
 
-pub returns-in_err-included-clause-count : goal.returns-in_err-included-clause-count
-returns-in_err-included-clause-count g c = if_ok _ _ c.from_residual.ensures.0
-
-pub returns-in_err-included-clause-judged : goal.returns-in_err-included-clause-judged
-returns-in_err-included-clause-judged g c = if_ok _ _ c.from_residual.ensures.0
-
-pub returns-in_err-included-clause-reached : goal.returns-in_err-included-clause-reached
-returns-in_err-included-clause-reached g c = if_ok _ _ c.from_residual.ensures.0
+pub returns-in_err-included : goal.returns-in_err-included
+returns-in_err-included g c = let none = c.from_residual.ensures.0 in record { count = if_ok _ _ none; judged = if_ok _ _ none; reached = if_ok _ _ none }

@@ -1,8 +1,5 @@
 use Rattle.guppy_search.proofs.Exits.{if_ok}
 use Rattle.guppy_core.proofs.resolve_core.ResolveCore.with_buffered_edge_filter.Goals as goal
 
-pub returns-in_err-included-clause-count : goal.returns-in_err-included-clause-count
-returns-in_err-included-clause-count g c = if_ok _ _ c.from_residual.ensures.0
-
-pub returns-in_err-included-clause-judged : goal.returns-in_err-included-clause-judged
-returns-in_err-included-clause-judged g c = if_ok _ _ c.from_residual.ensures.0
+pub returns-in_err-included : goal.returns-in_err-included
+returns-in_err-included g c = let none = c.from_residual.ensures.0 in record { count = if_ok _ _ none; judged = if_ok _ _ none }

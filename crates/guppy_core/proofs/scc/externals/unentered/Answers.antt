@@ -30,8 +30,5 @@ returns-clause-members g c =
     let all : c.loop-position.position ≡ length c.args.set.now = let test = c.loop-position-test.false in let end = c.loop-position.auto.position-end in let count = c.node_count-position-end.ensures in omega arith in
     unmarked_all c.args.set.now c.args.numbers.now c.args.entered.now c.loop-position.position (map g.G.Ix.IndexType.index_of c.loop-position.list.items) c.loop-position.invariant all
 
-pub returns-in_err-push-clause-ascends : goal.returns-in_err-push-clause-ascends
-returns-in_err-push-clause-ascends g c = if_ok _ _ c.from_residual.ensures.0
-
-pub returns-in_err-push-clause-members : goal.returns-in_err-push-clause-members
-returns-in_err-push-clause-members g c = if_ok _ _ c.from_residual.ensures.0
+pub returns-in_err-push : goal.returns-in_err-push
+returns-in_err-push g c = let none = c.from_residual.ensures.0 in record { ascends = if_ok _ _ none; members = if_ok _ _ none }

@@ -1,4 +1,4 @@
-use Rattle.std.proofs.Common.{arith, ◌≡◌, ◌<◌, true, false, length, get_or, replicate, reverse, sym, ◌∙◌}
+use Rattle.std.proofs.Common.{arith, ◌≡◌, ◌<◌, ℕ, true, false, length, get_or, replicate, reverse, sym, ◌∙◌}
 use Rattle.std.proofs.Math.ListN.{length-replicate}
 use Rattle.std.proofs.lemmas.Option.{slice_get-get_or}
 use Rattle.guppy_search.proofs.Exits.{if_ok}
@@ -9,38 +9,38 @@ use Rattle.guppy_core.proofs.Costs.{owed_first, fits_below}
 use Rattle.guppy_search.proofs.Members.{has-replicate}
 use Rattle.guppy_core.proofs.Indexing.{reversed_below}
 use Rattle.guppy_core.proofs.Numbering.{second_none, second_skipped, second_more, second_all, all_finished}
-use Rattle.guppy_core.proofs.scc.numbers.number_components.Goals.{then-not-has_position+in_ok-claim, else-not-has_position}
+use Rattle.guppy_core.specs.Listing.{Stands}
+use Rattle.guppy_core.proofs.scc.numbers.number_components.Given.{Over}
+use Rattle.guppy_core.proofs.scc.numbers.number_components.Goals.{After-deref-root-items, then-not-has_position+in_ok-claim, else-not-has_position}
 use Rattle.guppy_core.proofs.scc.numbers.number_components.Goals as goal
+
+-- the roots are taken in the reversed order of the first pass, which has all positions
+module _ (g : Over) (c : After-deref-root-items g) where
+  roots : c.deref-root-items.result.now ≡ reverse c.in_ok-order.order.items
+  roots = c.deref-root-items.ensures.value ∙ c.reverse.ensures.items
+
+  root_below : (i : ℕ) → i < length c.deref-root-items.result.now → get_or c.deref-root-items.result.now i 0 < length c.args.graph.now.graph.nodes
+  root_below i more = rw roots (reversed_below (length c.args.graph.now.graph.nodes) c.in_ok-order.order.items c.in_ok-order.ensures.positions i 0 (rw (← roots) more))
+
+  finished : (p : ℕ) → p < length c.args.graph.now.graph.nodes → Stands c.in_ok-order.order.items p
+  finished = all_finished _ (length c.args.graph.now.graph.nodes) c.args.starts.now c.in_ok-order.order.items c.in_ok-order.ensures.order c.requires.all
 
 pub loop-root-init : goal.loop-root-init
 loop-root-init g c =
     let graph = c.args.graph.now.graph in
-    let n = length graph.nodes in
-    let F = c.in_ok-order.order.items in
-    let dq : c.deref-root-items.result.now ≡ reverse F = c.deref-root-items.ensures.value ∙ c.reverse.ensures.items in
-    let R = Step {E = g.row.G-Edge.Denot} Forward (λ _. true) graph.links in
-    let B = Step {E = g.row.G-Edge.Denot} Reverse (λ _. true) graph.links in
-    let back = step_back {E = g.row.G-Edge.Denot} (λ _. true) graph.links in
-    let forth = step_forth {E = g.row.G-Edge.Denot} (λ _. true) graph.links in
     let count : c.node_count-limit.result ≡ length graph.nodes = c.node_count-limit.ensures.count in
     let zeros = c.in_ok-numbers.ensures.items_if_clones_equal (λ y h. h) in
     let first = owed_first {E = g.row.G-Edge.Denot} Reverse graph.links c.node_count-limit.result in
     let looked = c.in_ok-order.ensures.looks in
     rw (c.in_ok-seen.ensures, zeros) (record {
-      numbering = second_none R B back forth n c.deref-root-items.result.now (replicate c.node_count-limit.result false) (replicate c.node_count-limit.result 0) (length-replicate c.node_count-limit.result false ∙ count) (length-replicate c.node_count-limit.result 0 ∙ count) (has-replicate c.node_count-limit.result);
+      numbering = second_none _ _ (step_back {E = g.row.G-Edge.Denot} (λ _. true) graph.links) (step_forth {E = g.row.G-Edge.Denot} (λ _. true) graph.links) (length graph.nodes) c.deref-root-items.result.now (replicate c.node_count-limit.result false) (replicate c.node_count-limit.result 0) (length-replicate c.node_count-limit.result false ∙ count) (length-replicate c.node_count-limit.result 0 ∙ count) (has-replicate c.node_count-limit.result);
       graph = c.in_ok-order.ensures.graph;
       paid = omega arith;
     })
 
 pub has_position-requires : goal.has_position-requires
 has_position-requires g c =
-    let graph = c.args.graph.now.graph in
-    let n = length graph.nodes in
-    let F = c.in_ok-order.order.items in
-    let dq : c.deref-root-items.result.now ≡ reverse F = c.deref-root-items.ensures.value ∙ c.reverse.ensures.items in
-    let test : c.loop-root.root-index < length (reverse F) = rw (← dq) c.loop-root-test.true in
-    let low : get_or c.deref-root-items.result.now c.loop-root.root-index 0 < n = rw dq (reversed_below n F c.in_ok-order.ensures.positions c.loop-root.root-index 0 test) in
-    rw c.loop-root.invariant.numbering.limit_is low
+    rw c.loop-root.invariant.numbering.limit_is (root_below g (goal.at.has_position-requires g c).After-deref-root-items c.loop-root.root-index c.loop-root-test.true)
 
 pub claim-requires-clause-limit : goal.claim-requires-clause-limit
 claim-requires-clause-limit g c = rw c.loop-root.invariant.graph c.loop-root.invariant.numbering.limit_is
@@ -50,25 +50,13 @@ claim-requires-clause-count g c = rw c.loop-root.invariant.graph c.loop-root.inv
 
 pub claim-requires-clause-start : goal.claim-requires-clause-start
 claim-requires-clause-start g c =
-    let graph = c.args.graph.now.graph in
-    let n = length graph.nodes in
-    let F = c.in_ok-order.order.items in
-    let dq : c.deref-root-items.result.now ≡ reverse F = c.deref-root-items.ensures.value ∙ c.reverse.ensures.items in
-    let test : c.loop-root.root-index < length (reverse F) = rw (← dq) c.loop-root-test.true in
-    let low : get_or c.deref-root-items.result.now c.loop-root.root-index 0 < n = rw dq (reversed_below n F c.in_ok-order.ensures.positions c.loop-root.root-index 0 test) in
-    rw c.loop-root.invariant.graph low
+    rw c.loop-root.invariant.graph (root_below g (goal.at.claim-requires-clause-start g c).After-deref-root-items c.loop-root.root-index c.loop-root-test.true)
 
 pub claim-requires-clause-closed : goal.claim-requires-clause-closed
 claim-requires-clause-closed g c = rw c.loop-root.invariant.graph c.loop-root.invariant.numbering.closed
 
 pub claim-requires-clause-room : goal.claim-requires-clause-room
 claim-requires-clause-room g c = rw c.loop-root.invariant.graph (fits_below _ _ c.loop-root.invariant.paid c.requires.room)
-
-pub returns-in_err-claim-clause-looks : goal.returns-in_err-claim-clause-looks
-returns-in_err-claim-clause-looks g c =
-    let looked = rw c.loop-root.invariant.graph at c.in_err-claim.ensures.looks in
-    let paid = c.loop-root.invariant.paid in
-    omega arith
 
 pub overflow_add-count : goal.overflow_add-count
 overflow_add-count g c =
@@ -82,14 +70,14 @@ loop-root-preserved g c =
     let graph = c.args.graph.now.graph in
     let n = length graph.nodes in
     let F = c.in_ok-order.order.items in
-    let dq : c.deref-root-items.result.now ≡ reverse F = c.deref-root-items.ensures.value ∙ c.reverse.ensures.items in
     let R = Step {E = g.row.G-Edge.Denot} Forward (λ _. true) graph.links in
     let B = Step {E = g.row.G-Edge.Denot} Reverse (λ _. true) graph.links in
     let back = step_back {E = g.row.G-Edge.Denot} (λ _. true) graph.links in
     let forth = step_forth {E = g.row.G-Edge.Denot} (λ _. true) graph.links in
-    let all = all_finished R n c.args.starts.now F c.in_ok-order.ensures.order c.requires.all in
+    let before = (goal.at.loop-root-preserved g c).After-deref-root-items in
+    let all = finished g before in
+    let dq : c.deref-root-items.result.now ≡ reverse F = roots g before in
     let s = rw dq at c.loop-root.invariant.numbering in
-    let i = c.loop-root.root-index in
     let test : c.loop-root.root-index < length (reverse F) = rw (← dq) c.loop-root-test.true in
     let at = slice_get-get_or (reverse F) c.loop-root.root-index 0 test in
     elim c.if-not-has_position.branch [
@@ -117,40 +105,35 @@ loop-root-preserved g c =
 pub returns-clause-numbers : goal.returns-clause-numbers
 returns-clause-numbers g c =
     let graph = c.args.graph.now.graph in
-    let n = length graph.nodes in
     let F = c.in_ok-order.order.items in
-    let dq : c.deref-root-items.result.now ≡ reverse F = c.deref-root-items.ensures.value ∙ c.reverse.ensures.items in
-    let R = Step {E = g.row.G-Edge.Denot} Forward (λ _. true) graph.links in
-    let B = Step {E = g.row.G-Edge.Denot} Reverse (λ _. true) graph.links in
-    let back = step_back {E = g.row.G-Edge.Denot} (λ _. true) graph.links in
-    let forth = step_forth {E = g.row.G-Edge.Denot} (λ _. true) graph.links in
-    let all = all_finished R n c.args.starts.now F c.in_ok-order.ensures.order c.requires.all in
-    let s = rw dq at c.loop-root.invariant.numbering in
-    second_all R B back forth n _ F c.in_ok-order.ensures.order all c.loop-root.root-index c.loop-root.seen c.loop-root.numbers.items c.loop-root.count s (rw dq at c.loop-root-test.false)
+    let before = (goal.at.returns-clause-numbers g c).After-deref-root-items in
+    let dq : c.deref-root-items.result.now ≡ reverse F = roots g before in
+    second_all _ _ (step_back {E = g.row.G-Edge.Denot} (λ _. true) graph.links) (step_forth {E = g.row.G-Edge.Denot} (λ _. true) graph.links) (length graph.nodes) _ F c.in_ok-order.ensures.order (finished g before) c.loop-root.root-index c.loop-root.seen c.loop-root.numbers.items c.loop-root.count (rw dq at c.loop-root.invariant.numbering) (rw dq at c.loop-root-test.false)
 
 pub returns-clause-looks : goal.returns-clause-looks
 returns-clause-looks g c = let paid = c.loop-root.invariant.paid in omega arith
 
-pub returns-in_err-order-clause-numbers : goal.returns-in_err-order-clause-numbers
-returns-in_err-order-clause-numbers g c = if_ok _ _ c.from_residual.ensures.0
+pub returns-in_err-order : goal.returns-in_err-order
+returns-in_err-order g c =
+    let none = c.from_residual.ensures.0 in
+    let looked = c.in_err-order.ensures.looks in
+    record { numbers = if_ok _ _ none; small = if_ok _ _ none; looks = omega arith; graph = c.in_err-order.ensures.graph }
 
-pub returns-in_err-order-clause-small : goal.returns-in_err-order-clause-small
-returns-in_err-order-clause-small g c = if_ok _ _ c.from_residual.ensures.0
+pub returns-in_err-numbers : goal.returns-in_err-numbers
+returns-in_err-numbers g c =
+    let none = c.from_residual-in_err-numbers.ensures.0 in
+    let looked = c.in_ok-order.ensures.looks in
+    record { numbers = if_ok _ _ none; small = if_ok _ _ none; looks = omega arith; graph = c.in_ok-order.ensures.graph }
 
-pub returns-in_err-numbers-clause-numbers : goal.returns-in_err-numbers-clause-numbers
-returns-in_err-numbers-clause-numbers g c = if_ok _ _ c.from_residual-in_err-numbers.ensures.0
+pub returns-in_err-seen : goal.returns-in_err-seen
+returns-in_err-seen g c =
+    let none = c.from_residual-in_err-seen.ensures.0 in
+    let looked = c.in_ok-order.ensures.looks in
+    record { numbers = if_ok _ _ none; small = if_ok _ _ none; looks = omega arith; graph = c.in_ok-order.ensures.graph }
 
-pub returns-in_err-numbers-clause-small : goal.returns-in_err-numbers-clause-small
-returns-in_err-numbers-clause-small g c = if_ok _ _ c.from_residual-in_err-numbers.ensures.0
-
-pub returns-in_err-seen-clause-numbers : goal.returns-in_err-seen-clause-numbers
-returns-in_err-seen-clause-numbers g c = if_ok _ _ c.from_residual-in_err-seen.ensures.0
-
-pub returns-in_err-seen-clause-small : goal.returns-in_err-seen-clause-small
-returns-in_err-seen-clause-small g c = if_ok _ _ c.from_residual-in_err-seen.ensures.0
-
-pub returns-in_err-claim-clause-numbers : goal.returns-in_err-claim-clause-numbers
-returns-in_err-claim-clause-numbers g c = if_ok _ _ c.from_residual-in_err-claim.ensures.0
-
-pub returns-in_err-claim-clause-small : goal.returns-in_err-claim-clause-small
-returns-in_err-claim-clause-small g c = if_ok _ _ c.from_residual-in_err-claim.ensures.0
+pub returns-in_err-claim : goal.returns-in_err-claim
+returns-in_err-claim g c =
+    let none = c.from_residual-in_err-claim.ensures.0 in
+    let looked = rw c.loop-root.invariant.graph at c.in_err-claim.ensures.looks in
+    let paid = c.loop-root.invariant.paid in
+    record { numbers = if_ok _ _ none; small = if_ok _ _ none; looks = omega arith; graph = c.in_err-claim.ensures.graph ∙ c.loop-root.invariant.graph }

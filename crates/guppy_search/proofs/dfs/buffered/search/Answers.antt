@@ -1,13 +1,12 @@
-use Rattle.std.proofs.Common.{◌≡◌, ℕ, ◌+◌, List, [], ◌∷◌, ◌++◌, length, refl, sym, ap, ◌∙◌, arith}
+use Rattle.std.proofs.Common.{◌≡◌, [], ◌∷◌, ◌++◌, refl, sym, ◌∙◌, arith}
 use Rattle.std.proofs.lemmas.Fn.{FoldsTo-push}
 use Rattle.std.proofs.lemmas.List.Elements.{Contains-push}
-use Rattle.guppy_search.specs.IxSet.{member_count}
 use Rattle.guppy_search.specs.Buffered.Question.{discover}
 use Rattle.guppy_search.proofs.Exits.{on_err}
 use Rattle.guppy_search.proofs.Lists.{no_items, FoldsTo-append}
-use Rattle.guppy_search.proofs.Members.{IsIn-below, member_count-le-length}
-use Rattle.guppy_search.proofs.Searching.{Waits-pop}
-use Rattle.guppy_search.proofs.Buffering.{Buffering-begin, Buffering-discovered, Buffering-discover_error, Buffering-end, Buffering-asked, MayAskOn-along}
+use Rattle.guppy_search.proofs.Members.{member_count-le-length}
+use Rattle.guppy_search.proofs.Searching.{taken_below, taken_few}
+use Rattle.guppy_search.proofs.Buffering.{Buffering-begin, Buffering-followed, Buffering-discover_error, Buffering-end, Buffering-asked, MayAskOn-along}
 use Rattle.guppy_search.proofs.dfs.buffered.search.Goals as goal
 
 pub positions-init : goal.positions-init
@@ -21,9 +20,7 @@ positions-init g c = record {
 pub new-requires : goal.new-requires
 new-requires g c =
     let s = c.positions.invariant in
-    let e : c.positions.waiting.items ≡ c.pop.new.self.items ++ c.in-Some.position ∷ [] = c.in-Some.ensures.items in
-    let waits = s.searched.1.waits in
-    let below = IsIn-below c.positions.set c.in-Some.position (Waits-pop _ _ _ (rw e at waits)).1 in
+    let below = taken_below _ _ _ _ s.searched.1.waits c.in-Some.ensures.items in
     let size = s.size in
     let few = c.requires.graph.few_nodes in
     omega arith
@@ -31,17 +28,14 @@ new-requires g c =
 pub discover-requires-clause-node : goal.discover-requires-clause-node
 discover-requires-clause-node g c =
     let s = c.positions.invariant in
-    let e : c.positions.waiting.items ≡ c.pop.new.self.items ++ c.in-Some.position ∷ [] = c.in-Some.ensures.items in
-    let waits = s.searched.1.waits in
-    rw (c.new.ensures, ← s.size) (IsIn-below c.positions.set c.in-Some.position (Waits-pop _ _ _ (rw e at waits)).1)
+    rw (c.new.ensures, ← s.size) (taken_below _ _ _ _ s.searched.1.waits c.in-Some.ensures.items)
 
 pub discover-requires-clause-ready : goal.discover-requires-clause-ready
 discover-requires-clause-ready g c =
     let s = c.positions.invariant in
-    let e : c.positions.waiting.items ≡ c.pop.new.self.items ++ c.in-Some.position ∷ [] = c.in-Some.ensures.items in
-    let b = rw e at s.searched.1 in
+    let b = rw c.in-Some.ensures.items at s.searched.1 in
     let ends = rw (← c.requires.count) at c.requires.graph.ends in
-    let below = IsIn-below c.positions.set c.in-Some.position (Waits-pop _ _ _ b.waits).1 in
+    let below = taken_below _ _ _ _ s.searched.1.waits c.in-Some.ensures.items in
     let all = Buffering-asked c.args.direction c.args.graph.now.links c.args.set.now ends s.searched.0 c.positions.set c.positions.waiting.items [] s.searched.1 in
     let asked = rw c.requires.count at all in
     rw c.new.ensures (c.requires.ready.at_position s.searched.0 _ c.in-Some.position asked (b.undiscovered _ (Contains-push _ _)) s.searched.2 (rw (← s.size) below))
@@ -49,32 +43,24 @@ discover-requires-clause-ready g c =
 pub ask_links-requires-clause-ready : goal.ask_links-requires-clause-ready
 ask_links-requires-clause-ready g c =
     let s = c.positions.invariant in
-    let e : c.positions.waiting.items ≡ c.pop.new.self.items ++ c.in-Some.position ∷ [] = c.in-Some.ensures.items in
     let k = c.follow_all.ensures.added in
-    let balance : length (c.pop.new.self.items ++ k.0) + member_count c.positions.set ≡ length c.pop.new.self.items + member_count c.follow_all.new.set =
-    let same = ap (λ (ps : List ℕ). length ps) k.1 in
-    let b = c.follow_all.ensures.balance in
-    omega (arith, c.pop.new.self.ok.0, c.follow_all.new.waiting.ok.0) in
     let answered = rw c.new.ensures at c.in_ok-handed.ensures.discovers in
     let ends = rw (← c.requires.count) at c.requires.graph.ends in
     let ready = rw (← c.requires.count) at c.requires.ready in
     MayAskOn-along _ _ _ ends _ _ _ (s.searched.0 ++ (discover c.in-Some.position, c.in_ok-handed.handed.items) ∷ []) _ _ _ _ _ ready
-    (rw k.1 (Buffering-discovered _ _ _ s.searched.0 _ _ _ _ k.2 c.pop.new.self.items balance c.in-Some.position (rw e at s.searched.1)))
+    (Buffering-followed _ _ _ s.searched.0 _ _ _ _ k.2 _ _ _ c.in-Some.position c.in-Some.ensures.items k.1 c.follow_all.ensures.balance s.searched.1)
     (FoldsTo-push _ _ s.searched.0 _ (discover c.in-Some.position, c.in_ok-handed.handed.items) _ s.searched.2 answered)
 
 pub returns-in_err-handed-clause-refused : goal.returns-in_err-handed-clause-refused
 returns-in_err-handed-clause-refused g c =
     let s = c.positions.invariant.searched in
-    let e : c.positions.waiting.items ≡ c.pop.new.self.items ++ c.in-Some.position ∷ [] = c.in-Some.ensures.items in
     let error = rw c.new.ensures at c.in_err-handed.ensures.error in
-    on_err c.from_residual.result (Buffering-discover_error _ _ _ _ s.0 _ c.pop.new.self.items _ _ _ s.2 c.in-Some.position (rw e at s.1) error)
+    on_err c.from_residual.result (Buffering-discover_error _ _ _ _ s.0 _ c.pop.new.self.items _ _ _ s.2 c.in-Some.position (rw c.in-Some.ensures.items at s.1) error)
 
 pub follow_all-requires-clause-room : goal.follow_all-requires-clause-room
 follow_all-requires-clause-room g c =
     let s = c.positions.invariant in
-    let e : c.positions.waiting.items ≡ c.pop.new.self.items ++ c.in-Some.position ∷ [] = c.in-Some.ensures.items in
-    let waits = s.searched.1.waits in
-    let few = (Waits-pop _ _ _ (rw e at waits)).0.few in
+    let few = taken_few _ _ _ _ s.searched.1.waits c.in-Some.ensures.items in
     let size = s.size in
     let room = s.room in
     let capacity = c.pop.ensures.capacity in
@@ -83,16 +69,12 @@ follow_all-requires-clause-room g c =
 pub ask_links-requires-clause-position : goal.ask_links-requires-clause-position
 ask_links-requires-clause-position g c =
     let s = c.positions.invariant in
-    let e : c.positions.waiting.items ≡ c.pop.new.self.items ++ c.in-Some.position ∷ [] = c.in-Some.ensures.items in
-    let waits = s.searched.1.waits in
-    rw (← s.size) (IsIn-below c.positions.set c.in-Some.position (Waits-pop _ _ _ (rw e at waits)).1)
+    rw (← s.size) (taken_below _ _ _ _ s.searched.1.waits c.in-Some.ensures.items)
 
 pub ask_links-requires-clause-room : goal.ask_links-requires-clause-room
 ask_links-requires-clause-room g c =
     let s = c.positions.invariant in
-    let e : c.positions.waiting.items ≡ c.pop.new.self.items ++ c.in-Some.position ∷ [] = c.in-Some.ensures.items in
-    let waits = s.searched.1.waits in
-    let few = (Waits-pop _ _ _ (rw e at waits)).0.few in
+    let few = taken_few _ _ _ _ s.searched.1.waits c.in-Some.ensures.items in
     let size = s.size in
     let room = s.room in
     let popped = c.pop.ensures.capacity in
@@ -105,28 +87,18 @@ ask_links-requires-clause-room g c =
 pub returns-in_err-ask_links-clause-refused : goal.returns-in_err-ask_links-clause-refused
 returns-in_err-ask_links-clause-refused g c =
     let s = c.positions.invariant in
-    let e : c.positions.waiting.items ≡ c.pop.new.self.items ++ c.in-Some.position ∷ [] = c.in-Some.ensures.items in
     let k = c.follow_all.ensures.added in
-    let balance : length (c.pop.new.self.items ++ k.0) + member_count c.positions.set ≡ length c.pop.new.self.items + member_count c.follow_all.new.set =
-    let same = ap (λ (ps : List ℕ). length ps) k.1 in
-    let b = c.follow_all.ensures.balance in
-    omega (arith, c.pop.new.self.ok.0, c.follow_all.new.waiting.ok.0) in
     let answered = rw c.new.ensures at c.in_ok-handed.ensures.discovers in
     on_err c.from_residual-in_err-ask_links.result (
     c.in_err-ask_links.ensures.refused.after _ (s.searched.0 ++ (discover c.in-Some.position, c.in_ok-handed.handed.items) ∷ []) _
-    (rw k.1 (Buffering-discovered _ _ _ s.searched.0 _ _ _ _ k.2 c.pop.new.self.items balance c.in-Some.position (rw e at s.searched.1)))
+    (Buffering-followed _ _ _ s.searched.0 _ _ _ _ k.2 _ _ _ c.in-Some.position c.in-Some.ensures.items k.1 c.follow_all.ensures.balance s.searched.1)
     (FoldsTo-push _ _ s.searched.0 _ (discover c.in-Some.position, c.in_ok-handed.handed.items) _ s.searched.2 answered)
     )
 
 pub positions-preserved : goal.positions-preserved
 positions-preserved g c =
     let s = c.positions.invariant in
-    let e : c.positions.waiting.items ≡ c.pop.new.self.items ++ c.in-Some.position ∷ [] = c.in-Some.ensures.items in
     let k = c.follow_all.ensures.added in
-    let balance : length (c.pop.new.self.items ++ k.0) + member_count c.positions.set ≡ length c.pop.new.self.items + member_count c.follow_all.new.set =
-    let same = ap (λ (ps : List ℕ). length ps) k.1 in
-    let b = c.follow_all.ensures.balance in
-    omega (arith, c.pop.new.self.ok.0, c.follow_all.new.waiting.ok.0) in
     let answered = rw c.new.ensures at c.in_ok-handed.ensures.discovers in
     let asked = c.in_ok-ask_links.ensures.asked in
     let before = s.searched.0 ++ (discover c.in-Some.position, c.in_ok-handed.handed.items) ∷ [] in
@@ -136,7 +108,7 @@ positions-preserved g c =
       same_place = c.ask_links.ensures.same_place ∙ (c.in_ok-handed.ensures.same_place ∙ s.same_place);
       searched = (
         before ++ asked.0,
-        asked.2.after _ before (rw k.1 (Buffering-discovered _ _ _ s.searched.0 _ _ _ _ k.2 c.pop.new.self.items balance c.in-Some.position (rw e at s.searched.1))),
+        asked.2.after _ before (Buffering-followed _ _ _ s.searched.0 _ _ _ _ k.2 _ _ _ c.in-Some.position c.in-Some.ensures.items k.1 c.follow_all.ensures.balance s.searched.1),
         FoldsTo-append _ _ before _ asked.0 _ (FoldsTo-push _ _ s.searched.0 _ (discover c.in-Some.position, c.in_ok-handed.handed.items) _ s.searched.2 answered) asked.1,
       );
     }

@@ -1,8 +1,5 @@
 use Rattle.guppy_search.proofs.Exits.{if_ok}
 use Rattle.guppy_search.proofs.dfs.filtered.reachable_filtered.Goals as goal
 
-pub returns-in_err-set-clause-count : goal.returns-in_err-set-clause-count
-returns-in_err-set-clause-count g c = if_ok _ _ c.from_residual.ensures.0
-
-pub returns-in_err-set-clause-judged : goal.returns-in_err-set-clause-judged
-returns-in_err-set-clause-judged g c = if_ok _ _ c.from_residual.ensures.0
+pub returns-in_err-set : goal.returns-in_err-set
+returns-in_err-set g c = let none = c.from_residual.ensures.0 in record { count = if_ok _ _ none; judged = if_ok _ _ none }

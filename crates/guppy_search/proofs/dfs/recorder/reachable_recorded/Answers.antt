@@ -17,20 +17,8 @@ returns g c =
       visits = rw (same, ← c.in_ok-recorder.ensures.visitor) (FoldsTo-along (λ r. r.visitor) _ _ (λ r e t k. k.0) s.0 _ _ s.2);
     }
 
-pub returns-in_err-recorder-clause-count : goal.returns-in_err-recorder-clause-count
-returns-in_err-recorder-clause-count g c = if_ok _ _ c.from_residual.ensures.0
+pub returns-in_err-recorder : goal.returns-in_err-recorder
+returns-in_err-recorder g c = let none = c.from_residual.ensures.0 in record { count = if_ok _ _ none; judged = if_ok _ _ none; visits = if_ok _ _ none }
 
-pub returns-in_err-recorder-clause-judged : goal.returns-in_err-recorder-clause-judged
-returns-in_err-recorder-clause-judged g c = if_ok _ _ c.from_residual.ensures.0
-
-pub returns-in_err-recorder-clause-visits : goal.returns-in_err-recorder-clause-visits
-returns-in_err-recorder-clause-visits g c = if_ok _ _ c.from_residual.ensures.0
-
-pub returns-in_err-set-clause-count : goal.returns-in_err-set-clause-count
-returns-in_err-set-clause-count g c = if_ok _ _ c.from_residual-in_err-set.ensures.0
-
-pub returns-in_err-set-clause-judged : goal.returns-in_err-set-clause-judged
-returns-in_err-set-clause-judged g c = if_ok _ _ c.from_residual-in_err-set.ensures.0
-
-pub returns-in_err-set-clause-visits : goal.returns-in_err-set-clause-visits
-returns-in_err-set-clause-visits g c = if_ok _ _ c.from_residual-in_err-set.ensures.0
+pub returns-in_err-set : goal.returns-in_err-set
+returns-in_err-set g c = let none = c.from_residual-in_err-set.ensures.0 in record { count = if_ok _ _ none; judged = if_ok _ _ none; visits = if_ok _ _ none }

@@ -12,11 +12,5 @@ returns-clause-reached g c =
     let s = c.in_ok-set.ensures.judged in
     accepting_reaches _ _ _ s.0 _ s.1 (accepts_all _ (λ q n b t h. h) s.0 _ _ s.2)
 
-pub returns-in_err-set-clause-count : goal.returns-in_err-set-clause-count
-returns-in_err-set-clause-count g c = if_ok _ _ c.from_residual.ensures.0
-
-pub returns-in_err-set-clause-judged : goal.returns-in_err-set-clause-judged
-returns-in_err-set-clause-judged g c = if_ok _ _ c.from_residual.ensures.0
-
-pub returns-in_err-set-clause-reached : goal.returns-in_err-set-clause-reached
-returns-in_err-set-clause-reached g c = if_ok _ _ c.from_residual.ensures.0
+pub returns-in_err-set : goal.returns-in_err-set
+returns-in_err-set g c = let none = c.from_residual.ensures.0 in record { count = if_ok _ _ none; judged = if_ok _ _ none; reached = if_ok _ _ none }

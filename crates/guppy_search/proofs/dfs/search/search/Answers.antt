@@ -1,7 +1,7 @@
-use Rattle.std.proofs.Common.{◌≡◌, [], ◌∷◌, ◌++◌, refl, ◌∙◌, arith}
+use Rattle.std.proofs.Common.{◌≡◌, [], ◌++◌, refl, ◌∙◌, arith}
 use Rattle.guppy_search.proofs.Lists.{no_items, FoldsTo-append}
-use Rattle.guppy_search.proofs.Members.{IsIn-below, member_count-le-length}
-use Rattle.guppy_search.proofs.Searching.{Searching-begin, Searching-pop, Searching-end, Waits-pop, MayGoOn-along}
+use Rattle.guppy_search.proofs.Members.{member_count-le-length}
+use Rattle.guppy_search.proofs.Searching.{Searching-begin, Searching-pop, Searching-end, taken_below, taken_few, MayGoOn-along}
 use Rattle.guppy_search.proofs.dfs.search.search.Goals as goal
 
 pub positions-init : goal.positions-init
@@ -18,16 +18,12 @@ positions-init g c =
 pub show_links-requires-clause-position : goal.show_links-requires-clause-position
 show_links-requires-clause-position g c =
     let s = c.positions.invariant in
-    let e : c.positions.waiting.items ≡ c.pop.new.self.items ++ c.in-Some.position ∷ [] = c.in-Some.ensures.items in
-    let waits = s.searched.1.waits in
-    rw (← s.size) (IsIn-below c.positions.set c.in-Some.position (Waits-pop _ _ _ (rw e at waits)).1)
+    rw (← s.size) (taken_below _ _ _ _ s.searched.1.waits c.in-Some.ensures.items)
 
 pub show_links-requires-clause-room : goal.show_links-requires-clause-room
 show_links-requires-clause-room g c =
     let s = c.positions.invariant in
-    let e : c.positions.waiting.items ≡ c.pop.new.self.items ++ c.in-Some.position ∷ [] = c.in-Some.ensures.items in
-    let waits = s.searched.1.waits in
-    let few = (Waits-pop _ _ _ (rw e at waits)).0.few in
+    let few = taken_few _ _ _ _ s.searched.1.waits c.in-Some.ensures.items in
     let size = s.size in
     let room = s.room in
     let capacity = c.pop.ensures.capacity in
@@ -36,14 +32,12 @@ show_links-requires-clause-room g c =
 pub show_links-requires-clause-ready : goal.show_links-requires-clause-ready
 show_links-requires-clause-ready g c =
     let s = c.positions.invariant.searched in
-    let e : c.positions.waiting.items ≡ c.pop.new.self.items ++ c.in-Some.position ∷ [] = c.in-Some.ensures.items in
     MayGoOn-along _ _ _ _ _ s.0 _ _ _ _ _ c.requires.ready
-    (Searching-pop c.args.direction c.args.graph.now.links c.args.initials.now s.0 c.positions.set c.pop.new.self.items c.in-Some.position (rw e at s.1)) s.2
+    (Searching-pop c.args.direction c.args.graph.now.links c.args.initials.now s.0 c.positions.set c.pop.new.self.items c.in-Some.position (rw c.in-Some.ensures.items at s.1)) s.2
 
 pub positions-preserved : goal.positions-preserved
 positions-preserved g c =
     let s = c.positions.invariant in
-    let e : c.positions.waiting.items ≡ c.pop.new.self.items ++ c.in-Some.position ∷ [] = c.in-Some.ensures.items in
     let shows = c.show_links.ensures.shown in
     record {
       size = c.show_links.ensures.count;
@@ -51,7 +45,7 @@ positions-preserved g c =
       same_place = c.show_links.ensures.same_place ∙ s.same_place;
       searched = (
         s.searched.0 ++ shows.0,
-        shows.2.after _ s.searched.0 (Searching-pop c.args.direction c.args.graph.now.links c.args.initials.now s.searched.0 c.positions.set c.pop.new.self.items c.in-Some.position (rw e at s.searched.1)),
+        shows.2.after _ s.searched.0 (Searching-pop c.args.direction c.args.graph.now.links c.args.initials.now s.searched.0 c.positions.set c.pop.new.self.items c.in-Some.position (rw c.in-Some.ensures.items at s.searched.1)),
         FoldsTo-append _ _ s.searched.0 _ shows.0 _ s.searched.2 shows.1,
       );
     }

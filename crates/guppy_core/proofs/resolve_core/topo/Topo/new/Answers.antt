@@ -17,38 +17,17 @@ invariant_of-result g c =
       c.len.ensures ∙ sym (ap (λ xs. length (filter (has set) xs)) left ∙ count_listed c.args.direction set list listing),
     )
 
-pub returns-clause-left : goal.returns-clause-left
-returns-clause-left g c =
-    let set = c.args.included.now in
-    ap (filter (has set)) c.node_iter.ensures.left ∙ filter-listed c.args.direction (has set) (concat c.args.sccs.now)
-
-pub returns-clause-members : goal.returns-clause-members
-returns-clause-members g c =
+pub returns : goal.returns
+returns g c =
     let set = c.args.included.now in
     let list = concat c.args.sccs.now in
     let listing : IsListing (length set) list = subst (λ n. IsListing n list) (sym c.requires) c.node_iter.ensures.listing in
     let left = ap (filter (has set)) c.node_iter.ensures.left ∙ filter-listed c.args.direction (has set) list in
-    λ p. subst (λ xs. Stands xs p ↔ IsIn set p) (sym left) (listed_members c.args.direction set list listing p)
-
-pub returns-clause-once : goal.returns-clause-once
-returns-clause-once g c =
-    let set = c.args.included.now in
-    let list = concat c.args.sccs.now in
-    let listing : IsListing (length set) list = subst (λ n. IsListing n list) (sym c.requires) c.node_iter.ensures.listing in
-    let left = ap (filter (has set)) c.node_iter.ensures.left ∙ filter-listed c.args.direction (has set) list in
-    subst IsOnce (sym left) (listed_once c.args.direction set list listing)
-
-pub returns-clause-count : goal.returns-clause-count
-returns-clause-count g c =
-    let set = c.args.included.now in
-    let list = concat c.args.sccs.now in
-    let listing : IsListing (length set) list = subst (λ n. IsListing n list) (sym c.requires) c.node_iter.ensures.listing in
-    ap (λ xs. length (filter (has set) xs)) c.node_iter.ensures.left ∙ count_listed c.args.direction set list listing
-
-pub returns-clause-below : goal.returns-clause-below
-returns-clause-below g c =
-    let set = c.args.included.now in
-    let list = concat c.args.sccs.now in
-    let listing : IsListing (length set) list = subst (λ n. IsListing n list) (sym c.requires) c.node_iter.ensures.listing in
-    let all = below_listed c.args.direction (length set) list listing in
-    All-filter (has set) (λ p. p < length set) _ (subst (All (λ p. p < length set)) (sym c.node_iter.ensures.left) all)
+    let below = below_listed c.args.direction (length set) list listing in
+    record {
+      left = left;
+      members = λ p. subst (λ xs. Stands xs p ↔ IsIn set p) (sym left) (listed_members c.args.direction set list listing p);
+      once = subst IsOnce (sym left) (listed_once c.args.direction set list listing);
+      count = ap (λ xs. length (filter (has set) xs)) c.node_iter.ensures.left ∙ count_listed c.args.direction set list listing;
+      below = All-filter (has set) (λ p. p < length set) _ (subst (All (λ p. p < length set)) (sym c.node_iter.ensures.left) below);
+    }

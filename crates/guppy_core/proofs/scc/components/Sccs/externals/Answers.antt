@@ -63,8 +63,5 @@ returns-clause-reach g c =
     roots)
     (returns-clause-roots g c)
 
-pub returns-in_err-entered-clause-roots : goal.returns-in_err-entered-clause-roots
-returns-in_err-entered-clause-roots g c = if_ok _ _ c.from_residual.ensures.0
-
-pub returns-in_err-entered-clause-reach : goal.returns-in_err-entered-clause-reach
-returns-in_err-entered-clause-reach g c = if_ok _ _ c.from_residual.ensures.0
+pub returns-in_err-entered : goal.returns-in_err-entered
+returns-in_err-entered g c = let none = c.from_residual.ensures.0 in record { roots = if_ok _ _ none; reach = if_ok _ _ none }

@@ -26,8 +26,5 @@ loop-ix-preserved g c =
     let items : map g.G.Ix.IndexType.index_of (c.loop-ix.yielded ++ c.in-Some.ix ∷ []) ≡ map g.G.Ix.IndexType.index_of c.loop-ix.yielded ++ c.index.result ∷ [] = map_push g.G.Ix.IndexType.index_of c.loop-ix.yielded c.in-Some.ix ∙ ap (λ (n : ℕ). map g.G.Ix.IndexType.index_of c.loop-ix.yielded ++ n ∷ []) (sym at) in
     (next.0, next.1, len, rw (c.insert_position.ensures.after, items) (members-set c.loop-ix.set c.index.result (map g.G.Ix.IndexType.index_of c.loop-ix.yielded) within c.loop-ix.invariant.3))
 
-pub returns-in_err-set-clause-count : goal.returns-in_err-set-clause-count
-returns-in_err-set-clause-count g c = if_ok _ _ c.from_residual.ensures.0
-
-pub returns-in_err-set-clause-members : goal.returns-in_err-set-clause-members
-returns-in_err-set-clause-members g c = if_ok _ _ c.from_residual.ensures.0
+pub returns-in_err-set : goal.returns-in_err-set
+returns-in_err-set g c = let none = c.from_residual.ensures.0 in record { count = if_ok _ _ none; members = if_ok _ _ none }

@@ -1,41 +1,9 @@
-use Rattle.std.proofs.Common.{length, drop, refl, arith, rules, bit_xor}
-use Rattle.guppy_search.proofs.Combining.{differ, xor_bits, in_symmetric_difference, written_back, made_of_slices, same_count, combined_has, combined_few, combined_set}
-use Rattle.guppy_search.specs.IxSet.{has, marks_of}
+use Rattle.std.proofs.Common.{rules}
+use Rattle.guppy_search.proofs.Combining.{xor_bits, in_symmetric_difference}
 use Rattle.guppy_search.proofs.ix.ix_set.IxSet.symmetric_difference_with.Goals as goal
 
-pub combine-requires-clause-count : goal.combine-requires-clause-count
-combine-requires-clause-count g c =
-    let i = c.self.inside in
-    let o = c.other.inside in
-    let same = same_count i.words.items o.words.items i.count o.count c.args.self.now c.args.other.now c.self.view_is c.other.view_is c.requires in
-    let room = c.self.invariant.room in
-    let room' = c.other.invariant.room in
-    rw (c.deref_mut.ensures.value, c.deref.ensures.value) (omega arith)
-
-pub count_set_bits-self-inside-requires : goal.count_set_bits-self-inside-requires
-count_set_bits-self-inside-requires g c =
-    let i = c.self.inside in
-    let o = c.other.inside in
-    let now = c.combine.new.words in
-    let made = made_of_slices bit_xor i.words.items o.words.items _ _ now c.deref_mut.ensures.value c.deref.ensures.value c.combine.auto.words c.combine.ensures.fits (λ k h. let m = c.combine.ensures.made k h in search rules) in
-    let back = written_back now (drop (length now) i.words.items) i.words.len (let ok = i.words.ok in let size = made.size in omega arith) in
-    rw (c.deref-2.ensures.value, back) (combined_few bit_xor (λ a b. differ a b) xor_bits refl i.words.items o.words.items now i.count o.count i.len o.len c.self.invariant c.other.invariant c.args.self.now c.args.other.now c.self.view_is c.other.view_is c.requires made)
-
-pub invariant_of-self : goal.invariant_of-self
-invariant_of-self g c =
-    let i = c.self.inside in
-    let o = c.other.inside in
-    let now = c.combine.new.words in
-    let made = made_of_slices bit_xor i.words.items o.words.items _ _ now c.deref_mut.ensures.value c.deref.ensures.value c.combine.auto.words c.combine.ensures.fits (λ k h. let m = c.combine.ensures.made k h in search rules) in
-    let back = written_back now (drop (length now) i.words.items) i.words.len (let ok = i.words.ok in let size = made.size in omega arith) in
-    let count = rw (c.deref-2.ensures.value, back) at c.count_set_bits-self-inside.ensures in
-    rw back (combined_set bit_xor (λ a b. differ a b) xor_bits refl i.words.items o.words.items now i.count o.count i.len o.len c.self.invariant c.other.invariant c.args.self.now c.args.other.now c.self.view_is c.other.view_is c.requires made c.count_set_bits-self-inside.result count)
+pub combine_with-requires-clause-bitwise : goal.combine_with-requires-clause-bitwise
+combine_with-requires-clause-bitwise g c = (_, xor_bits _ (λ a b made m. search rules))
 
 pub returns-clause-members : goal.returns-clause-members
-returns-clause-members g c =
-    let i = c.self.inside in
-    let o = c.other.inside in
-    let now = c.combine.new.words in
-    let made = made_of_slices bit_xor i.words.items o.words.items _ _ now c.deref_mut.ensures.value c.deref.ensures.value c.combine.auto.words c.combine.ensures.fits (λ k h. let m = c.combine.ensures.made k h in search rules) in
-    let back = written_back now (drop (length now) i.words.items) i.words.len (let ok = i.words.ok in let size = made.size in omega arith) in
-    rw back (λ p. in_symmetric_difference (has c.args.self.now p) (has c.args.other.now p) (has (marks_of now i.count) p) (combined_has bit_xor (λ a b. differ a b) xor_bits refl i.words.items o.words.items now i.count o.count i.len o.len c.self.invariant c.other.invariant c.args.self.now c.args.other.now c.self.view_is c.other.view_is c.requires made p))
+returns-clause-members g c = λ p. in_symmetric_difference _ _ _ (c.combine_with.ensures.members _ (xor_bits _ (λ a b made m. search rules)) p)

@@ -20,8 +20,5 @@ returns-clause-ends g c =
     let links : List (Link g.row.G-Edge.Denot) = c.args.graph.now.links in
     all_ends links _ (rw c.into_iter.ensures.rest (walked_below links _ _ _ _ c.in_ok-numbers.ensures))
 
-pub returns-in_err-numbers-clause-walked : goal.returns-in_err-numbers-clause-walked
-returns-in_err-numbers-clause-walked g c = if_ok _ _ c.from_residual.ensures.0
-
-pub returns-in_err-numbers-clause-ends : goal.returns-in_err-numbers-clause-ends
-returns-in_err-numbers-clause-ends g c = if_ok _ _ c.from_residual.ensures.0
+pub returns-in_err-numbers : goal.returns-in_err-numbers
+returns-in_err-numbers g c = let none = c.from_residual.ensures.0 in record { walked = if_ok _ _ none; ends = if_ok _ _ none }
