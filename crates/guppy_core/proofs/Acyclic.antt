@@ -55,6 +55,7 @@ module _ {E : Type 0} (keep : E → Bool) (links : List (Link E)) (x : ℕ) wher
         ]
       ]
 
+  -- a position is stepped to from another one, or by none but itself
   pub entered_or_not : IsSteppedTo (Step Forward keep links) x ⊎ ((a : ℕ) → Step Forward keep links a x → a ≡ x)
   entered_or_not = elim (entered_below (length links) (omega arith)) [
     | inl i ↦ inl i

@@ -41,6 +41,7 @@ later a blocks x y p = elim p [
   | within c k l b less h s t ↦ within (suc c) k l b less h s t
 ]
 
+-- who stands before another among all does so by their blocks
 pub all_placed : (blocks : List (List ℕ)) (i j x y : ℕ) → slice_get (concat blocks) i ≡ Some x → slice_get (concat blocks) j ≡ Some y → i < j → Placed blocks x y
 all_placed [] i j x y h k less = absurd (cc)
 all_placed (a ∷ blocks) i j x y h k less =
@@ -99,6 +100,7 @@ module _ (n : ℕ) (blocks : List (List ℕ))
   all_there : (x : ℕ) → x < n → Stands (concat blocks) x
   all_there x l = let r = there x l in block_in_all blocks r.0 r.1 x r.2 r.3
 
+  -- the blocks one behind the other list all positions
   pub all_listed : IsListing n (concat blocks)
   all_listed = record { count = length_of_all n (concat blocks) all_once all_below all_there; once = all_once; below = all_below; all = all_there }
 
@@ -168,6 +170,7 @@ module _ (R : ℕ → ℕ → Type 0) (n : ℕ) (index : List ℕ) (blocks : Lis
         | inr ne ↦ omega arith
       ]
 
+  -- the components one behind the other are an order
   pub sccs_order : IsOrder R n index (concat blocks)
   sccs_order = record {
     listing = s.listing;
@@ -194,6 +197,7 @@ module _ (R : ℕ → ℕ → Type 0) (n : ℕ) (index : List ℕ) (blocks : Lis
 
 -- which block a position is in
 module _ (blocks : List (List ℕ)) (numbers : List ℕ) (m : AreNumbered blocks numbers) where
+  -- positions are in one block where their numbers are equal
   pub same_block : (x y v w : ℕ) → x < length numbers → y < length numbers → v ≡ get_or numbers x v → w ≡ get_or numbers y w → (eqb v w ≡ true) ↔ InOneBlock blocks x y
   same_block x y v w h k v_is w_is =
       let e = v_is ∙ get_or_default numbers x v 0 h in
@@ -214,6 +218,7 @@ part_from_at xs a [] c b h = absurd (cc)
 part_from_at xs a (e ∷ bounds) zero b h = (omega arith, cc)
 part_from_at xs a (e ∷ bounds) (suc c) b h = let r = part_from_at xs e bounds c b h in (let l = r.0 in omega arith, r.1)
 
+-- a part goes from one bound to the next
 pub part_at : {X : Type 0} (xs : List X) (bounds : List ℕ) (c : ℕ) (b : List X) → slice_get (parts bounds xs) c ≡ Some b → (c + 1 < length bounds) × (b ≡ slice_range xs (slice_index bounds c) (slice_index bounds (c + 1)))
 part_at xs [] c b h = absurd (cc)
 part_at xs (a ∷ bounds) c b h =
@@ -231,9 +236,11 @@ module _ (xs bounds numbers : List ℕ) (cut : IsCut xs bounds) (m : AreNumbered
   block_at : (b : List ℕ) × (slice_get (parts bounds xs) v ≡ Some b) × Stands b x
   block_at = let s = m.stands x within in (s.0, subst (λ c. slice_get (parts bounds xs) c ≡ Some s.0) number_is s.1, s.2)
 
+  -- the number of a position has a bound after it
   pub next_bound : v + 1 < length bounds
   next_bound = let s = block_at in (part_at xs bounds v s.0 s.1).0
 
+  -- which is not below it
   pub bounds_up : slice_index bounds v ≤ slice_index bounds (v + 1)
   bounds_up = (cut.climb v next_bound).0
 
@@ -243,6 +250,7 @@ module _ (xs bounds numbers : List ℕ) (cut : IsCut xs bounds) (m : AreNumbered
       let c = cut.climb v next_bound in
       ap length p.1 ∙ length_range xs (slice_index bounds v) (slice_index bounds (v + 1)) c.0 c.1
 
+  -- a position is in a large block where the two bounds lie more than one apart
   pub large_block : (hi lo : ℕ) → hi ≡ slice_index bounds (v + 1) → lo ≡ slice_index bounds v → (ltb 1 (hi - lo) ≡ true) ↔ InLargeBlock (parts bounds xs) x
   large_block hi lo hi_is lo_is = (
     λ t.

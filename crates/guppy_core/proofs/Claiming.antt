@@ -22,9 +22,11 @@ pub record Numbering (n number : ℕ) (s : List Bool) (numbers : List ℕ) (s' :
   pub grows : (q : ℕ) → has s q ≡ true → has s' q ≡ true
   pub claims : Claims number s numbers s' numbers'
 
+-- nobody was claimed yet
 pub numbering_first : (n number : ℕ) (s : List Bool) (numbers : List ℕ) → length s ≡ n → length numbers ≡ n → Numbering n number s numbers s numbers
 numbering_first n number s numbers e f = record { count = f; limit = e; grows = λ q h. h; claims = λ q h. inl (h, refl) }
 
+-- one more was claimed, if it was new
 pub numbering_more : (n number : ℕ) (s : List Bool) (numbers : List ℕ) (s' : List Bool) (numbers' : List ℕ) → Numbering n number s numbers s' numbers' → (p : ℕ) → p < n → (stack stack' : List ℕ) (s'' : List Bool) (numbers'' : List ℕ) → Marks p s' stack s'' stack' → Numbers p number s' numbers' numbers'' → Numbering n number s numbers s'' numbers''
 numbering_more n number s numbers s' numbers' m p below stack stack' s'' numbers'' marks num =
     ⊎_elim
@@ -64,6 +66,7 @@ module _ (R : ℕ → ℕ → Type 0) (n : ℕ) (s : List Bool) (start : ℕ) (l
     pending = λ q h. inr (inr (λ r t. closed q r h t));
   }
 
+  -- the start alone was claimed
   pub between_first : start < n → (s' : List Bool) (stack' : List ℕ) → Marks start s [] s' stack' → Between R (From s start) n s' stack'
   between_first below s' stack' m =
       let after = marked R (From s start) (λ _. ⊥) n start s [] before below (start, inr refl, here) s' stack' m in

@@ -14,6 +14,7 @@ use Rattle.guppy_core.proofs.Costs.{missing_cost-set}
 use Rattle.guppy_core.proofs.Levels.{In, raise, raise-mono, put}
 use Rattle.guppy_core.proofs.Heights.{Heights, Leads, unseen, to_top, raised, raised_leads, popped_top, pushed, pushed_keeps, pushed_leads}
 
+-- a frame that has gone over so many links of its position
 abbrev pub at_place : ℕ → ℕ → Frame
 at_place p k = record { position = p; next = k }
 
@@ -40,16 +41,19 @@ abbrev pub left : ℕ → (ℕ → ℕ) → List Bool → List Frame → ℕ
 left e cost s fs = missing_cost (λ p. cost p + e) 0 s + frames_cost e cost fs
 
 module _ (e : ℕ) (cost : ℕ → ℕ) (seen : List Bool) (front : List Frame) (f : Frame) where
+  -- the last frame costs what its position has left, and e more
   pub left_done : left e cost seen (front ++ f ∷ []) ≡ left e cost seen front + (cost f.position - f.next + e)
   left_done = let a = frames_cost-push e cost front f in omega arith
 
   module _ (more : f.next < cost f.position) where
+    -- a look costs one
     pub left_step : left e cost seen (front ++ at_place f.position (f.next + 1) ∷ []) + 1 ≡ left e cost seen (front ++ f ∷ [])
     left_step =
         let a = frames_cost-push e cost front f in
         let b = frames_cost-push e cost front (at_place f.position (f.next + 1)) in
         omega arith
 
+-- a new frame costs what its position cost unseen
 pub left_new : (e : ℕ) (cost : ℕ → ℕ) (seen : List Bool) (frames : List Frame) (p : ℕ) → has seen p ≡ false → p < length seen → left e cost (set seen p true) (frames ++ at_place p 0 ∷ []) ≡ left e cost seen frames
 left_new e cost seen frames p lacks below =
     let m = missing_cost-set (λ q. cost q + e) 0 seen p p (omega arith) below lacks in
@@ -93,9 +97,11 @@ module _ (R : ℕ → ℕ → Type 0) (IsStart : ℕ → Type 0) (S : ℕ → �
     ahead_parts : All (Ahead S seen s.height) front × Ahead S seen s.height f
     ahead_parts = All-pop (Ahead S seen s.height) (front ++ f ∷ []) front (Some f) refl s.ahead
 
+    -- the heights are those of the stack of the frames
     pub top_heights : Heights R IsStart seen (f.position ∷ stack_of [] front) order s.height
     top_heights = subst (λ z. Heights R IsStart seen z order s.height) (stack_of-push [] front f) s.heights
 
+    -- the top is a position
     pub top_below : f.position < limit
     top_below = framed_parts.1
 

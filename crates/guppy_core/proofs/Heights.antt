@@ -67,9 +67,11 @@ module _ (R : ℕ → ℕ → Type 0) (IsStart : ℕ → Type 0) (seen : List Bo
     pub top_seen : has seen u ≡ true
     top_seen = s.stack_seen u (inl refl)
 
+    -- the top is open
     pub top_open : 0 < h u
     top_open = s.opened u (inl refl)
 
+    -- who is open reaches the top
     pub to_top : (x : ℕ) → has seen x ≡ true → 0 < h x → Walk R x u
     to_top x i o = s.reaches x u i top_seen top_open (top_low x i o)
 
@@ -103,6 +105,7 @@ module _ (R : ℕ → ℕ → Type 0) (IsStart : ℕ → Type 0) (seen : List Bo
         rooted = λ x i e. s.rooted x i (let a = raise-above (h v) (h x) in omega arith);
       }
 
+      -- once all that is open is raised to the height of v, the top leads to it
       pub raised_leads : Leads seen (λ x. raise (h v) (h x)) u v
       raised_leads = (v_in, raise-covers (h v) (h u) top_open)
 
@@ -299,6 +302,7 @@ module _ (R : ℕ → ℕ → Type 0) (IsStart : ℕ → Type 0) (seen : List Bo
         let b = level_old y d.0 in
         (kept y d.0, let c = d.1 in omega arith)
 
+    -- all on the stack lead to a new top
     pub pushed_leads : (x : ℕ) → In stack x → Leads (set seen v true) (put h v (unseen seen)) x v
     pushed_leads x k =
         let i = s.stack_seen x k in
@@ -350,6 +354,7 @@ pub record Popped (R : ℕ → ℕ → Type 0) (IsStart : ℕ → Type 0) (seen 
   pub heights : Heights R IsStart seen rest order height
   pub mono : (x y : ℕ) → h x ≤ h y → height x ≤ height y
 
+-- the top is finished, since its steps all lead on
 pub popped_top : (R : ℕ → ℕ → Type 0) (IsStart : ℕ → Type 0) (seen : List Bool) (u : ℕ) (rest order : List ℕ) (h : ℕ → ℕ) → Heights R IsStart seen (u ∷ rest) order h → ((y : ℕ) → R u y → Leads seen h u y) → Popped R IsStart seen rest (order ++ u ∷ []) h
 popped_top R IsStart seen u [] order h s leads = record {
   height = λ x. close (h u + 1) (h x);

@@ -26,6 +26,7 @@ filter-reverse p (x ∷ xs) =
     ∙ (filter-append p (reverse xs) (x ∷ [])
     ∙ (ap (λ ys. ys ++ cond (p x) (x ∷ []) []) (filter-reverse p xs) ∙ last_kept (p x) x (filter p xs)))
 
+-- a list that is turned round is filtered as the list is
 pub filter-listed : (d : DependencyDirection) (p : ℕ → Bool) (xs : List ℕ) → filter p (listed d xs) ≡ listed d (filter p xs)
 filter-listed Forward p xs = refl
 filter-listed Reverse p xs = filter-reverse p xs
@@ -64,6 +65,7 @@ filter_alike p q (x ∷ xs) same =
     ap (λ b. cond b (x ∷ filter p xs) (filter p xs)) (same x (0, refl))
     ∙ ap (λ ys. cond (q x) (x ∷ ys) ys) (filter_alike p q xs (λ y s. same y (suc s.0, s.1)))
 
+-- what does not pass is left out
 pub filter_skips : (p : ℕ → Bool) (x : ℕ) (xs : List ℕ) → p x ≡ false → filter p (x ∷ xs) ≡ filter p xs
 filter_skips p x xs h = ap (λ b. cond b (x ∷ filter p xs) (filter p xs)) h
 
@@ -165,11 +167,13 @@ listed_stands Reverse xs x s = reversed_stands xs x s
 
 -- a listing of all positions that is kept to a set has the set's positions, each once
 module _ (d : DependencyDirection) (s : List Bool) (xs : List ℕ) (is : IsListing (length s) xs) where
+  -- the members are those of the set
   pub listed_members : (p : ℕ) → Stands (listed d (filter (has s) xs)) p ↔ IsIn s p
   listed_members p = (
     λ st. (kept_back (has s) xs p (stands_listed d (filter (has s) xs) p st)).1,
     λ h. listed_stands d (filter (has s) xs) p (kept_there (has s) xs p (is.all p (IsIn-below s p h)) h),
   )
 
+  -- each stands once
   pub listed_once : IsOnce (listed d (filter (has s) xs))
   listed_once = once_listed d (filter (has s) xs) (once_filtered (has s) xs is.once)

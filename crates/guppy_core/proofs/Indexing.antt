@@ -86,6 +86,7 @@ module _ (R : ℕ → ℕ → Type 0) (n : ℕ) (F rest : List ℕ) (set : List 
   stands_there : (x : ℕ) → FromRoot R n x → Stands (reverse F ++ rest) x
   stands_there x from = let s = finished x from in all x (below s.0 x s.1)
 
+  -- the finished ones from the end, and then the rest, are a topological index
   pub topo_of : IsTopo R n (reverse F ++ rest)
   topo_of = record {
     listing = record { count = length_of_all n (reverse F ++ rest) once all_below all; once = once; below = all_below; all = all };
@@ -112,9 +113,11 @@ module _ (R : ℕ → ℕ → Type 0) (n : ℕ) (F rest : List ℕ) (set : List 
         a.ascends pu.0 pv.0 u v pu.1 pv.1 (let l = p.2 in let e = pu.2 in let e' = pv.2 in omega arith);
   }
 
+-- a listing has positions alone
 pub order_below : (n : ℕ) (order : List ℕ) → IsListing n order → All (λ p. p < length order) order
 order_below n order t k d h = let l = t.below k (get_or order k d) (slice_get-get_or order k d h) in let c = t.count in omega arith
 
+-- a list of positions turned round has positions alone
 pub reversed_below : (n : ℕ) (F : List ℕ) → All (λ p. p < n) F → All (λ p. p < n) (reverse F)
 reversed_below n F a k d h =
     let s = stands_reversed F (get_or (reverse F) k d) (k, slice_get-get_or (reverse F) k d h) in

@@ -11,6 +11,7 @@ use Rattle.guppy_core.proofs.Inserted.{has-set_kept, has-set_cases}
 use Rattle.guppy_core.proofs.Places.{at_cases, stands_left, stands_last, stands_cases}
 use Rattle.guppy_core.specs.Listing.{Stands, StandsBefore, Precedes, IsOnce, IsAbsence}
 
+-- who stands in a list is in it, and the other way round
 pub stands_contains : (xs : List ℕ) (x : ℕ) → Stands xs x → Contains xs x
 stands_contains xs x s = (s.0, slice_get_within xs s.0 x s.1, get_or_from_slice_get xs s.0 x x s.1)
 
@@ -31,6 +32,7 @@ at_reversed xs i x h =
     let value : get_or xs (length xs - 1 - i) x ≡ x = sym (get_or-reverse xs i x below) ∙ get_or_from_slice_get (reverse xs) i x x h in
     (length xs - 1 - i, slice_get-get_or xs (length xs - 1 - i) x j_below ∙ ap Some value, omega arith)
 
+-- a list that is turned round has the same elements
 pub stands_reversed : (xs : List ℕ) (x : ℕ) → Stands (reverse xs) x → Stands xs x
 stands_reversed xs x s = let p = at_reversed xs s.0 x s.1 in (p.0, p.1)
 
@@ -43,6 +45,7 @@ at_joined [] ys i x h = inr (i, h, omega arith)
 at_joined (z ∷ xs) ys zero x h = inl h
 at_joined (z ∷ xs) ys (suc i) x h = ⊎_elim (λ e. inl e) (λ e. inr (e.0, e.1, let k = e.2 in omega arith)) (at_joined xs ys i x h)
 
+-- what stands in the first of two lists stands in both joined, at the same place
 pub joined_left : (xs ys : List ℕ) (i x : ℕ) → slice_get xs i ≡ Some x → slice_get (xs ++ ys) i ≡ Some x
 joined_left [] ys i x h = absurd (cc)
 joined_left (z ∷ xs) ys zero x h = h
@@ -52,6 +55,7 @@ joined_at : (xs ys : List ℕ) (j x : ℕ) → slice_get ys j ≡ Some x → (i 
 joined_at [] ys j x h = (j, h, omega arith)
 joined_at (z ∷ xs) ys j x h = let r = joined_at xs ys j x h in (suc r.0, r.1, let e = r.2 in omega arith)
 
+-- and so does what stands in the second
 pub joined_right : (xs ys : List ℕ) (x : ℕ) → Stands ys x → Stands (xs ++ ys) x
 joined_right xs ys x s = let r = joined_at xs ys s.0 x s.1 in (r.0, r.1)
 
@@ -59,12 +63,14 @@ joined_right xs ys x s = let r = joined_at xs ys s.0 x s.1 in (r.0, r.1)
 pub left_precedes : (xs ys : List ℕ) (x y : ℕ) → Precedes xs x y → Precedes (xs ++ ys) x y
 left_precedes xs ys x y p = (p.0, p.1, p.2, joined_left xs ys p.0 x p.3, joined_left xs ys p.1 y p.4)
 
+-- and keeps its order there
 pub right_precedes : (xs ys : List ℕ) (x y : ℕ) → Precedes ys x y → Precedes (xs ++ ys) x y
 right_precedes xs ys x y p =
     let i = joined_at xs ys p.0 x p.3 in
     let j = joined_at xs ys p.1 y p.4 in
     (i.0, j.0, (let e = i.2 in let f = j.2 in let l = p.2 in omega arith), i.1, j.1)
 
+-- who is in the first stands before who is in the second
 pub across_precedes : (xs ys : List ℕ) (x y : ℕ) → Stands xs x → Stands ys y → Precedes (xs ++ ys) x y
 across_precedes xs ys x y s t =
     let j = joined_at xs ys t.0 y t.1 in
@@ -88,6 +94,7 @@ pub record IsSetOf (list : List ℕ) (limit i : ℕ) (s : List Bool) : Type 0 wh
   pub limit_is : length s ≡ limit
   pub members : (p : ℕ) → (has s p ≡ true) ↔ StandsBefore list i p
 
+-- one more of the list was put in
 pub set_more : (list : List ℕ) (limit i : ℕ) (s : List Bool) → IsSetOf list limit i s → i < length list → All (λ p. p < limit) list → IsSetOf list limit (i + 1) (set s (get_or list i 0) true)
 set_more list limit i s m within below =
     let x : ℕ = get_or list i 0 in
@@ -111,6 +118,7 @@ set_more list limit i s m within below =
       );
     }
 
+-- the whole list was put in
 pub set_all : (list : List ℕ) (limit i : ℕ) (s : List Bool) → IsSetOf list limit i s → length list ≤ i → (p : ℕ) → (has s p ≡ true) ↔ Stands list p
 set_all list limit i s m all p = (
   λ h. let b = (m.members p).0 h in (b.0, b.2),
@@ -120,6 +128,7 @@ set_all list limit i s m all p = (
 -- the positions that are not in the set
 module _ (s : List Bool) where
   module _ (n : ℕ) (list : List ℕ) (a : IsAbsence s n list) where
+    -- the next position is in the set
     pub absence_skipped : has s n ≡ true → IsAbsence s (n + 1) list
     absence_skipped here = record {
       ascends = a.ascends;
@@ -132,6 +141,7 @@ module _ (s : List Bool) where
       );
     }
 
+    -- the next position is absent
     pub absence_more : has s n ≡ false → IsAbsence s (n + 1) (list ++ n ∷ [])
     absence_more lacks = record {
       ascends = λ i j x y p q l.
@@ -156,5 +166,6 @@ pub record ArePlaces (list : List ℕ) (i : ℕ) (places : List ℕ) : Type 0 wh
   pub count : length places ≡ length list
   pub place : (k p : ℕ) → k < i → slice_get list k ≡ Some p → slice_get places p ≡ Some k
 
+-- those absent are positions
 pub absence_below : (n : ℕ) (s : List Bool) (list : List ℕ) → length s ≡ n → IsAbsence s (length s) list → All (λ p. p < n) list
 absence_below n s list e a k d h = let b = ((a.members (get_or list k d)).0 (k, slice_get-get_or list k d h)).0 in omega arith

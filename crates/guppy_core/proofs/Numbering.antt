@@ -32,6 +32,7 @@ module _ (R B : ℕ → ℕ → Type 0) (back : (x y : ℕ) → R x y → B y x)
   along seen closed here h = h
   along seen closed (step w r) h = closed _ _ (along seen closed w h) r
 
+  -- nobody was numbered yet
   pub second_none : (order : List ℕ) (seen : List Bool) (numbers : List ℕ) → length seen ≡ n → length numbers ≡ n → ((p : ℕ) → has seen p ≡ false) → SecondPass R B n order 0 seen numbers 0
   second_none order seen numbers e f none =
       let no : (x : ℕ) → has seen x ≡ true → ⊥ = λ x h. absurd (let l = none x in cc) in
@@ -106,6 +107,7 @@ module _ (R B : ℕ → ℕ → Type 0) (back : (x y : ℕ) → R x y → B y x)
         no_way_back : (p q : ℕ) → has seen p ≡ true → has seen q ≡ false → Walk R q p → ⊥
         no_way_back p q h l w = absurd (let t = along seen s.closed (walk_back R B back w) h in cc)
 
+        -- the root is new, and takes all that leads to it
         pub second_more : SecondPass R B n (reverse F) (i + 1) seen' numbers' (count + 1)
         second_more = record {
           limit_is = limit';

@@ -51,10 +51,12 @@ module _ {X : Type 0} (xs ys : List X) (n : ℕ) (n_is : n ≡ length xs + lengt
       let rest = parts_from-push b bounds (bounds_rest a (b ∷ bounds) (length xs) up) last in
       rw (range_left xs ys a b first.1 first.0, rest) refl
 
+  -- one more list behind is one more part
   pub parts-push : (bounds : List ℕ) → IsCut xs bounds → parts (bounds ++ n ∷ []) (xs ++ ys) ≡ parts bounds xs ++ ys ∷ []
   parts-push [] cut = absurd (let s = cut.some in omega arith)
   parts-push (a ∷ bounds) cut = parts_from-push a bounds cut.climb (let e : length (a ∷ bounds) - 1 ≡ length bounds = omega arith in rw e at cut.last)
 
+  -- and the bounds still cut the list
   pub cut-push : (bounds : List ℕ) → IsCut xs bounds → IsCut (xs ++ ys) (bounds ++ n ∷ [])
   cut-push bounds cut =
       let len = length-append bounds (n ∷ []) in
@@ -88,9 +90,11 @@ module _ (lists : List (Vec ℕ Global)) (i : ℕ) (v : Vec ℕ Global) (within 
   one_more_list = ap (map items_of) (take_more lists i v within ∙ ap (λ z. take i lists ++ z ∷ []) (sym v_is)) ∙ map_push items_of (take i lists) v
 
   module _ (xs bounds : List ℕ) where
+    -- the next list was laid out, as the next part
     pub laid-parts : (n : ℕ) → n ≡ length xs + length v.items → IsCut xs bounds → parts bounds xs ≡ map items_of (take i lists) → parts (bounds ++ n ∷ []) (xs ++ v.items) ≡ map items_of (take (i + 1) lists)
     laid-parts n n_is cut are = parts-push xs v.items n n_is bounds cut ∙ (ap (λ z. z ++ v.items ∷ []) are ∙ sym one_more_list)
 
+    -- and behind the others
     pub laid-joined : concat (map items_of (take i lists)) ≡ xs → concat (map items_of (take (i + 1) lists)) ≡ xs ++ v.items
     laid-joined e = ap concat one_more_list ∙ (concat-append (map items_of (take i lists)) (v.items ∷ []) ∙ (ap (λ z. z ++ (v.items ++ [])) e ∙ ap (λ z. xs ++ z) (append-nil v.items)))
 
@@ -103,10 +107,12 @@ module _ (xs : List ℕ) where
   length-parts_from a [] = refl
   length-parts_from a (b ∷ bounds) = ap suc (length-parts_from b bounds)
 
+  -- there is one part less than bounds
   pub length-parts : (bounds : List ℕ) → length (parts bounds xs) ≡ length bounds - 1
   length-parts [] = refl
   length-parts (a ∷ bounds) = let e = length-parts_from a bounds in omega arith
 
+  -- the first part goes from the first bound to the second
   pub parts-first : (bounds : List ℕ) (a b : ℕ) (rest : List ℕ) → bounds ≡ a ∷ rest → 0 < length rest → b ≡ get_or rest 0 b → parts bounds xs ≡ slice_range xs a b ∷ parts rest xs
   parts-first bounds a b [] e some b_is = absurd (omega arith)
   parts-first bounds a b (c ∷ rest) e some b_is = rw (e, b_is) refl
@@ -115,6 +121,7 @@ module _ (xs : List ℕ) where
   parts_from-last a [] b = refl
   parts_from-last a (c ∷ bounds) b = ap (λ l. slice_range xs a c ∷ l) (parts_from-last c bounds b)
 
+  -- the last part goes from the last bound but one to the last
   pub parts-last : (bounds : List ℕ) (a b : ℕ) (rest : List ℕ) → bounds ≡ rest ++ b ∷ [] → 0 < length rest → a ≡ get_or rest (length rest - 1) a → parts bounds xs ≡ parts rest xs ++ slice_range xs a b ∷ []
   parts-last bounds a b [] e some a_is = absurd (omega arith)
   parts-last bounds a b (c ∷ rest) e some a_is =
@@ -122,9 +129,11 @@ module _ (xs : List ℕ) where
       let at : a ≡ get_or (c ∷ rest) (length rest) 0 = subst (λ i. a ≡ get_or (c ∷ rest) i a) k a_is ∙ get_or_default (c ∷ rest) (length rest) a 0 (omega arith) in
       rw e (parts_from-last c rest b ∙ ap (λ z. parts_from c rest xs ++ slice_range xs z b ∷ []) (sym at))
 
+-- the bounds without the first are bounds
 pub bounds_tail : (a : ℕ) (bounds rest : List ℕ) (n : ℕ) → bounds ≡ a ∷ rest → AreBounds bounds n → AreBounds rest n
 bounds_tail a bounds rest n e up = bounds_rest a rest n (subst (λ b. AreBounds b n) e up)
 
+-- of one bound there are no parts
 pub no_parts : (xs bounds : List ℕ) → length bounds ≤ 1 → parts bounds xs ≡ []
 no_parts xs bounds few = no_items (parts bounds xs) (let e = length-parts xs bounds in omega arith)
 
@@ -135,6 +144,7 @@ none_at xs i e = ⊎_elim (λ less. absurd (let some = slice_get-get_or xs i 0 l
 pub no_parts-front : (xs : List ℕ) (a : ℕ) (bounds rest : List ℕ) → bounds ≡ a ∷ rest → None ≡ slice_get rest 0 → parts bounds xs ≡ []
 no_parts-front xs a bounds rest e none = rw e (no_parts xs (a ∷ rest) (let few = none_at rest 0 none in omega arith))
 
+-- so there are none where the last bound has none before it
 pub no_parts-end : (xs : List ℕ) (b : ℕ) (bounds rest : List ℕ) → bounds ≡ rest ++ b ∷ [] → None ≡ slice_get rest (length rest - 1) → parts bounds xs ≡ []
 no_parts-end xs b bounds rest e none = rw e (no_parts xs (rest ++ b ∷ []) (let few = none_at rest (length rest - 1) none in let l = length_push rest b in omega arith))
 
@@ -155,6 +165,7 @@ bounds_last a b bounds rest n e some a_is up =
     let b_at : get_or (rest ++ b ∷ []) (k + 1) 0 ≡ b = get_or_push rest b 0 (k + 1) (sym k_is) in
     (omega arith, omega arith)
 
+-- the bounds without the last are bounds
 pub bounds_front : (b : ℕ) (bounds rest : List ℕ) (n : ℕ) → bounds ≡ rest ++ b ∷ [] → AreBounds bounds n → AreBounds rest n
 bounds_front b bounds rest n e up c h =
     let next = subst (λ l. AreBounds l n) e up c (let l = length_push rest b in omega arith) in

@@ -9,10 +9,12 @@ at_left [] y i x h = absurd (cc)
 at_left (z ∷ xs) y zero x h = h
 at_left (z ∷ xs) y (suc i) x h = at_left xs y i x h
 
+-- the last stands behind the others
 pub at_last : (xs : List ℕ) (y : ℕ) → slice_get (xs ++ y ∷ []) (length xs) ≡ Some y
 at_last [] y = refl
 at_last (z ∷ xs) y = at_last xs y
 
+-- who stands in the longer list stood in it before, or is the last
 pub at_cases : (xs : List ℕ) (y i x : ℕ) → slice_get (xs ++ y ∷ []) i ≡ Some x → (slice_get xs i ≡ Some x) ⊎ ((i ≡ length xs) × (x ≡ y))
 at_cases [] y zero x h = inr (refl, cc)
 at_cases [] y (suc i) x h = absurd (cc)

@@ -19,9 +19,11 @@ place_stands (y ∷ ys) (suc k) x h =
       | false ↦ λ e. let q : 1 + place_in ys x ≡ suc (place_in ys x) = omega arith in rw q (place_stands ys k x h)
     ] refl
 
+-- the place of what stands once is where it stands
 pub place_at : (xs : List ℕ) (k x : ℕ) → IsOnce xs → slice_get xs k ≡ Some x → place_in xs x ≡ k
 place_at xs k x once h = once (place_in xs x) k x (place_stands xs k x h) h
 
+-- the place of what stands nowhere is the length
 pub place_missing : (xs : List ℕ) (x : ℕ) → ((i : ℕ) → slice_get xs i ≡ Some x → ⊥) → place_in xs x ≡ length xs
 place_missing [] x none = refl
 place_missing (y ∷ ys) x none =
@@ -32,14 +34,17 @@ place_missing (y ∷ ys) x none =
 
 -- what the inverse of a listing holds
 module _ (order index : List ℕ) (t : IsListing (length order) order) (m : IsInverse order index) (p : ℕ) where
+  -- the inverse of a listing tells where each position stands
   pub index_at : p < length order → (v : ℕ) → v ≡ get_or index p v → slice_get order v ≡ Some p
   index_at h v is =
       let at = t.all p h in
       let k : v ≡ at.0 = is ∙ get_or_from_slice_get index p at.0 v (m.place at.0 p at.1) in
       rw k at.1
 
+  -- so it tells the place
   pub rank_found : p < length index → (v : ℕ) → v ≡ get_or index p v → v ≡ place_in order p
   rank_found h v is = let e = m.count in let l : p < length order = omega arith in sym (place_at order v p t.once (index_at l v is))
 
+  -- and its length is the place of what is no position
   pub rank_missing : length index ≤ p → length index ≡ place_in order p
   rank_missing h = let e = m.count in m.count ∙ sym (place_missing order p (λ i a. let b = t.below i p a in absurd (omega arith)))

@@ -63,6 +63,7 @@ module _ (R : ℕ → ℕ → Type 0) (IsStart : ℕ → Type 0) where
               omega (arith, length-set seen p true, length-append stack (p ∷ []));
         }
 
+    -- one more was marked, which the start reaches
     pub marked : p < limit → ReachedFrom R IsStart p → (seen' : List Bool) (stack' : List ℕ) → Marks p seen stack seen' stack' → Marked R IsStart IsOpen limit p seen stack seen' stack'
     marked below reached seen' stack' m =
         ⊎_elim

@@ -28,6 +28,7 @@ pub record MarkingFrom {E : Type 0} (d : DependencyDirection) (links : List (Lin
   pub complete : (k far : ℕ) → k < i → LinkTo d (λ _. true) links near k far → IsIn members far → (get_or numbers far 0 ≡ get_or numbers near 0 → ⊥) → IsIn table (get_or numbers far 0)
 
 module _ {E : Type 0} (d : DependencyDirection) (links : List (Link E)) (numbers : List ℕ) (members : List Bool) (near : ℕ) (old : List Bool) where
+  -- no link was taken
   pub from_none : MarkingFrom d links numbers members near old 0 old
   from_none = record {
     size = refl;
@@ -52,6 +53,7 @@ module _ {E : Type 0} (d : DependencyDirection) (links : List (Link E)) (numbers
           (cases_lt k i);
     }
 
+    -- the next link enters another number of the set
     pub from_more : IsIn members far → (get_or numbers far 0 ≡ get_or numbers near 0 → ⊥) → get_or numbers far 0 < length table → MarkingFrom d links numbers members near old (i + 1) (set table (get_or numbers far 0) true)
     from_more inside apart below = record {
       size = length-set table (get_or numbers far 0) true ∙ m.size;
@@ -88,6 +90,7 @@ pub record Marking (Step Same : ℕ → ℕ → Type 0) (members : List Bool) (c
   pub complete : (near c : ℕ) → near < i → IsIn members near → EntersFrom Step Same members near c → IsIn table c
 
 module _ (Step Same : ℕ → ℕ → Type 0) (members : List Bool) (count : ℕ) where
+  -- no position was taken
   pub marking_none : Marking Step Same members count 0 (replicate count false)
   marking_none = record {
     size = length-replicate count false;
@@ -96,6 +99,7 @@ module _ (Step Same : ℕ → ℕ → Type 0) (members : List Bool) (count : ℕ
   }
 
   module _ (i : ℕ) (table : List Bool) (m : Marking Step Same members count i table) where
+    -- the next position is not in the set
     pub marking_skipped : has members i ≡ false → Marking Step Same members count (i + 1) table
     marking_skipped lacks = record {
       size = m.size;
@@ -106,6 +110,7 @@ module _ (Step Same : ℕ → ℕ → Type 0) (members : List Bool) (count : ℕ
           (cases_lt near i);
     }
 
+    -- the next position is in the set, and the links from it were taken
     pub marking_more : (table' : List Bool) → IsIn members i → length table' ≡ length table → ((c : ℕ) → IsIn table' c ↔ (IsIn table c ⊎ EntersFrom Step Same members i c)) → Marking Step Same members count (i + 1) table'
     marking_more table' inside e adds = record {
       size = e ∙ m.size;
@@ -116,6 +121,7 @@ module _ (Step Same : ℕ → ℕ → Type 0) (members : List Bool) (count : ℕ
           (cases_lt near i);
     }
 
+    -- all positions were taken
     pub marking_all : length members ≤ i → (c : ℕ) → IsIn table c ↔ IsEntered Step Same members c
     marking_all all c = (
       m.sound c,
@@ -138,6 +144,7 @@ neither true b = (λ h. (refl, h), λ h. h.1)
 neither false b = (λ h. absurd (cc), λ h. let f = h.0 in absurd (cc))
 
 module _ (members : List Bool) (numbers : List ℕ) (table : List Bool) where
+  -- no position was taken
   pub unmarked_none : IsAbsence (left_out members numbers table) 0 []
   unmarked_none = record {
     ascends = λ i j x y p q l. absurd (cc);
@@ -145,15 +152,18 @@ module _ (members : List Bool) (numbers : List ℕ) (table : List Bool) where
   }
 
   module _ (n : ℕ) (list : List ℕ) (a : IsAbsence (left_out members numbers table) n list) (within : n < length members) where
+    -- the next position is a root
     pub unmarked_more : IsIn members n → has table (get_or numbers n 0) ≡ false → IsAbsence (left_out members numbers table) (n + 1) (list ++ n ∷ [])
     unmarked_more inside clear = absence_more (left_out members numbers table) n list a (has-left_out members numbers table n within ∙ (neither (has members n) (has table (get_or numbers n 0))).1 (inside, clear))
 
+    -- the next position is no root
     pub unmarked_skipped : ((IsIn members n × (has table (get_or numbers n 0) ≡ false)) → ⊥) → IsAbsence (left_out members numbers table) (n + 1) list
     unmarked_skipped none = absence_skipped (left_out members numbers table) n list a (⊎_elim
         (λ t. t)
         (λ f. absurd (none ((neither (has members n) (has table (get_or numbers n 0))).0 (sym (has-left_out members numbers table n within) ∙ f))))
         (cases_Bool (has (left_out members numbers table) n)))
 
+  -- all positions were taken
   pub unmarked_all : (n : ℕ) (list : List ℕ) → IsAbsence (left_out members numbers table) n list → n ≡ length members → (x : ℕ) → Stands list x ↔ (IsIn members x × (has table (get_or numbers x 0) ≡ false))
   unmarked_all n list a all x = (
     λ t. let b = (a.members x).0 t in (neither (has members x) (has table (get_or numbers x 0))).0 (sym (has-left_out members numbers table x (let l = b.0 in omega arith)) ∙ b.1),
@@ -177,6 +187,7 @@ module _ (Step Same Same' : ℕ → ℕ → Type 0) (members : List Bool) where
   entered_same : ((x y : ℕ) → IsIn members x → IsIn members y → Same x y ↔ Same' x y) → (x : ℕ) → IsIn members x → IsEntered Step Same members x → IsEntered Step Same' members x
   entered_same same x inside (near, near_in, (far, step, far_in, leads, apart)) = (near, near_in, (far, step, far_in, (same x far inside far_in).0 leads, λ s. apart ((same x near inside near_in).1 s)))
 
+-- so the roots by the one are those by the other
 pub roots_same : (Step Same Same' : ℕ → ℕ → Type 0) (members : List Bool) (list : List ℕ) → ((x y : ℕ) → IsIn members x → IsIn members y → Same x y ↔ Same' x y) → AreRoots Step Same members list → AreRoots Step Same' members list
 roots_same Step Same Same' members list same r = record {
   ascends = r.ascends;

@@ -21,6 +21,7 @@ use Rattle.guppy_search.proofs.Searching.{Waits-pop, first_once, row_leaves, Lea
 use Rattle.guppy_search.proofs.Following.{Waits-adds, Waits-all}
 
 module _ {E : Type 0} (d : DependencyDirection) (links : List (Link E)) (initials : List Bool) where
+  -- nothing was asked: the initial positions are in the set and wait
   pub Buffering-begin : Buffering d links initials [] initials (positions_in initials) []
   Buffering-begin = record {
     orderly = record { once = EachAfter-nil _; timely = EachAfter-nil _ };
@@ -181,6 +182,7 @@ module _ {E : Type 0} (d : DependencyDirection) (links : List (Link E)) (initial
 
   -- The next question is answered by an error.
   module _ {T : Type 0} (answers : T → Question → Option (List ℕ) → T → Type 0) (trace : List (Question × List ℕ)) (s : List Bool) (waiting : List ℕ) (first state last : T) (asks : Asks answers first trace state) where
+    -- a search ends where the filter answers an error of a position
     pub Buffering-discover_error : (p : ℕ) → Buffering d links initials trace s (waiting ++ p ∷ []) [] → answers state (discover p) None last → EndsInError answers d links initials first last
     Buffering-discover_error p b error = record {
       trace = trace;
@@ -193,6 +195,7 @@ module _ {E : Type 0} (d : DependencyDirection) (links : List (Link E)) (initial
       timely = (b.included p).0 (b.waits.in_set p (Contains-push waiting p));
     }
 
+    -- or of a link
     pub Buffering-filter_error : (n : ℕ) (left : List ℕ) → Buffering d links initials trace s waiting (n ∷ left) → answers state (filter n) None last → EndsInError answers d links initials first last
     Buffering-filter_error n left b error = record {
       trace = trace;
@@ -207,6 +210,7 @@ module _ {E : Type 0} (d : DependencyDirection) (links : List (Link E)) (initial
 
 -- What was asked of a filter that may be asked about each position and link once, in a search from positions of the graph.
 module _ {E : Type 0} (d : DependencyDirection) (links : List (Link E)) (initials : List Bool) (ends : All (EndsBelow (length initials)) links) where
+  -- what was asked is about positions and links of the graph, and was asked once
   pub Buffering-asked : (trace : List (Question × List ℕ)) (s : List Bool) (waiting left : List ℕ) → Buffering d links initials trace s waiting left → AskedOnce (length initials) (length links) trace
   Buffering-asked trace s waiting left b =
       let position : (p : ℕ) → IsAsked trace (discover p) → p < length initials = λ p h. elim ((b.included p).0 (b.discovered p h)) [
@@ -219,6 +223,7 @@ module _ {E : Type 0} (d : DependencyDirection) (links : List (Link E)) (initial
         about = λ question. elim question as (λ q. IsAsked trace q → IsAbout (length initials) (length links) q) [ discover p ↦ position p | filter n ↦ link n ];
       }
 
+  -- who may be asked along each chain may be asked on from where the search is
   pub MayAskOn-along : {T : Type 0} (can_discover can_filter : T → ℕ → Type 0) (answers : T → Question → Option (List ℕ) → T → Type 0) (trace : List (Question × List ℕ)) (s : List Bool) (waiting left : List ℕ) (first state : T)
       → IsAskable can_discover can_filter answers (length initials) (length links) first → Buffering d links initials trace s waiting left → Asks answers first trace state → MayAskOn can_filter answers d links s waiting left state
   MayAskOn-along can_discover can_filter answers trace s waiting left first state askable buffering asks = record {
@@ -236,6 +241,7 @@ pub Takes-none : {E : Type 0} (d : DependencyDirection) (links : List (Link E)) 
 Takes-none d links s waiting row = record { after = λ initials trace h. rw append-nil h }
 
 module _ {E : Type 0} (d : DependencyDirection) (links : List (Link E)) (asked : List (Question × List ℕ)) (s : List Bool) (waiting row : List ℕ) (s' : List Bool) where
+  -- one more link was asked about, and what was handed back followed
   pub Takes-filtered : (handed added : List ℕ) (s'' : List Bool) (a : Adds d links handed s' added s'') (waiting' : List ℕ) (balance : length (waiting' ++ added) + member_count s' ≡ length waiting' + member_count s'') (n : ℕ) (left : List ℕ)
       → Takes d links asked s waiting row s' waiting' (n ∷ left) → Takes d links (asked ++ (filter n, handed) ∷ []) s waiting row s'' (waiting' ++ added) left
   Takes-filtered handed added s'' a waiting' balance n left h = record {
@@ -243,6 +249,7 @@ module _ {E : Type 0} (d : DependencyDirection) (links : List (Link E)) (asked :
         (Buffering-filtered d links initials (trace ++ asked) s' handed added s'' a waiting' balance n left (h.after initials trace b));
   }
 
+  -- the search stops where the filter answers an error of a link
   pub Stops-filter : {T : Type 0} (answers : T → Question → Option (List ℕ) → T → Type 0) (old state last : T) (waiting' : List ℕ) (n : ℕ) (left : List ℕ)
       → Asks answers old asked state → Takes d links asked s waiting row s' waiting' (n ∷ left) → answers state (filter n) None last → Stops answers d links s waiting row old last
   Stops-filter answers old state last waiting' n left asks h error = record {

@@ -20,6 +20,7 @@ pub record AreCombined (Makes : ℕ → ℕ → ℕ → Type 0) (old others : Li
   pub kept : (j : ℕ) → k ≤ j → get_or now j 0 ≡ get_or old j 0
 
 module _ (Makes : ℕ → ℕ → ℕ → Type 0) (old others : List ℕ) where
+  -- no word was combined
   pub combined_none : AreCombined Makes old others 0 old
   combined_none = record {
     size = refl;
@@ -28,6 +29,7 @@ module _ (Makes : ℕ → ℕ → ℕ → Type 0) (old others : List ℕ) where
     kept = λ j h. refl;
   }
 
+  -- the word k was combined too
   pub combined_more : (k : ℕ) (now : List ℕ) (v : ℕ) → AreCombined Makes old others k now → k < length now → Makes (get_or now k 0) (get_or others k 0) v → v < 2 ^ 64 → AreCombined Makes old others (k + 1) (set now k v)
   combined_more k now v m within made fit = record {
     size = length-set now k v ∙ m.size;
@@ -45,9 +47,11 @@ module _ (Makes : ℕ → ℕ → ℕ → Type 0) (old others : List ℕ) where
 has_past : (words : List ℕ) (count p : ℕ) → count ≤ p → has (marks_of words count) p ≡ false
 has_past words count p h = get_or_past (marks_of words count) p false (rw (length-marks_of words count) h)
 
+-- the first n of words and a rest are the words, where there are n
 pub written_back : (now rest : List ℕ) (n : ℕ) → n ≡ length now → take n (now ++ rest) ≡ now
 written_back now rest n e = rw e (take-append_seam now rest)
 
+-- sets of as many positions have the same count
 pub same_count : (words others : List ℕ) (count count' : ℕ) (set set' : List Bool) → marks_of words count ≡ set → marks_of others count' ≡ set' → length set' ≡ length set → count' ≡ count
 same_count words others count count' set set' is is' same =
     let a = ap length is in
@@ -90,6 +94,7 @@ module _ (Makes : ℕ → ℕ → ℕ → Type 0) (both : Bool → Bool → Bool
       marked_past now p (omega arith) ∙ sym (ap (λ a. both a (is_marked others p)) (marked_past words p ge) ∙ ap (λ b. both false b) (marked_past others p (omega arith)) ∙ w.clear))
       (cases_lt (p / 64) (length words))
 
+  -- a position is in the combined set as its memberships in the two combine
   pub combined_has : (p : ℕ) → has (marks_of now count) p ≡ both (has set p) (has set' p)
   combined_has p =
       let e = counts in
@@ -120,6 +125,7 @@ module _ (Makes : ℕ → ℕ → ℕ → Type 0) (both : Bool → Bool → Bool
       let e = counted_bits in
       omega arith
 
+  -- the combined words, with the number of their bits that are set, hold a set
   pub combined_set : (sum : ℕ) → sum ≡ sum_by count_ones now → IsBitSet now count sum
   combined_set sum counted = record {
     room = made.size ∙ s.room;

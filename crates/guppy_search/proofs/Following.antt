@@ -15,6 +15,7 @@ use Rattle.guppy_search.proofs.Positions.{positions_from-are, length-positions_f
 use Rattle.guppy_search.specs.Searching.{Waits}
 
 module _ {E : Type 0} (d : DependencyDirection) (links : List (Link E)) where
+  -- no link was followed
   pub Adds-none : (s : List Bool) → Adds d links [] s [] s
   Adds-none s = record {
     once = EachAfter-nil _;
@@ -38,6 +39,7 @@ module _ {E : Type 0} (d : DependencyDirection) (links : List (Link E)) where
           inr (ap (λ (l : Link E). far_end d l) same ∙ h.4)
     ]
 
+    -- one more link was followed, to a position that is in the set
     pub Adds-known : IsIn s' (far_end d link) → Adds d links numbers s added s' → Adds d links (numbers ++ n ∷ []) s added s'
     Adds-known i a = record {
       once = a.once;
@@ -47,6 +49,7 @@ module _ {E : Type 0} (d : DependencyDirection) (links : List (Link E)) where
       after_has = a.after_has;
     }
 
+    -- one more link was followed, to a new position
     pub Adds-new : far_end d link < length s' → ¬ IsIn s' (far_end d link) → Adds d links numbers s added s' → Adds d links (numbers ++ n ∷ []) s (added ++ far_end d link ∷ []) (set s' (far_end d link) true)
     Adds-new below lacks a =
         let far = far_end d link in

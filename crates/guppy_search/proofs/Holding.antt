@@ -7,6 +7,7 @@ use Rattle.guppy_search.specs.Reach.{LinkStep, IsPlainResolve}
 use Rattle.guppy_search.specs.Walked.{HoldsComponents}
 use Rattle.guppy_search.proofs.Walks.{walk_on, walk_back, step_back}
 
+-- a plain resolve holds each component that it touches
 pub plain_resolve_holds : {E : Type 0} (d : DependencyDirection) (links : List (Link E)) (initials set : List Bool) → IsPlainResolve d links initials set → HoldsComponents links set
 plain_resolve_holds Forward links initials set is x y h both =
     let r = (is x).0 h in

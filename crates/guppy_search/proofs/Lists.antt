@@ -23,6 +23,7 @@ pub no_items : {X : Type 0} (xs : List X) → length xs ≡ 0 → xs ≡ []
 no_items [] h = refl
 no_items (x ∷ xs) h = cc
 
+-- what is left from i on begins with the element i
 pub drop_next : (xs : List ℕ) (i : ℕ) → i < length xs → drop i xs ≡ get_or xs i 0 ∷ drop (i + 1) xs
 drop_next xs i h = rw add-one (drop-cons xs i 0 h)
 
@@ -37,9 +38,11 @@ not_empty : {X : Type 0} (before : List X) (y : X) (after : List X) → [] ≡ b
 not_empty [] y after e = cc
 not_empty (b ∷ before) y after e = cc
 
+-- what is said of each element and those before it holds of the empty list
 pub EachAfter-nil : {X : Type 0} (P : List X → X → Type 0) → EachAfter P []
 EachAfter-nil P before x after e = absurd (not_empty before x after e)
 
+-- and with one more element behind, of which it holds
 pub EachAfter-push : {X : Type 0} (P : List X → X → Type 0) (xs : List X) (x : X) → EachAfter P xs → P xs x → EachAfter P (xs ++ x ∷ [])
 EachAfter-push {X} P [] x h p [] y after e = let q : x ≡ y = cc in subst (λ (v : X). P [] v) q p
 EachAfter-push {X} P [] x h p (b ∷ before) y after e = let q : [] ≡ before ++ y ∷ after = cc in absurd (not_empty before y after q)
@@ -50,10 +53,12 @@ EachAfter-push {X} P (z ∷ xs) x h p (b ∷ before) y after e =
     subst (λ (v : X). P (v ∷ before) y) q
     (EachAfter-push (λ bs. P (z ∷ bs)) xs x (λ bs v af k. h (z ∷ bs) v af (ap (λ l. z ∷ l) k)) p before y after r)
 
+-- and of its list without the last element, and of that
 pub EachAfter-pop : {X : Type 0} (P : List X → X → Type 0) (xs : List X) (x : X) → EachAfter P (xs ++ x ∷ []) → EachAfter P xs × P xs x
 EachAfter-pop P xs x h =
     (λ before y after e. h before y (after ++ x ∷ []) (ap (λ l. l ++ x ∷ []) e ∙ append_assoc before (y ∷ after) (x ∷ [])), h xs x [] refl)
 
+-- and with one more element in front
 pub EachAfter-cons : {X : Type 0} (P : List X → X → Type 0) (x : X) (xs : List X) → P [] x → EachAfter (λ before y. P (x ∷ before) y) xs → EachAfter P (x ∷ xs)
 EachAfter-cons {X} P x xs p h [] y after e = let q : x ≡ y = cc in subst (λ (v : X). P [] v) q p
 EachAfter-cons {X} P x xs p h (b ∷ before) y after e =
@@ -61,6 +66,7 @@ EachAfter-cons {X} P x xs p h (b ∷ before) y after e =
     let r : xs ≡ before ++ y ∷ after = cc in
     subst (λ (v : X). P (v ∷ before) y) q (h before y after r)
 
+-- and of two lists, one behind the other
 pub EachAfter-append : {X : Type 0} (P : List X → X → Type 0) (xs ys : List X) → EachAfter P xs → EachAfter (λ before y. P (xs ++ before) y) ys → EachAfter P (xs ++ ys)
 EachAfter-append P [] ys h k = k
 EachAfter-append P (x ∷ xs) ys h k =
@@ -81,5 +87,6 @@ module _ {X : Type 0} (P : List X → X → Type 0) (Q : List X → Type 0) (mor
       subst Q same
       (from_beginning (before ++ x ∷ []) xs (subst (EachAfter P) (sym same) each) (more before x (each before x xs refl) q))
 
+  -- what holds of the empty list, and goes over to each longer beginning, holds of the list
   pub EachAfter-along : (xs : List X) → EachAfter P xs → Q [] → Q xs
   EachAfter-along xs each q = from_beginning [] xs each q

@@ -11,6 +11,7 @@ pub member_count-replicate : (n : ℕ) → member_count (replicate n false) ≡ 
 member_count-replicate zero = refl
 member_count-replicate (suc n) = member_count-replicate n
 
+-- no more positions are in a set than there are
 pub member_count-le-length : (s : List Bool) → member_count s ≤ length s
 member_count-le-length [] = omega arith
 member_count-le-length (true ∷ s) = omega (arith, member_count-le-length s)
@@ -56,6 +57,7 @@ module _ (s : List Bool) (p : ℕ) where
       (λ e. inl (sym (get_or-set_other s p q true false e) ∙ h))
       (cases_eq q p)
 
+  -- who was in the set still is
   pub member-set_keeps : (q : ℕ) → p < length s → IsIn s q → IsIn (set s p true) q
   member-set_keeps q within h =
       ⊎_elim
@@ -80,6 +82,7 @@ module _ (s : List Bool) (p : ℕ) where
         (Contains-push_cases xs p q h),
   )
 
+-- who is in the set is one of its positions
 pub IsIn-below : (s : List Bool) (p : ℕ) → IsIn s p → p < length s
 IsIn-below [] p h = absurd (cc)
 IsIn-below (x ∷ s) zero h = omega arith
@@ -100,5 +103,6 @@ only_member n p q h = elim (member-set_cases (replicate n false) p q h) [
   | inr e ↦ e
 ]
 
+-- the position that was put into the empty set is in it
 pub one_member : (n p : ℕ) → p < n → IsIn (set (replicate n false) p true) p
 one_member n p within = get_or-set_same (replicate n false) p true false (rw (length-replicate n false) within)

@@ -28,6 +28,7 @@ module _ {A : Type 0} (p : A → Bool) where
         | false ↦ λ e. further i x xs _ (numbers_pass (i + 1) xs)
       ] refl
 
+  -- each number that is listed is of an element that passes
   pub number_passes : (i : ℕ) (xs : List A) (k : ℕ) → k < length (numbers_where p i xs) → Passes p i xs (get_or (numbers_where p i xs) k 0)
   number_passes i xs k h = All-from_recursion (Passes p i xs) (numbers_where p i xs) (numbers_pass i xs) k 0 h
 

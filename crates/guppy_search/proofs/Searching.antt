@@ -18,9 +18,11 @@ use Rattle.guppy_search.proofs.Positions.{positions_from-are, positions_from-hav
 use Rattle.guppy_search.proofs.Numbers.{numbers_ascend}
 use Rattle.guppy_search.proofs.Rows.{row_links, row_has}
 
+-- nothing waits
 pub Waits-none : (set : List Bool) → Waits set []
 Waits-none set = record { in_set = λ p h. absurd (nothing_in p h); once = EachAfter-nil _; few = omega arith }
 
+-- a new position waits too
 pub Waits-add : (s : List Bool) (waiting : List ℕ) (p : ℕ) → p < length s → ¬ IsIn s p → Waits s waiting → Waits (set s p true) (waiting ++ p ∷ [])
 Waits-add s waiting p h new w = record {
   in_set = λ q k. elim (Contains-push_cases waiting p q k) [ inl c ↦ member-set_keeps s p q h (w.in_set q c) | inr e ↦ subst (IsIn (set s p true)) e (get_or-set_same s p true false h) ];
@@ -28,9 +30,11 @@ Waits-add s waiting p h new w = record {
   few = let a = member_count-set s p h (false_from_ne_true (has s p) new) in let d = w.few in simp length-append (omega arith);
 }
 
+-- while a position is new, fewer wait than there are
 pub Waits-room : (s : List Bool) (waiting : List ℕ) (p : ℕ) → p < length s → ¬ IsIn s p → Waits s waiting → length waiting < length s
 Waits-room s waiting p h new w = let a = member_count-lt-length s p h (false_from_ne_true (has s p) new) in let d = w.few in omega arith
 
+-- the last of those that wait is in the set, and did not wait twice
 pub Waits-pop : (s : List Bool) (waiting : List ℕ) (p : ℕ) → Waits s (waiting ++ p ∷ []) → Waits s waiting × IsIn s p × ¬ Contains waiting p
 Waits-pop s waiting p w = (
   record {
@@ -50,6 +54,7 @@ taken_below s waiting rest p w e = IsIn-below s p (Waits-pop s rest p (rw e at w
 pub taken_few : (s : List Bool) (waiting rest : List ℕ) (p : ℕ) → Waits s waiting → waiting ≡ rest ++ p ∷ [] → length rest ≤ member_count s
 taken_few s waiting rest p w e = (Waits-pop s rest p (rw e at w)).0.few
 
+-- no initial position was put in
 pub Seeded-begin : (initials : List Bool) (set : List Bool) → ((p : ℕ) → ¬ IsIn set p) → Seeded initials set [] (positions_in initials)
 Seeded-begin initials set none = record {
   initial = λ p h. absurd (none p h);
@@ -60,9 +65,11 @@ Seeded-begin initials set none = record {
 }
 
 module _ (initials s : List Bool) (waiting : List ℕ) (p : ℕ) (left : List ℕ) where
+  -- the next one is a position of the set
   pub Seeded-below : length initials ≡ length s → Seeded initials s waiting (p ∷ left) → p < length s
   Seeded-below same a = rw (← same) (IsIn-below initials p (a.to_come p (Contains-first p left)))
 
+  -- it is in the set already
   pub Seeded-known : IsIn s p → Seeded initials s waiting (p ∷ left) → Seeded initials s waiting left
   Seeded-known h a = record {
     initial = a.initial;
@@ -72,6 +79,7 @@ module _ (initials s : List Bool) (waiting : List ℕ) (p : ℕ) (left : List �
     waits = a.waits;
   }
 
+  -- it is put in, and waits
   pub Seeded-new : p < length s → ¬ IsIn s p → Seeded initials s waiting (p ∷ left) → Seeded initials (set s p true) (waiting ++ p ∷ []) left
   Seeded-new h new a = record {
     initial = λ q k. elim (member-set_cases s p q k) [ inl i ↦ a.initial q i | inr e ↦ subst (IsIn initials) e (a.to_come p (Contains-first p left)) ];
@@ -86,6 +94,7 @@ module _ (initials s : List Bool) (waiting : List ℕ) (p : ℕ) (left : List �
 
 -- The links that leave a position.
 
+-- in an ascending list the first stands once
 pub first_once : (n : ℕ) (ns : List ℕ) → IsAscending (n ∷ ns) → ¬ Contains ns n
 first_once n ns up h =
     let less = up 0 (suc h.0) (omega arith) (let k = h.1 in omega arith) in
@@ -93,6 +102,7 @@ first_once n ns up h =
     omega arith
 
 module _ {E : Type 0} (d : DependencyDirection) (links : List (Link E)) where
+  -- what is listed at a position leaves it
   pub row_leaves : (p n : ℕ) → Contains (links_at d links p) n → LeavesOne d links (λ q. q ≡ p) n
   row_leaves p n h =
       let one = row_links d links p h.0 h.1 in
@@ -108,6 +118,7 @@ module _ {E : Type 0} (d : DependencyDirection) (links : List (Link E)) where
       (k.0, found_k, (subst (λ (l : Link E). P (near_end d l)) same h.2, k.2))
 
 module _ {E : Type 0} (d : DependencyDirection) (links : List (Link E)) (initials : List Bool) where
+  -- no link was shown: the initial positions are in the set and wait
   pub Searching-begin : (set : List Bool) (waiting : List ℕ) → Seeded initials set waiting [] → Searching d links initials [] set waiting []
   Searching-begin set waiting a = record {
     once = EachAfter-nil _;
@@ -246,9 +257,11 @@ module _ {E : Type 0} (d : DependencyDirection) (links : List (Link E)) (initial
         Searching-answered waiting left n l.0 false s waiting l.1 (λ p h. h) (λ e. absurd (cc)) (λ p h. inl h) (λ p h. h) (λ p h. inl h) a.waits a
 
     module _ (waiting left : List ℕ) (n : ℕ) (link : Link E) (found : slice_get links n ≡ Some link) where
+      -- the next link was accepted, and leads to a position in the set
       pub Searching-known : IsIn s (far_end d link) → Searching d links initials trace s waiting (n ∷ left) → Searching d links initials (trace ++ (n, true) ∷ []) s waiting left
       Searching-known i a = Searching-answered waiting left n link true s waiting found (λ p h. h) (λ e. i) (λ p h. inl h) (λ p h. h) (λ p h. inl h) a.waits a
 
+      -- the next link was accepted, and leads to a new position
       pub Searching-new : far_end d link < length s → ¬ IsIn s (far_end d link) → Searching d links initials trace s waiting (n ∷ left) → Searching d links initials (trace ++ (n, true) ∷ []) (set s (far_end d link) true) (waiting ++ far_end d link ∷ []) left
       Searching-new below lacks a = Searching-answered waiting left n link true (set s (far_end d link) true) (waiting ++ far_end d link ∷ []) found
           (λ p h. member-set_keeps s (far_end d link) p below h)
@@ -264,6 +277,7 @@ Shows-none d links s waiting row = record { after = λ initials trace h. rw appe
 
 module _ {E : Type 0} (d : DependencyDirection) (links : List (Link E)) (shown : List (ℕ × Bool)) (s : List Bool) (waiting row : List ℕ) where
   module _ (s' : List Bool) (waiting' left : List ℕ) (n : ℕ) where
+    -- one more link was shown, and refused
     pub Shows-refused : Shows d links shown s waiting row s' waiting' (n ∷ left) → Shows d links (shown ++ (n, false) ∷ []) s waiting row s' waiting' left
     Shows-refused h = record {
       after = λ initials trace k. subst (λ all. Searching d links initials all s' waiting' left) (append_assoc trace shown ((n, false) ∷ []))
@@ -271,12 +285,14 @@ module _ {E : Type 0} (d : DependencyDirection) (links : List (Link E)) (shown :
     }
 
     module _ (link : Link E) (found : slice_get links n ≡ Some link) where
+      -- the next link was accepted, and leads to a position in the set
       pub Shows-known : IsIn s' (far_end d link) → Shows d links shown s waiting row s' waiting' (n ∷ left) → Shows d links (shown ++ (n, true) ∷ []) s waiting row s' waiting' left
       Shows-known i h = record {
         after = λ initials trace k. subst (λ all. Searching d links initials all s' waiting' left) (append_assoc trace shown ((n, true) ∷ []))
             (Searching-known d links initials (trace ++ shown) s' waiting' left n link found i (h.after initials trace k));
       }
 
+      -- the next link was accepted, and leads to a new position
       pub Shows-new : far_end d link < length s' → ¬ IsIn s' (far_end d link) → Shows d links shown s waiting row s' waiting' (n ∷ left) → Shows d links (shown ++ (n, true) ∷ []) s waiting row (set s' (far_end d link) true) (waiting' ++ far_end d link ∷ []) left
       Shows-new below lacks h = record {
         after = λ initials trace k. subst (λ all. Searching d links initials all (set s' (far_end d link) true) (waiting' ++ far_end d link ∷ []) left) (append_assoc trace shown ((n, true) ∷ []))
@@ -301,6 +317,7 @@ MayGoOn-along may_call calls d links initials trace s waiting left first state c
 pub balance-added : (s : List Bool) (waiting : List ℕ) (p a b : ℕ) → p < length s → ¬ IsIn s p → length waiting + a ≡ b + member_count s → length (waiting ++ p ∷ []) + a ≡ b + member_count (set s p true)
 balance-added s waiting p a b h new e = let k = member_count-set s p h (false_from_ne_true (has s p) new) in simp length-append (omega arith)
 
+-- the far end of a link is a position of the graph
 pub far_end_below : {E : Type 0} (d : DependencyDirection) (links : List (Link E)) (count n : ℕ) (link : Link E) → slice_get links n ≡ Some link → All (EndsBelow count) links → far_end d link < count
 far_end_below {E} d links count n link found ends =
     let both : EndsBelow count link = subst (λ (l : Link E). EndsBelow count l) (get_or_from_slice_get links n link link found) (ends n link (slice_get_within links n link found)) in

@@ -73,5 +73,6 @@ count-marks_of words count room fits clear =
     let none = passing_none (is_marked words) count (64 * length words - count) clear in
     sym all ∙ ap (passing (is_marked words) 0) e ∙ split ∙ omega arith
 
+-- no bit is set past the words
 pub marked_past : (words : List ℕ) (p : ℕ) → length words ≤ p / 64 → is_marked words p ≡ false
 marked_past words p h = rw (get_or_past words (p / 64) 0 h, bit_at-zero (p % 64)) refl

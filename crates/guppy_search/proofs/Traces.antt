@@ -79,6 +79,7 @@ length-trace count trace once below =
     let counted = marked.2 in
     omega arith
 
+-- no more links are shown than there are
 pub length-judged : {E : Type 0} (d : DependencyDirection) (links : List (Link E)) (initials : List Bool) (trace : List (ℕ × Bool)) (set : List Bool) → JudgesResolve d links initials trace set → length trace ≤ length links
 length-judged d links initials trace set judged =
     length-trace (length links) trace judged.once (λ n h. let l = (judged.shown n).0 h in slice_get_within links n l.0 l.1)

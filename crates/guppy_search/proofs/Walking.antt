@@ -27,6 +27,7 @@ module _ {E : Type 0} (set : List Bool) (l : Link E) where
   inside_from_ends Forward near far = (near, far)
   inside_from_ends Reverse near far = (far, near)
 
+  -- a link inside a set begins in it
   pub near_inside : (d : DependencyDirection) → IsInside set l → IsIn set (near_end d l)
   near_inside Forward inside = inside.0
   near_inside Reverse inside = inside.1

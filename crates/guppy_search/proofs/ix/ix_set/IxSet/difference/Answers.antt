@@ -1,10 +1,10 @@
 use Rattle.std.proofs.Common.{rules}
 use Rattle.guppy_search.proofs.Exits.{if_ok}
-use Rattle.guppy_search.proofs.Combining.{and_not_bits, in_difference}
+use Rattle.guppy_search.proofs.Combining.{except, and_not_bits, in_difference}
 use Rattle.guppy_search.proofs.ix.ix_set.IxSet.difference.Goals as goal
 
 pub combine_with-requires-clause-bitwise : goal.combine_with-requires-clause-bitwise
-combine_with-requires-clause-bitwise g c = (_, and_not_bits _ (λ a b made m. search rules))
+combine_with-requires-clause-bitwise g c = (except, and_not_bits _ (λ a b made m. search rules))
 
 pub returns-clause-members : goal.returns-clause-members
 returns-clause-members g c = λ p.

@@ -3,28 +3,21 @@ use Rattle.std.specs.Prelude.{bit_or}
 use Rattle.std.proofs.Math.ListN.{set, length-set}
 use Rattle.guppy_search.specs.IxSet.{has, member_count, marks_of}
 use Rattle.guppy_search.proofs.Members.{member_count-lt-length, member_count-set, fits-set}
-use Rattle.guppy_search.proofs.Marks.{below_count, word_within, length-marks_of, marks_of-write, clear-write}
-use Rattle.guppy_search.proofs.ix.ix_set.IxSet.insert_position.Given.{Over}
-use Rattle.guppy_search.proofs.ix.ix_set.IxSet.insert_position.Goals.{After-has_position}
+use Rattle.guppy_search.proofs.Marks.{below_count, word_within, word_there, length-marks_of, marks_of-write, clear-write}
 use Rattle.guppy_search.proofs.ix.ix_set.IxSet.insert_position.Goals as goal
-
--- the position is below the count, and its word is there
-below : (g : Over) (c : After-has_position g) → c.args.position < c.self.inside.count
-below g c = below_count c.self.inside.words.items c.self.inside.count c.args.position _ c.self.view_is c.requires.in_range
-
-within : (g : Over) (c : After-has_position g) → c.args.position / 64 < length c.self.inside.words.items
-within g c = word_within c.self.inside.words.items c.self.inside.count c.args.position (below g c) c.self.invariant.room
 
 pub index-word-requires : goal.index-word-requires
 index-word-requires g c =
-    let there = within g (goal.at.index-word-requires g c).After-has_position in
-    let ok = c.self.inside.words.ok in
+    let i = c.self.inside in
+    let within = word_there i.words.items i.count c.args.position _ c.self.view_is c.requires.in_range c.self.invariant.room in
+    let ok = i.words.ok in
     omega arith
 
 pub index_mut-requires : goal.index_mut-requires
 index_mut-requires g c =
-    let there = within g (goal.at.index_mut-requires g c).After-has_position in
-    let ok = c.self.inside.words.ok in
+    let i = c.self.inside in
+    let within = word_there i.words.items i.count c.args.position _ c.self.view_is c.requires.in_range c.self.invariant.room in
+    let ok = i.words.ok in
     omega arith
 
 pub overflow_add-self : goal.overflow_add-self
@@ -40,21 +33,23 @@ overflow_add-self g c =
 pub invariant_of-self : goal.invariant_of-self
 invariant_of-self g c =
     let i = c.self.inside in
-    let at = (goal.at.invariant_of-self g c).After-has_position in
+    let below = below_count i.words.items i.count c.args.position _ c.self.view_is c.requires.in_range in
+    let within = word_within i.words.items i.count c.args.position below c.self.invariant.room in
     let lacks : has c.args.self.now c.args.position ≡ false = sym c.has_position.ensures.value ∙ c.if-has_position.false in
     let more : member_count (set (marks_of i.words.items i.count) c.args.position true) ≡ member_count (marks_of i.words.items i.count) + 1 = rw c.self.view_is (member_count-set c.args.self.now c.args.position c.requires.in_range lacks) in
-    let write = marks_of-write i.words.items i.count c.args.position c.index-word.result.now (below g at) (within g at) c.index-word.ensures in
+    let write = marks_of-write i.words.items i.count c.args.position c.index-word.result.now below within c.index-word.ensures in
     let len = length-set i.words.items (c.args.position / 64) (bit_or c.index-word.result.now (1 * 2 ^ (c.args.position % 64) % 18446744073709551616)) in
     record {
       room = rw len c.self.invariant.room;
       small = c.self.invariant.small;
       counted = ap (λ n. n + 1) c.self.invariant.counted ∙ sym (ap member_count write ∙ more);
       fit = rw write (fits-set (marks_of i.words.items i.count) c.args.position c.requires.small c.self.invariant.fit);
-      clear = clear-write i.words.items i.count c.args.position c.index-word.result.now (below g at) (within g at) c.index-word.ensures c.self.invariant.clear;
+      clear = clear-write i.words.items i.count c.args.position c.index-word.result.now below within c.index-word.ensures c.self.invariant.clear;
     }
 
 pub returns-clause-after : goal.returns-clause-after
 returns-clause-after g c =
     let i = c.self.inside in
-    let at = (goal.at.returns-clause-after g c).After-has_position in
-    marks_of-write i.words.items i.count c.args.position c.index-word.result.now (below g at) (within g at) c.index-word.ensures ∙ ap (λ (v : List Bool). set v c.args.position true) c.self.view_is
+    let below = below_count i.words.items i.count c.args.position _ c.self.view_is c.requires.in_range in
+    let within = word_within i.words.items i.count c.args.position below c.self.invariant.room in
+    marks_of-write i.words.items i.count c.args.position c.index-word.result.now below within c.index-word.ensures ∙ ap (λ (v : List Bool). set v c.args.position true) c.self.view_is

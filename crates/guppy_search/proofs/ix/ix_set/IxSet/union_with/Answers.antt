@@ -1,9 +1,9 @@
-use Rattle.std.proofs.Common.{rules}
+use Rattle.std.proofs.Common.{Bool, ◌||◌, rules}
 use Rattle.guppy_search.proofs.Combining.{or_bits, in_union}
 use Rattle.guppy_search.proofs.ix.ix_set.IxSet.union_with.Goals as goal
 
 pub combine_with-requires-clause-bitwise : goal.combine_with-requires-clause-bitwise
-combine_with-requires-clause-bitwise g c = (_, or_bits _ (λ a b made m. search rules))
+combine_with-requires-clause-bitwise g c = ((λ (x y : Bool). x || y), or_bits _ (λ a b made m. search rules))
 
 pub returns-clause-members : goal.returns-clause-members
 returns-clause-members g c = λ p. in_union _ _ _ (c.combine_with.ensures.members _ (or_bits _ (λ a b made m. search rules)) p)
