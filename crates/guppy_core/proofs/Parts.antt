@@ -133,6 +133,14 @@ module _ (xs : List ℕ) where
 pub bounds_tail : (a : ℕ) (bounds rest : List ℕ) (n : ℕ) → bounds ≡ a ∷ rest → AreBounds bounds n → AreBounds rest n
 bounds_tail a bounds rest n e up = bounds_rest a rest n (subst (λ b. AreBounds b n) e up)
 
+-- with one bound less there are fewer parts
+pub parts_less : (xs bounds rest : List ℕ) (view : List (List ℕ)) → parts bounds xs ≡ view → 0 < length rest → length bounds ≡ length rest + 1 → length (parts rest xs) < length view
+parts_less xs bounds rest view is some more =
+    let e = ap length is in
+    let f = length-parts xs bounds in
+    let g = length-parts xs rest in
+    omega arith
+
 -- of one bound there are no parts
 pub no_parts : (xs bounds : List ℕ) → length bounds ≤ 1 → parts bounds xs ≡ []
 no_parts xs bounds few = no_items (parts bounds xs) (let e = length-parts xs bounds in omega arith)

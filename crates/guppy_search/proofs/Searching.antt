@@ -50,9 +50,9 @@ Waits-pop s waiting p w = (
 pub taken_below : (s : List Bool) (waiting rest : List ℕ) (p : ℕ) → Waits s waiting → waiting ≡ rest ++ p ∷ [] → p < length s
 taken_below s waiting rest p w e = IsIn-below s p (Waits-pop s rest p (rw e at w)).1
 
--- and no more wait then than there are in the set
-pub taken_few : (s : List Bool) (waiting rest : List ℕ) (p : ℕ) → Waits s waiting → waiting ≡ rest ++ p ∷ [] → length rest ≤ member_count s
-taken_few s waiting rest p w e = (Waits-pop s rest p (rw e at w)).0.few
+-- and what waits then leaves room for all that are new
+pub taken_room : (s : List Bool) (waiting rest : List ℕ) (p n most left : ℕ) → Waits s waiting → waiting ≡ rest ++ p ∷ [] → length s ≡ n → n ≤ most → left ≡ most → length rest + length s ≤ left + member_count s
+taken_room s waiting rest p n most left w e size room same = let few = (Waits-pop s rest p (rw e at w)).0.few in omega arith
 
 -- no initial position was put in
 pub Seeded-begin : (initials : List Bool) (set : List Bool) → ((p : ℕ) → ¬ IsIn set p) → Seeded initials set [] (positions_in initials)

@@ -1,4 +1,4 @@
-ghost use Rattle.std.specs.Prelude.{◌≡◌, ◌⊎◌, ℕ, ◌+◌, ◌<◌, ◌≤◌, List, [], ◌++◌, length, All, IfOk, OnOk, OnErr, vec_len, vec_capacity};
+ghost use Rattle.std.specs.Prelude.{◌≡◌, ◌⊎◌, ℕ, ◌+◌, ◌<◌, ◌≤◌, List, [], ◌++◌, length, All, IfOk, OnOk, OnErr, vec_capacity};
 ghost use Rattle.guppy_search.specs.Graph.{IsGraph};
 ghost use Rattle.guppy_search.specs.IxSet.{member_count, positions_in};
 ghost use Rattle.guppy_search.specs.Links.{links_at};
@@ -158,8 +158,8 @@ fn follow_all<G: GraphSpec>(
 )
     requires count { length set.old ≡ length graph.now.nodes }
     requires links { All (λ n. n < length graph.now.links) numbers.items }
-    requires room { vec_len waiting.old + length set.old ≤ vec_capacity waiting.old + member_count
-        set.old }
+    requires room { length waiting.old.items + length set.old ≤ vec_capacity waiting.old +
+        member_count set.old }
     ensures count { length set.new ≡ length set.old }
     ensures added { (added : List ℕ) × (waiting.new.items ≡ waiting.old.items ++ added)
         × Adds direction graph.now.links numbers.items set.old added set.new }

@@ -5,7 +5,7 @@ use Rattle.guppy_search.specs.Buffered.Question.{discover}
 use Rattle.guppy_search.proofs.Exits.{on_err}
 use Rattle.guppy_search.proofs.Lists.{no_items, FoldsTo-append}
 use Rattle.guppy_search.proofs.Members.{member_count-le-length}
-use Rattle.guppy_search.proofs.Searching.{taken_below, taken_few}
+use Rattle.guppy_search.proofs.Searching.{taken_below, taken_room}
 use Rattle.guppy_search.proofs.Buffering.{Buffering-begin, Buffering-followed, Buffering-discover_error, Buffering-end, Buffering-asked, MayAskOn-along}
 use Rattle.guppy_search.proofs.dfs.buffered.search.Goals as goal
 
@@ -60,11 +60,7 @@ returns-in_err-handed-clause-refused g c =
 pub follow_all-requires-clause-room : goal.follow_all-requires-clause-room
 follow_all-requires-clause-room g c =
     let s = c.positions.invariant in
-    let few = taken_few _ _ _ _ s.searched.1.waits c.in-Some.ensures.items in
-    let size = s.size in
-    let room = s.room in
-    let capacity = c.pop.ensures.capacity in
-    omega (arith, c.pop.new.self.ok.0)
+    taken_room _ _ _ _ _ _ _ s.searched.1.waits c.in-Some.ensures.items s.size s.room c.pop.ensures.capacity
 
 pub ask_links-requires-clause-position : goal.ask_links-requires-clause-position
 ask_links-requires-clause-position g c =
@@ -74,14 +70,11 @@ ask_links-requires-clause-position g c =
 pub ask_links-requires-clause-room : goal.ask_links-requires-clause-room
 ask_links-requires-clause-room g c =
     let s = c.positions.invariant in
-    let few = taken_few _ _ _ _ s.searched.1.waits c.in-Some.ensures.items in
-    let size = s.size in
-    let room = s.room in
-    let popped = c.pop.ensures.capacity in
+    let room = taken_room _ _ _ _ _ _ _ s.searched.1.waits c.in-Some.ensures.items s.size s.room c.pop.ensures.capacity in
     let capacity = c.follow_all.ensures.capacity in
     let count = c.follow_all.ensures.count in
     let balance = c.follow_all.ensures.balance in
-    omega (arith, c.pop.new.self.ok.0, c.follow_all.new.waiting.ok.0)
+    omega arith
 
 -- the position is discovered, and the links handed back are followed
 pub returns-in_err-ask_links-clause-refused : goal.returns-in_err-ask_links-clause-refused

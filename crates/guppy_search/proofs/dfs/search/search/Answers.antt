@@ -1,7 +1,7 @@
 use Rattle.std.proofs.Common.{◌≡◌, [], ◌++◌, refl, ◌∙◌, arith}
 use Rattle.guppy_search.proofs.Lists.{no_items, FoldsTo-append}
 use Rattle.guppy_search.proofs.Members.{member_count-le-length}
-use Rattle.guppy_search.proofs.Searching.{Searching-begin, Searching-pop, Searching-end, taken_below, taken_few, MayGoOn-along}
+use Rattle.guppy_search.proofs.Searching.{Searching-begin, Searching-pop, Searching-end, taken_below, taken_room, MayGoOn-along}
 use Rattle.guppy_search.proofs.dfs.search.search.Goals as goal
 
 pub positions-init : goal.positions-init
@@ -23,11 +23,7 @@ show_links-requires-clause-position g c =
 pub show_links-requires-clause-room : goal.show_links-requires-clause-room
 show_links-requires-clause-room g c =
     let s = c.positions.invariant in
-    let few = taken_few _ _ _ _ s.searched.1.waits c.in-Some.ensures.items in
-    let size = s.size in
-    let room = s.room in
-    let capacity = c.pop.ensures.capacity in
-    omega arith
+    taken_room _ _ _ _ _ _ _ s.searched.1.waits c.in-Some.ensures.items s.size s.room c.pop.ensures.capacity
 
 pub show_links-requires-clause-ready : goal.show_links-requires-clause-ready
 show_links-requires-clause-ready g c =

@@ -1,7 +1,7 @@
-use Rattle.std.proofs.Common.{◌≡◌, ◌<◌, ◌-◌, [], ◌∷◌, ◌++◌, length, sym, ◌∙◌, ap, arith}
+use Rattle.std.proofs.Common.{◌≡◌, [], ◌∷◌, ◌++◌, length, sym, ◌∙◌, ap, arith}
 use Rattle.std.specs.Prelude.{map}
 use Rattle.guppy_core.specs.Sccs.{parts}
-use Rattle.guppy_core.proofs.Parts.{parts-last, length-parts, no_parts, no_parts-end, range-map, bounds_last, bounds_front}
+use Rattle.guppy_core.proofs.Parts.{parts-last, parts_less, no_parts, no_parts-end, range-map, bounds_last, bounds_front}
 use Rattle.guppy_core.proofs.scc.iter.AllSccsDoubleEndedIterator.next_back.Goals as goal
 
 pub returns-clause-steps : goal.returns-clause-steps
@@ -15,12 +15,8 @@ returns-clause-steps g c =
 
 pub returns-clause-goes : goal.returns-clause-goes
 returns-clause-goes g c =
-    let xs = map g.Ix.IndexType.index_of c.self.inside.positions.now in
-    let some = c.in_ok-start.ensures.item.3.0 in
     let count = c.in_ok-end.ensures.cases.1 in
-    let old : length c.args.self.now ≡ length c.self.inside.bounds.now - 1 = ap length (sym c.self.view_is) ∙ length-parts xs c.self.inside.bounds.now in
-    let new = length-parts xs c.in_ok-end.rest.now in
-    let less : length (parts c.in_ok-end.rest.now xs) < length c.args.self.now = omega arith in
+    let less = parts_less (map g.Ix.IndexType.index_of c.self.inside.positions.now) c.self.inside.bounds.now c.in_ok-end.rest.now _ c.self.view_is c.in_ok-start.ensures.item.3.0 (omega arith) in
     record { on = λ finite. (tt, tt, less); keeps = tt; rests = λ finite. tt }
 
 pub returns-in_err-start-clause-steps : goal.returns-in_err-start-clause-steps

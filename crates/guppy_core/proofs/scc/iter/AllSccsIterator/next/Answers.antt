@@ -1,7 +1,7 @@
-use Rattle.std.proofs.Common.{◌≡◌, ◌<◌, ◌-◌, [], ◌∷◌, length, sym, ◌∙◌, ap, arith}
+use Rattle.std.proofs.Common.{◌≡◌, [], ◌∷◌, length, sym, ◌∙◌, ap, arith}
 use Rattle.std.specs.Prelude.{map}
 use Rattle.guppy_core.specs.Sccs.{parts}
-use Rattle.guppy_core.proofs.Parts.{parts-first, length-parts, no_parts, no_parts-front, range-map, bounds_first, bounds_tail}
+use Rattle.guppy_core.proofs.Parts.{parts-first, parts_less, no_parts, no_parts-front, range-map, bounds_first, bounds_tail}
 use Rattle.guppy_core.proofs.scc.iter.AllSccsIterator.next.Goals as goal
 
 pub invariant_of-self : goal.invariant_of-self
@@ -38,10 +38,6 @@ slice_bounds-result-end g c =
 
 pub returns-clause-goes : goal.returns-clause-goes
 returns-clause-goes g c =
-    let xs = map g.Ix.IndexType.index_of c.self.inside.positions.now in
-    let some = c.in_ok-end.ensures.item.3.0 in
     let count = c.in_ok-start.ensures.cases.1 in
-    let old : length c.args.self.now ≡ length c.self.inside.bounds.now - 1 = ap length (sym c.self.view_is) ∙ length-parts xs c.self.inside.bounds.now in
-    let new = length-parts xs c.in_ok-start.rest.now in
-    let less : length (parts c.in_ok-start.rest.now xs) < length c.args.self.now = omega arith in
+    let less = parts_less (map g.Ix.IndexType.index_of c.self.inside.positions.now) c.self.inside.bounds.now c.in_ok-start.rest.now _ c.self.view_is c.in_ok-end.ensures.item.3.0 (omega arith) in
     record { on = λ finite. (tt, tt, less); keeps = tt; rests = λ finite. tt }

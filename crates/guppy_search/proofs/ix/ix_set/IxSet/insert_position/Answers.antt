@@ -7,18 +7,10 @@ use Rattle.guppy_search.proofs.Marks.{below_count, word_within, word_there, leng
 use Rattle.guppy_search.proofs.ix.ix_set.IxSet.insert_position.Goals as goal
 
 pub index-word-requires : goal.index-word-requires
-index-word-requires g c =
-    let i = c.self.inside in
-    let within = word_there i.words.items i.count c.args.position _ c.self.view_is c.requires.in_range c.self.invariant.room in
-    let ok = i.words.ok in
-    omega arith
+index-word-requires g c = omega (arith, word_there _ _ _ _ c.self.view_is c.requires.in_range c.self.invariant.room, c.self.inside.words.ok.0)
 
 pub index_mut-requires : goal.index_mut-requires
-index_mut-requires g c =
-    let i = c.self.inside in
-    let within = word_there i.words.items i.count c.args.position _ c.self.view_is c.requires.in_range c.self.invariant.room in
-    let ok = i.words.ok in
-    omega arith
+index_mut-requires g c = omega (arith, word_there _ _ _ _ c.self.view_is c.requires.in_range c.self.invariant.room, c.self.inside.words.ok.0)
 
 pub overflow_add-self : goal.overflow_add-self
 overflow_add-self g c =
