@@ -172,19 +172,19 @@ and_not a b = bit_and a (bit_not w64 b)
 module _ (Makes : ℕ → ℕ → ℕ → Type 0) where
   pub or_bits : ((a b made : ℕ) → Makes a b made → made ≡ bit_or a b) → IsBitwise Makes (λ x y. x || y)
   or_bits makes = by_bits Makes bit_or makes (λ x y. x || y) refl (λ a b i k l.
-    rw (bit_at_or a b i) (by_digits max (λ x y. x || y) refl refl refl refl (bit_at a i) (bit_at b i) (bit_at-lt a i) (bit_at-lt b i)))
+      rw (bit_at_or a b i) (by_digits max (λ x y. x || y) refl refl refl refl (bit_at a i) (bit_at b i) (bit_at-lt a i) (bit_at-lt b i)))
 
   pub and_bits : ((a b made : ℕ) → Makes a b made → made ≡ bit_and a b) → IsBitwise Makes (λ x y. x && y)
   and_bits makes = by_bits Makes bit_and makes (λ x y. x && y) refl (λ a b i k l.
-    rw (bit_at_and a b i) (by_digits min (λ x y. x && y) refl refl refl refl (bit_at a i) (bit_at b i) (bit_at-lt a i) (bit_at-lt b i)))
+      rw (bit_at_and a b i) (by_digits min (λ x y. x && y) refl refl refl refl (bit_at a i) (bit_at b i) (bit_at-lt a i) (bit_at-lt b i)))
 
   pub xor_bits : ((a b made : ℕ) → Makes a b made → made ≡ bit_xor a b) → IsBitwise Makes differ
   xor_bits makes = by_bits Makes bit_xor makes differ refl (λ a b i k l.
-    rw (bit_at_xor a b i) (by_digits (λ x y. (x + y) % 2) differ refl refl refl refl (bit_at a i) (bit_at b i) (bit_at-lt a i) (bit_at-lt b i)))
+      rw (bit_at_xor a b i) (by_digits (λ x y. (x + y) % 2) differ refl refl refl refl (bit_at a i) (bit_at b i) (bit_at-lt a i) (bit_at-lt b i)))
 
   pub and_not_bits : ((a b made : ℕ) → Makes a b made → made ≡ and_not a b) → IsBitwise Makes except
   and_not_bits makes = by_bits Makes and_not makes except refl (λ a b i k l.
-    rw (bit_at_and a (bit_not w64 b) i, bit_at_not w64 b i k l) (by_digits (λ x y. min x (1 - y)) except refl refl refl refl (bit_at a i) (bit_at b i) (bit_at-lt a i) (bit_at-lt b i)))
+      rw (bit_at_and a (bit_not w64 b) i, bit_at_not w64 b i k l) (by_digits (λ x y. min x (1 - y)) except refl refl refl refl (bit_at a i) (bit_at b i) (bit_at-lt a i) (bit_at-lt b i)))
 
 -- what the set has at a position, in words of membership
 

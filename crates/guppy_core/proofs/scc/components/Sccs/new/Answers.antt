@@ -1,4 +1,4 @@
-use Rattle.std.proofs.Common.{◌≡◌, List, ℕ, length, get_or, subst, refl, arith}
+use Rattle.std.proofs.Common.{length, get_or, subst, refl, arith}
 use Rattle.std.specs.Prelude.{map}
 use Rattle.std.proofs.lemmas.Option.{slice_get-get_or}
 use Rattle.guppy_search.proofs.Exits.{if_ok}
