@@ -13,6 +13,7 @@ use Rattle.guppy_search.specs.Reach.{Step}
 use Rattle.guppy_search.proofs.Rows.{row_links, row_has}
 use Rattle.guppy_search.specs.IxSet.{has}
 use Rattle.guppy_core.specs.Finish.{IsFinishList}
+use Rattle.guppy_core.specs.Noted.{note, AreNoted}
 use Rattle.guppy_core.specs.declared.topo.finish.Frame.{Frame}
 use Rattle.guppy_core.proofs.Inserted.{has-set_kept}
 use Rattle.guppy_search.proofs.Members.{IsIn-below, has-replicate}
@@ -79,6 +80,12 @@ looked_from {N} {E} d keep graph now same x k n y e b within number l is = recor
   far = l.3;
   kept = ap keep l.4 ∙ sym is;
 }
+
+-- a look at a link, and what its note says
+pub looked_noted : {N E : Type 0} (d : DependencyDirection) (keep : E → Bool) (graph now : GraphValue N E) → now ≡ graph → (notes : List Bool) → AreNoted keep graph.links notes → (x k n y : ℕ) (e : E) (b : Bool) → k < degree d graph.links x → n ≡ get_or (links_at d now.links x) k 0 → (l : Link E) × (slice_get now.links n ≡ Some l) × (near_end d l ≡ x) × (far_end d l ≡ y) × (l.edge ≡ e) → b ≡ note notes n → Looked d keep graph.links x k y b
+looked_noted {N} {E} d keep graph now same notes noted x k n y e b within number l is =
+    let found : slice_get graph.links n ≡ Some l.0 = subst (λ (z : GraphValue N E). slice_get z.links n ≡ Some l.0) same l.1 in
+    looked_from d keep graph now same x k n y e b within number l (is ∙ (noted n l.0 found ∙ ap keep l.4))
 
 pub looked_below : {N E : Type 0} (d : DependencyDirection) (keep : E → Bool) (graph : GraphValue N E) → IsGraph graph → (x k y : ℕ) (b : Bool) → Looked d keep graph.links x k y b → y < length graph.nodes
 looked_below d keep graph g x k y b l = subst (λ z. z < length graph.nodes) l.far (far_end_below d graph.links (length graph.nodes) (get_or (links_at d graph.links x) k 0) l.link l.found g.ends)

@@ -11,6 +11,7 @@ pub mod Starting
 pub mod Included
 pub mod Lengths
 pub mod Entering
+pub mod Noting
 pub mod Indexing
 pub mod Ranks
 pub mod Reaching

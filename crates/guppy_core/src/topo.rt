@@ -4,5 +4,5 @@ mod index;
 mod lists;
 mod roots;
 
-pub(crate) use finish::finish_order_of_all;
+pub(crate) use finish::finish_order;
 pub use index::TopoWithCycles;

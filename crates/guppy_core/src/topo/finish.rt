@@ -1,7 +1,8 @@
-ghost use Rattle.std.specs.Prelude.{◌≡◌, ℕ, ◌+◌, ◌<◌, ◌≤◌, ◌^◌, Bool, true, List, length, IfOk, All, Contains};
+ghost use Rattle.std.specs.Prelude.{◌≡◌, ℕ, ◌+◌, ◌<◌, ◌≤◌, ◌^◌, Bool, List, length, IfOk, All, Contains};
 ghost use Rattle.guppy_search.specs.declared.ix.direction.DependencyDirection.TheVariants.{Forward};
-ghost use Rattle.guppy_search.specs.Reach.{LinkStep, Step};
+ghost use Rattle.guppy_search.specs.Reach.{Step};
 ghost use Rattle.guppy_core.specs.Finish.{IsFinishList};
+ghost use Rattle.guppy_core.specs.Noted.{note, AreNoted};
 
 use guppy_search::{CountedGraph, DependencyDirection, GraphSpec, IxSet};
 use std::alloc::AllocError;
@@ -13,18 +14,28 @@ pub(crate) struct Frame {
     pub(crate) next: usize,
 }
 
+/// Whether the link with the number is noted as kept. Past the list's end each one is.
+fn is_kept(notes: &[bool], number: usize) -> bool
+    ensures { result ≡ note notes.now number }
+{
+    match notes.get(number) {
+        Some(noted) => *noted,
+        None => true,
+    }
+}
+
 /// The positions that kept links lead to from the starts, in the order in which a depth-first
-/// search finishes them. Each link is looked at once at most.
-pub(crate) fn finish_order<G: GraphSpec, F: Fn(&G::Edge) -> bool>(
+/// search finishes them. Each link is looked at once at most. The notes say which links are kept;
+/// where there are none, all are.
+pub(crate) fn finish_order<G: GraphSpec>(
     graph: &mut CountedGraph<'_, G>,
     starts: &[usize],
-    keep: &F,
+    notes: &[bool],
 ) -> Result<Vec<usize>, AllocError>
     ghost kept: { G.Edge → Bool }
     requires starts { All (λ p. p < length graph.old.graph.nodes) starts.now }
     requires room { graph.old.looks + length graph.old.graph.links < 2 ^ 64 }
-    requires callable { F.IsAlwaysCallable keep.now }
-    requires keeps { (e : _) (b : Bool) → F.post keep.now e b → b ≡ kept e.now }
+    requires noted { AreNoted kept graph.old.graph.links notes.now }
     ensures order { IfOk result (λ order. IsFinishList (Step Forward kept graph.old.graph.links)
         (Contains starts.now) order.items) }
     ensures positions { IfOk result
@@ -45,7 +56,7 @@ pub(crate) fn finish_order<G: GraphSpec, F: Fn(&G::Edge) -> bool>(
         }
         while let Some(frame) = frames.pop() {
             if frame.next < graph.leaving_at(frame.position, DependencyDirection::Forward) {
-                let (_number, far, edge) = graph.look_at(
+                let (number, far, _edge) = graph.look_at(
                     frame.position,
                     DependencyDirection::Forward,
                     frame.next,
@@ -54,7 +65,7 @@ pub(crate) fn finish_order<G: GraphSpec, F: Fn(&G::Edge) -> bool>(
                     position: frame.position,
                     next: frame.next + 1,
                 })?;
-                if keep(edge) && seen.insert_position(far) {
+                if is_kept(notes, number) && seen.insert_position(far) {
                     frames.push(Frame {
                         position: far,
                         next: 0,
@@ -66,27 +77,4 @@ pub(crate) fn finish_order<G: GraphSpec, F: Fn(&G::Edge) -> bool>(
         }
     }
     Ok(order)
-}
-
-/// The same over all links, each of which `every` answers true for.
-//
-// A call that passes a closure of a generic function can't say which links it keeps: so the caller
-// passes the closure, and the call below says it.
-pub(crate) fn finish_order_of_all<G: GraphSpec, F: Fn(&G::Edge) -> bool>(
-    graph: &mut CountedGraph<'_, G>,
-    starts: &[usize],
-    every: &F,
-) -> Result<Vec<usize>, AllocError>
-    requires starts { All (λ p. p < length graph.old.graph.nodes) starts.now }
-    requires room { graph.old.looks + length graph.old.graph.links < 2 ^ 64 }
-    requires callable { F.IsAlwaysCallable every.now }
-    requires keeps { (e : _) (b : Bool) → F.post every.now e b → b ≡ true }
-    ensures order { IfOk result (λ order. IsFinishList (LinkStep Forward graph.old.graph.links)
-        (Contains starts.now) order.items) }
-    ensures positions { IfOk result
-        (λ order. All (λ p. p < length graph.old.graph.nodes) order.items) }
-    ensures looks { graph.new.looks ≤ graph.old.looks + length graph.old.graph.links }
-    ensures graph { graph.new.graph ≡ graph.old.graph }
-{
-    finish_order(graph, starts, every)
 }

@@ -6,7 +6,7 @@ ghost use Rattle.guppy_core.specs.Listing.{IsListing, place_in};
 ghost use Rattle.guppy_core.specs.Topo.{IsTopo, HasNoCycle, LeadsOn};
 
 use crate::topo::finish::finish_order;
-use crate::topo::lists::{absent, places, set_of};
+use crate::topo::lists::{absent, link_count, places, set_of};
 use crate::topo::roots::roots;
 use guppy_search::{CountedGraph, GraphSpec, IndexType, IxSet};
 use std::alloc::AllocError;
@@ -43,8 +43,8 @@ impl<Ix: IndexType> TopoWithCycles<Ix> {
     /// The index by the links that `keep` answers true for. `keep` owes one answer for each value,
     /// and may always be called; `looks` plus twice the link count fits u64.
     ///
-    /// Looks at each link at most twice, also where it fails. Takes memory for some numbers a node,
-    /// and fails only where there is none.
+    /// Looks at each link at most twice, also where it fails. Takes memory for some numbers a node
+    /// and a byte a link, and fails only where there is none.
     pub fn new<G: GraphSpec<Ix = Ix>, F: Fn(&G::Edge) -> bool + Drop>(
         graph: &mut CountedGraph<'_, G>,
         keep: F,
@@ -126,8 +126,9 @@ fn order_of<G: GraphSpec, F: Fn(&G::Edge) -> bool>(
 {
     let alloc = graph.alloc();
     let count = graph.node_count();
-    let starts = roots(graph, keep)?;
-    let mut order = finish_order(graph, starts.as_slice(), keep)?;
+    let mut notes = vec![in alloc; true; link_count(graph)]?;
+    let starts = roots(graph, keep, &mut notes)?;
+    let mut order = finish_order(graph, starts.as_slice(), notes.as_slice())?;
     order.reverse();
     let reached: IxSet<G> = set_of(alloc, count, order.as_slice())?;
     let rest = absent(alloc, &reached)?;

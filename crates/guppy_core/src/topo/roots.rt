@@ -4,17 +4,20 @@ ghost use Rattle.guppy_search.specs.IxSet.{IsIn};
 ghost use Rattle.guppy_search.specs.Links.{links_at};
 ghost use Rattle.guppy_search.specs.Reach.{Step};
 ghost use Rattle.guppy_core.specs.Listing.{Stands};
+ghost use Rattle.guppy_core.specs.Noted.{AreNoted, AreNotedBelow};
 ghost use Rattle.guppy_core.specs.Topo.{IsSteppedTo, IsIndexRoot, LeadsAway};
 
 use crate::topo::lists::absent;
 use guppy_search::{CountedGraph, DependencyDirection, GraphSpec, IxSet};
 use std::alloc::AllocError;
 
-/// Puts the other positions into the set to which kept links lead from this one.
+/// Puts the other positions into the set to which kept links lead from this one, and notes of each
+/// link that leaves it whether it is kept.
 fn enter_from<G: GraphSpec, F: Fn(&G::Edge) -> bool>(
     graph: &mut CountedGraph<'_, G>,
     position: usize,
     keep: &F,
+    notes: &mut [bool],
     set: &mut IxSet<G>,
 )
     ghost kept: { G.Edge → Bool }
@@ -24,6 +27,9 @@ fn enter_from<G: GraphSpec, F: Fn(&G::Edge) -> bool>(
         (links_at Forward graph.old.graph.links position) < 2 ^ 64 }
     requires callable { F.IsAlwaysCallable keep.now }
     requires keeps { (e : _) (b : Bool) → F.post keep.now e b → b ≡ kept e.now }
+    requires notes { length notes.old ≡ length graph.old.graph.links }
+    requires noted { AreNotedBelow kept graph.old.graph.links position notes.old }
+    ensures noted { AreNotedBelow kept graph.old.graph.links (position + 1) notes.new }
     ensures count { length set.new ≡ length graph.old.graph.nodes }
     ensures members { (p : ℕ) → IsIn set.new p
         ↔ (IsIn set.old p ⊎ LeadsAway (Step Forward kept graph.old.graph.links) position p) }
@@ -32,22 +38,27 @@ fn enter_from<G: GraphSpec, F: Fn(&G::Edge) -> bool>(
     ensures graph { graph.new.graph ≡ graph.old.graph }
 {
     for k in 0..graph.leaving_at(position, DependencyDirection::Forward) {
-        let (_number, far, edge) = graph.look_at(position, DependencyDirection::Forward, k);
-        if far != position && keep(edge) {
+        let (number, far, edge) = graph.look_at(position, DependencyDirection::Forward, k);
+        let is_kept = keep(edge);
+        notes[number] = is_kept;
+        if is_kept && far != position {
             set.insert_position(far);
         }
     }
 }
 
-/// The positions to which a kept link leads from another one.
+/// The positions to which a kept link leads from another one. Notes of each link whether it is kept.
 fn entered<G: GraphSpec, F: Fn(&G::Edge) -> bool>(
     graph: &mut CountedGraph<'_, G>,
     keep: &F,
+    notes: &mut [bool],
 ) -> Result<IxSet<G>, AllocError>
     ghost kept: { G.Edge → Bool }
     requires room { graph.old.looks + length graph.old.graph.links < 2 ^ 64 }
     requires callable { F.IsAlwaysCallable keep.now }
     requires keeps { (e : _) (b : Bool) → F.post keep.now e b → b ≡ kept e.now }
+    requires notes { length notes.old ≡ length graph.old.graph.links }
+    ensures noted { IfOk result (λ _. AreNoted kept graph.old.graph.links notes.new) }
     ensures count { IfOk result (λ set. length set ≡ length graph.old.graph.nodes) }
     ensures members { IfOk result
         (λ set. (p : ℕ) → IsIn set p ↔ IsSteppedTo (Step Forward kept graph.old.graph.links) p) }
@@ -56,26 +67,30 @@ fn entered<G: GraphSpec, F: Fn(&G::Edge) -> bool>(
 {
     let mut set = IxSet::empty(graph.alloc(), graph.node_count())?;
     for position in 0..graph.node_count() {
-        enter_from(graph, position, keep, &mut set);
+        enter_from(graph, position, keep, notes, &mut set);
     }
     Ok(set)
 }
 
-/// The positions to which no kept link leads from another one, ascending.
+/// The positions to which no kept link leads from another one, ascending. Notes of each link
+/// whether it is kept.
 pub(crate) fn roots<G: GraphSpec, F: Fn(&G::Edge) -> bool>(
     graph: &mut CountedGraph<'_, G>,
     keep: &F,
+    notes: &mut [bool],
 ) -> Result<Vec<usize>, AllocError>
     ghost kept: { G.Edge → Bool }
     requires room { graph.old.looks + length graph.old.graph.links < 2 ^ 64 }
     requires callable { F.IsAlwaysCallable keep.now }
     requires keeps { (e : _) (b : Bool) → F.post keep.now e b → b ≡ kept e.now }
+    requires notes { length notes.old ≡ length graph.old.graph.links }
+    ensures noted { IfOk result (λ _. AreNoted kept graph.old.graph.links notes.new) }
     ensures below { IfOk result (λ roots. All (λ p. p < length graph.old.graph.nodes) roots.items) }
     ensures roots { IfOk result (λ roots. (p : ℕ) → Stands roots.items p
         ↔ IsIndexRoot (Step Forward kept graph.old.graph.links) (length graph.old.graph.nodes) p) }
     ensures looks { graph.new.looks ≤ graph.old.looks + length graph.old.graph.links }
     ensures graph { graph.new.graph ≡ graph.old.graph }
 {
-    let entered = entered(graph, keep)?;
+    let entered = entered(graph, keep, notes)?;
     absent(graph.alloc(), &entered)
 }

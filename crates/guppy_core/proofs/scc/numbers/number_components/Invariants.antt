@@ -11,3 +11,6 @@ invariant-loop-root g l = record {
   graph : l.graph.graph ≡ l.fn.graph.graph;
   paid : l.graph.looks + links_left Reverse l.fn.graph.graph.links l.seen ≤ l.fn.graph.looks + 2 * length l.fn.graph.graph.links;
 }
+
+abbrev pub ghost-finish_order : goal.ghost-finish_order
+ghost-finish_order g a = λ _. true

@@ -3,10 +3,10 @@ use Rattle.std.proofs.lemmas.Bool.{not-true, not-false}
 use Rattle.std.proofs.lemmas.List.{append-nil}
 use Rattle.guppy_search.proofs.Exits.{if_ok}
 use Rattle.guppy_core.proofs.Costs.{degree, fits_below}
-use Rattle.guppy_core.proofs.Finishing.{looked_from, looked_below, looks_paid, finishing_first, start_old, start_new, finishing_below, look_paid, finishing_done, link_skipped, link_old, link_new, finishing_all, finishing_positions, inserted_old, smaller_done, smaller_step, smaller_new}
+use Rattle.guppy_core.proofs.Finishing.{looked_noted, looked_below, looks_paid, finishing_first, start_old, start_new, finishing_below, look_paid, finishing_done, link_skipped, link_old, link_new, finishing_all, finishing_positions, inserted_old, smaller_done, smaller_step, smaller_new}
 use Rattle.guppy_search.specs.declared.ix.direction.DependencyDirection.TheVariants.{Forward}
 use Rattle.guppy_search.proofs.Lists.{no_items}
-use Rattle.guppy_core.proofs.topo.finish.finish_order.Goals.{then-insert_position+in_ok-push, else-insert_position, else-keep-via-then-keep+else-insert_position-2, else-keep-via-else-keep}
+use Rattle.guppy_core.proofs.topo.finish.finish_order.Goals.{then-insert_position+in_ok-push, else-insert_position, else-is_kept-via-then-is_kept+else-insert_position-2, else-is_kept-via-else-is_kept}
 use Rattle.guppy_core.proofs.topo.finish.finish_order.Goals as goal
 
 pub loop-start-init : goal.loop-start-init
@@ -28,7 +28,7 @@ loop-frame-init g c =
       | then-insert_position+in_ok-push w ↦
           let lacks = not-true _ (sym c.insert_position.ensures.is_new ∙ w.if-insert_position.true) in
           rw (w.frames-is, w.in_ok-push.ensures.items, no_items _ c.loop-start.invariant.empty, c.insert_position.ensures.after) (record {
-            search = start_new Forward K graph c.args.starts.now _ _ _ _ _ s _ refl c.loop-start-test.true (c.requires.1.1.1.1.1.0 c.loop-start.start-index 0 c.loop-start-test.true) lacks;
+            search = start_new Forward K graph c.args.starts.now _ _ _ _ _ s _ refl c.loop-start-test.true (c.requires.1.1.1.1.0 c.loop-start.start-index 0 c.loop-start-test.true) lacks;
             graph = c.loop-start.invariant.graph;
           })
       | else-insert_position w ↦
@@ -60,16 +60,16 @@ look_at-number-requires-clause-room g c =
     let s = rw c.in-Some.ensures.items at c.loop-frame.invariant.search in
     let len : c.leaving_at.result ≡ degree {E = g.row.G-Edge.Denot} Forward graph.links c.in-Some.frame.position = rw (← c.loop-frame.invariant.graph) c.leaving_at.ensures.count in
     let more : c.in-Some.frame.next < degree {E = g.row.G-Edge.Denot} Forward graph.links c.in-Some.frame.position = rw (← len) c.if-frame-leaving_at.true in
-    let room = c.requires.1.1.1.1.1.1.0 in
+    let room = c.requires.1.1.1.1.1.0 in
     fits_below _ _ (look_paid Forward K graph c.args.starts.now (c.loop-start.start-index + 1) (c.args.graph.now.looks + length graph.links) _ _ _ _ _ s more) room
 
-pub insert_position-requires-then-keep : goal.insert_position-requires-then-keep
-insert_position-requires-then-keep g c =
+pub insert_position-requires-then-is_kept : goal.insert_position-requires-then-is_kept
+insert_position-requires-then-is_kept g c =
     let K = g.kept in
     let graph = c.args.graph.now.graph in
     let len : c.leaving_at.result ≡ degree {E = g.row.G-Edge.Denot} Forward graph.links c.in-Some.frame.position = rw (← c.loop-frame.invariant.graph) c.leaving_at.ensures.count in
     let more : c.in-Some.frame.next < degree {E = g.row.G-Edge.Denot} Forward graph.links c.in-Some.frame.position = rw (← len) c.if-frame-leaving_at.true in
-    let l = looked_from {N = g.row.G-Node.Denot} {E = g.row.G-Edge.Denot} Forward K graph c.loop-frame.graph.graph c.loop-frame.invariant.graph c.in-Some.frame.position c.in-Some.frame.next c.look_at-number.result.0 c.look_at-number.result.1 c.look_at-number.result.2.now c.keep.result more c.look_at-number.ensures.number c.look_at-number.ensures.link (c.requires.1.1.1.1.1.1.1.1 _ _ c.keep.ensures) in
+    let l = looked_noted {N = g.row.G-Node.Denot} {E = g.row.G-Edge.Denot} Forward K graph c.loop-frame.graph.graph c.loop-frame.invariant.graph c.args.notes.now c.requires.1.1.1.1.1.1 c.in-Some.frame.position c.in-Some.frame.next c.look_at-number.result.0 c.look_at-number.result.1 c.look_at-number.result.2.now c.is_kept.result more c.look_at-number.ensures.number c.look_at-number.ensures.link c.is_kept.ensures in
     let is_graph = rw c.loop-frame.invariant.graph at c.leaving_at.ensures.graph in
     let below : c.look_at-number.result.1 < length graph.nodes = looked_below Forward K graph is_graph _ _ _ _ l in
     let same = c.loop-frame.invariant.search.state.limit_is in
@@ -91,13 +91,13 @@ loop-frame-smaller-then-insert_position-2 g c =
     let graph = c.args.graph.now.graph in
     let len : c.leaving_at.result ≡ degree {E = g.row.G-Edge.Denot} Forward graph.links c.in-Some.frame.position = rw (← c.loop-frame.invariant.graph) c.leaving_at.ensures.count in
     let more : c.in-Some.frame.next < degree {E = g.row.G-Edge.Denot} Forward graph.links c.in-Some.frame.position = rw (← len) c.if-frame-leaving_at.true in
-    let l = looked_from {N = g.row.G-Node.Denot} {E = g.row.G-Edge.Denot} Forward K graph c.loop-frame.graph.graph c.loop-frame.invariant.graph c.in-Some.frame.position c.in-Some.frame.next c.look_at-number.result.0 c.look_at-number.result.1 c.look_at-number.result.2.now c.keep.result more c.look_at-number.ensures.number c.look_at-number.ensures.link (c.requires.1.1.1.1.1.1.1.1 _ _ c.keep.ensures) in
+    let l = looked_noted {N = g.row.G-Node.Denot} {E = g.row.G-Edge.Denot} Forward K graph c.loop-frame.graph.graph c.loop-frame.invariant.graph c.args.notes.now c.requires.1.1.1.1.1.1 c.in-Some.frame.position c.in-Some.frame.next c.look_at-number.result.0 c.look_at-number.result.1 c.look_at-number.result.2.now c.is_kept.result more c.look_at-number.ensures.number c.look_at-number.ensures.link c.is_kept.ensures in
     let is_graph = rw c.loop-frame.invariant.graph at c.leaving_at.ensures.graph in
     let below : c.look_at-number.result.1 < length graph.nodes = looked_below Forward K graph is_graph _ _ _ _ l in
     let same = c.loop-frame.invariant.search.state.limit_is in
     let within : c.look_at-number.result.1 < length c.loop-frame.seen = rw same below in
-    let lacks = not-true _ (sym c.insert_position-then-keep.ensures.is_new ∙ c.if-insert_position-2.true) in
-    rw c.insert_position-then-keep.ensures.after (smaller_new (degree {E = g.row.G-Edge.Denot} Forward graph.links) c.loop-frame.seen c.loop-frame.frames.items c.pop.new.self.items c.push-then-frame-leaving_at.new.self.items c.in-Some.frame c.in-Some.ensures.items more c.in_ok-push-2.ensures.items c.look_at-number.result.1 c.push-then-insert_position-2.new.self.items lacks within c.in_ok-push-3.ensures.items)
+    let lacks = not-true _ (sym c.insert_position-then-is_kept.ensures.is_new ∙ c.if-insert_position-2.true) in
+    rw c.insert_position-then-is_kept.ensures.after (smaller_new (degree {E = g.row.G-Edge.Denot} Forward graph.links) c.loop-frame.seen c.loop-frame.frames.items c.pop.new.self.items c.push-then-frame-leaving_at.new.self.items c.in-Some.frame c.in-Some.ensures.items more c.in_ok-push-2.ensures.items c.look_at-number.result.1 c.push-then-insert_position-2.new.self.items lacks within c.in_ok-push-3.ensures.items)
 
 pub loop-frame-preserved-then-insert_position-2 : goal.loop-frame-preserved-then-insert_position-2
 loop-frame-preserved-then-insert_position-2 g c =
@@ -106,44 +106,44 @@ loop-frame-preserved-then-insert_position-2 g c =
     let s = rw c.in-Some.ensures.items at c.loop-frame.invariant.search in
     let len : c.leaving_at.result ≡ degree {E = g.row.G-Edge.Denot} Forward graph.links c.in-Some.frame.position = rw (← c.loop-frame.invariant.graph) c.leaving_at.ensures.count in
     let more : c.in-Some.frame.next < degree {E = g.row.G-Edge.Denot} Forward graph.links c.in-Some.frame.position = rw (← len) c.if-frame-leaving_at.true in
-    let l = looked_from {N = g.row.G-Node.Denot} {E = g.row.G-Edge.Denot} Forward K graph c.loop-frame.graph.graph c.loop-frame.invariant.graph c.in-Some.frame.position c.in-Some.frame.next c.look_at-number.result.0 c.look_at-number.result.1 c.look_at-number.result.2.now c.keep.result more c.look_at-number.ensures.number c.look_at-number.ensures.link (c.requires.1.1.1.1.1.1.1.1 _ _ c.keep.ensures) in
+    let l = looked_noted {N = g.row.G-Node.Denot} {E = g.row.G-Edge.Denot} Forward K graph c.loop-frame.graph.graph c.loop-frame.invariant.graph c.args.notes.now c.requires.1.1.1.1.1.1 c.in-Some.frame.position c.in-Some.frame.next c.look_at-number.result.0 c.look_at-number.result.1 c.look_at-number.result.2.now c.is_kept.result more c.look_at-number.ensures.number c.look_at-number.ensures.link c.is_kept.ensures in
     let is_graph = rw c.loop-frame.invariant.graph at c.leaving_at.ensures.graph in
     let below : c.look_at-number.result.1 < length graph.nodes = looked_below Forward K graph is_graph _ _ _ _ l in
-    let lacks = not-true _ (sym c.insert_position-then-keep.ensures.is_new ∙ c.if-insert_position-2.true) in
-    rw (c.look_at-number.ensures.counted, c.insert_position-then-keep.ensures.after, c.in_ok-push-3.ensures.items, c.in_ok-push-2.ensures.items) (record {
-      search = link_new Forward K graph c.args.starts.now (c.loop-start.start-index + 1) (c.args.graph.now.looks + length graph.links) _ _ _ _ _ s c.look_at-number.result.1 c.keep.result l c.if-keep.true lacks below;
+    let lacks = not-true _ (sym c.insert_position-then-is_kept.ensures.is_new ∙ c.if-insert_position-2.true) in
+    rw (c.look_at-number.ensures.counted, c.insert_position-then-is_kept.ensures.after, c.in_ok-push-3.ensures.items, c.in_ok-push-2.ensures.items) (record {
+      search = link_new Forward K graph c.args.starts.now (c.loop-start.start-index + 1) (c.args.graph.now.looks + length graph.links) _ _ _ _ _ s c.look_at-number.result.1 c.is_kept.result l c.if-is_kept.true lacks below;
       graph = c.loop-frame.invariant.graph;
     })
 
-pub loop-frame-smaller-else-keep : goal.loop-frame-smaller-else-keep
-loop-frame-smaller-else-keep g c =
+pub loop-frame-smaller-else-is_kept : goal.loop-frame-smaller-else-is_kept
+loop-frame-smaller-else-is_kept g c =
     let graph = c.args.graph.now.graph in
     let len : c.leaving_at.result ≡ degree {E = g.row.G-Edge.Denot} Forward graph.links c.in-Some.frame.position = rw (← c.loop-frame.invariant.graph) c.leaving_at.ensures.count in
     let more : c.in-Some.frame.next < degree {E = g.row.G-Edge.Denot} Forward graph.links c.in-Some.frame.position = rw (← len) c.if-frame-leaving_at.true in
-    let same : c.else-keep.seen ≡ c.loop-frame.seen = elim c.else-keep.branch [
-      | else-keep-via-then-keep+else-insert_position-2 w ↦ w.seen-is ∙ inserted_old _ _ _ _ w.insert_position-then-keep.ensures.is_new w.insert_position-then-keep.ensures.after w.if-insert_position-2.false
-      | else-keep-via-else-keep w ↦ w.seen-is
+    let same : c.else-is_kept.seen ≡ c.loop-frame.seen = elim c.else-is_kept.branch [
+      | else-is_kept-via-then-is_kept+else-insert_position-2 w ↦ w.seen-is ∙ inserted_old _ _ _ _ w.insert_position-then-is_kept.ensures.is_new w.insert_position-then-is_kept.ensures.after w.if-insert_position-2.false
+      | else-is_kept-via-else-is_kept w ↦ w.seen-is
     ] in
     rw same (smaller_step (degree {E = g.row.G-Edge.Denot} Forward graph.links) c.loop-frame.seen c.loop-frame.frames.items c.pop.new.self.items c.push-then-frame-leaving_at.new.self.items c.in-Some.frame c.in-Some.ensures.items more c.in_ok-push-2.ensures.items)
 
-pub loop-frame-preserved-else-keep : goal.loop-frame-preserved-else-keep
-loop-frame-preserved-else-keep g c =
+pub loop-frame-preserved-else-is_kept : goal.loop-frame-preserved-else-is_kept
+loop-frame-preserved-else-is_kept g c =
     let K = g.kept in
     let graph = c.args.graph.now.graph in
     let s = rw c.in-Some.ensures.items at c.loop-frame.invariant.search in
     let len : c.leaving_at.result ≡ degree {E = g.row.G-Edge.Denot} Forward graph.links c.in-Some.frame.position = rw (← c.loop-frame.invariant.graph) c.leaving_at.ensures.count in
     let more : c.in-Some.frame.next < degree {E = g.row.G-Edge.Denot} Forward graph.links c.in-Some.frame.position = rw (← len) c.if-frame-leaving_at.true in
-    let l = looked_from {N = g.row.G-Node.Denot} {E = g.row.G-Edge.Denot} Forward K graph c.loop-frame.graph.graph c.loop-frame.invariant.graph c.in-Some.frame.position c.in-Some.frame.next c.look_at-number.result.0 c.look_at-number.result.1 c.look_at-number.result.2.now c.keep.result more c.look_at-number.ensures.number c.look_at-number.ensures.link (c.requires.1.1.1.1.1.1.1.1 _ _ c.keep.ensures) in
-    elim c.else-keep.branch [
-      | else-keep-via-then-keep+else-insert_position-2 w ↦
-          let old = not-false _ (sym w.insert_position-then-keep.ensures.is_new ∙ w.if-insert_position-2.false) in
-          rw (w.seen-is, inserted_old _ _ _ _ w.insert_position-then-keep.ensures.is_new w.insert_position-then-keep.ensures.after w.if-insert_position-2.false, c.look_at-number.ensures.counted, c.in_ok-push-2.ensures.items) (record {
-            search = link_old Forward K graph c.args.starts.now (c.loop-start.start-index + 1) (c.args.graph.now.looks + length graph.links) _ _ _ _ _ s c.look_at-number.result.1 c.keep.result l w.if-keep.true old;
+    let l = looked_noted {N = g.row.G-Node.Denot} {E = g.row.G-Edge.Denot} Forward K graph c.loop-frame.graph.graph c.loop-frame.invariant.graph c.args.notes.now c.requires.1.1.1.1.1.1 c.in-Some.frame.position c.in-Some.frame.next c.look_at-number.result.0 c.look_at-number.result.1 c.look_at-number.result.2.now c.is_kept.result more c.look_at-number.ensures.number c.look_at-number.ensures.link c.is_kept.ensures in
+    elim c.else-is_kept.branch [
+      | else-is_kept-via-then-is_kept+else-insert_position-2 w ↦
+          let old = not-false _ (sym w.insert_position-then-is_kept.ensures.is_new ∙ w.if-insert_position-2.false) in
+          rw (w.seen-is, inserted_old _ _ _ _ w.insert_position-then-is_kept.ensures.is_new w.insert_position-then-is_kept.ensures.after w.if-insert_position-2.false, c.look_at-number.ensures.counted, c.in_ok-push-2.ensures.items) (record {
+            search = link_old Forward K graph c.args.starts.now (c.loop-start.start-index + 1) (c.args.graph.now.looks + length graph.links) _ _ _ _ _ s c.look_at-number.result.1 c.is_kept.result l w.if-is_kept.true old;
             graph = c.loop-frame.invariant.graph;
           })
-      | else-keep-via-else-keep w ↦
+      | else-is_kept-via-else-is_kept w ↦
           rw (w.seen-is, c.look_at-number.ensures.counted, c.in_ok-push-2.ensures.items) (record {
-            search = link_skipped Forward K graph c.args.starts.now (c.loop-start.start-index + 1) (c.args.graph.now.looks + length graph.links) _ _ _ _ _ s c.look_at-number.result.1 c.keep.result l w.if-keep.false;
+            search = link_skipped Forward K graph c.args.starts.now (c.loop-start.start-index + 1) (c.args.graph.now.looks + length graph.links) _ _ _ _ _ s c.look_at-number.result.1 c.is_kept.result l w.if-is_kept.false;
             graph = c.loop-frame.invariant.graph;
           })
     ]
@@ -232,11 +232,11 @@ pub returns-in_err-push-4-clause-graph : goal.returns-in_err-push-4-clause-graph
 returns-in_err-push-4-clause-graph g c = c.loop-frame.invariant.graph
 
 pub insert_position-requires-clause-in_range : goal.insert_position-requires-clause-in_range
-insert_position-requires-clause-in_range g c = rw c.loop-start.invariant.search.state.limit_is (c.requires.1.1.1.1.1.0 c.loop-start.start-index 0 c.loop-start-test.true)
+insert_position-requires-clause-in_range g c = rw c.loop-start.invariant.search.state.limit_is (c.requires.1.1.1.1.0 c.loop-start.start-index 0 c.loop-start-test.true)
 
 pub insert_position-requires-clause-small : goal.insert_position-requires-clause-small
 insert_position-requires-clause-small g c =
-    let below = c.requires.1.1.1.1.1.0 c.loop-start.start-index 0 c.loop-start-test.true in
+    let below = c.requires.1.1.1.1.0 c.loop-start.start-index 0 c.loop-start-test.true in
     let few = c.node_count.ensures.graph.few_nodes in
     omega arith
 

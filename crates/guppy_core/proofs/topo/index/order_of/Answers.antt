@@ -14,8 +14,8 @@ returns-clause-topo g c =
     let count : c.node_count-count.result ≡ length graph.nodes = c.node_count-count.ensures.count in
     let finish = rw (c.in_ok-starts.ensures.graph, c.as_slice.ensures.value) at c.in_ok-order.ensures.order in
     let below = rw c.in_ok-starts.ensures.graph at c.in_ok-order.ensures.positions in
-    let members = rw (c.as_slice-2.ensures.value, c.reverse.ensures.items) at c.in_ok-reached.ensures.members in
-    rw (c.in_ok-extend_from_slice.ensures.items, c.reverse.ensures.items, c.as_slice-3.ensures.value)
+    let members = rw (c.as_slice-3.ensures.value, c.reverse.ensures.items) at c.in_ok-reached.ensures.members in
+    rw (c.in_ok-extend_from_slice.ensures.items, c.reverse.ensures.items, c.as_slice-4.ensures.value)
     (topo_from R (length graph.nodes) c.in_ok-starts.starts.items c.in_ok-order.order.items c.in_ok-rest.rest.items c.in_ok-reached.reached c.in_ok-starts.ensures.roots finish below (c.in_ok-reached.ensures.count ∙ count) members c.in_ok-rest.ensures)
 
 pub returns-clause-acyclic : goal.returns-clause-acyclic
@@ -27,11 +27,17 @@ returns-clause-acyclic g c =
     (λ a x t. subst (λ z. z < length graph.nodes) t.near (far_end_below Reverse graph.links (length graph.nodes) t.number t.link t.found ends))
     none _ (returns-clause-topo g c)
 
+pub returns-in_err-notes-clause-topo : goal.returns-in_err-notes-clause-topo
+returns-in_err-notes-clause-topo g c = if_ok _ _ c.from_residual.ensures.0
+
+pub returns-in_err-notes-clause-acyclic : goal.returns-in_err-notes-clause-acyclic
+returns-in_err-notes-clause-acyclic g c = if_ok _ _ c.from_residual.ensures.0
+
 pub returns-in_err-starts-clause-topo : goal.returns-in_err-starts-clause-topo
-returns-in_err-starts-clause-topo g c = if_ok _ _ c.from_residual.ensures.0
+returns-in_err-starts-clause-topo g c = if_ok _ _ c.from_residual-in_err-starts.ensures.0
 
 pub returns-in_err-starts-clause-acyclic : goal.returns-in_err-starts-clause-acyclic
-returns-in_err-starts-clause-acyclic g c = if_ok _ _ c.from_residual.ensures.0
+returns-in_err-starts-clause-acyclic g c = if_ok _ _ c.from_residual-in_err-starts.ensures.0
 
 pub returns-in_err-order-clause-topo : goal.returns-in_err-order-clause-topo
 returns-in_err-order-clause-topo g c = if_ok _ _ c.from_residual-in_err-order.ensures.0

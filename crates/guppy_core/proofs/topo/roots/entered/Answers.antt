@@ -1,9 +1,10 @@
-use Rattle.std.proofs.Common.{◌+◌, ◌<◌, ◌≤◌, ◌-◌, ◌^◌, length, refl, subst, arith, rules}
+use Rattle.std.proofs.Common.{◌+◌, ◌<◌, ◌≤◌, ◌-◌, ◌^◌, length, refl, subst, ◌∙◌, arith, rules}
 use Rattle.guppy_search.proofs.Exits.{if_ok}
 use Rattle.guppy_search.specs.declared.ix.direction.DependencyDirection.TheVariants.{Forward, Reverse}
 use Rattle.guppy_core.proofs.Costs.{degree, degrees_few, cost_from-next}
 use Rattle.guppy_search.proofs.Searching.{far_end_below}
 use Rattle.guppy_core.proofs.Entering.{entering_none, entering_more, entering_all}
+use Rattle.guppy_core.proofs.Noting.{noted_first, noted_last}
 use Rattle.guppy_core.proofs.topo.roots.entered.Goals as goal
 
 pub loop-position-init : goal.loop-position-init
@@ -11,6 +12,7 @@ loop-position-init g c =
     let graph = c.args.graph.now.graph in
     rw c.in_ok-set.ensures (record {
       entering = entering_none g.kept graph.links (length graph.nodes) c.node_count.result c.node_count.ensures.count;
+      noted = noted_first g.kept graph.links c.args.notes.now;
       graph = refl;
       paid = let few = degrees_few {E = g.row.G-Edge.Denot} Forward graph.links (length graph.nodes - 0) in omega arith;
     })
@@ -25,6 +27,7 @@ loop-position-preserved g c =
     let below : c.loop-position.position < length graph.nodes = let t = c.loop-position-test.true in omega arith in
     record {
       entering = entering_more g.kept graph.links n i c.loop-position.set c.enter_from.new.set c.loop-position.invariant.entering e.count e.members;
+      noted = e.noted;
       graph = e.graph;
       paid =
           let next = cost_from-next (degree {E = g.row.G-Edge.Denot} Forward graph.links) i n below in
@@ -42,6 +45,12 @@ returns-clause-members g c =
     (λ a p t. subst (λ z. z < length graph.nodes) t.near (far_end_below Reverse graph.links (length graph.nodes) t.number t.link t.found c.node_count-position-end.ensures.graph.ends))
     all
 
+pub returns-clause-noted : goal.returns-clause-noted
+returns-clause-noted g c =
+    let graph = c.args.graph.now.graph in
+    let all : length graph.nodes ≤ c.loop-position.position = let count = c.node_count-position-end.ensures.count in let t = c.loop-position-test.false in omega arith in
+    noted_last g.kept graph.links c.loop-position.position (length graph.nodes) c.loop-position.notes c.loop-position.invariant.noted c.node_count-position-end.ensures.graph.ends all
+
 pub enter_from-requires : goal.enter_from-requires
 enter_from-requires g c κs within =
     let graph = c.args.graph.now.graph in
@@ -52,10 +61,13 @@ enter_from-requires g c κs within =
     let paid = inv.paid in
     let few = c.requires.1.1.1.1.1.0 in
     omega arith in
-    (within.0, (within.1.0, (within.1.1.0, (within.1.1.1.0, (within.1.1.1.1, (rw inv.graph below, (rw inv.graph inv.entering.limit_is, (rw inv.graph room, (search rules, search rules)))))))))
+    (within.0, (within.1.0, (within.1.1.0, (within.1.1.1.0, (within.1.1.1.1, (rw inv.graph below, (rw inv.graph inv.entering.limit_is, (rw inv.graph room, (search rules, (search rules, (rw inv.graph (c.loop-position.auto.notes ∙ c.requires.1.1.1.1.1.1.1.1), rw inv.graph inv.noted)))))))))))
 
 pub returns-in_err-set-clause-count : goal.returns-in_err-set-clause-count
 returns-in_err-set-clause-count g c = if_ok _ _ c.from_residual.ensures.0
 
 pub returns-in_err-set-clause-members : goal.returns-in_err-set-clause-members
 returns-in_err-set-clause-members g c = if_ok _ _ c.from_residual.ensures.0
+
+pub returns-in_err-set-clause-noted : goal.returns-in_err-set-clause-noted
+returns-in_err-set-clause-noted g c = if_ok _ _ c.from_residual.ensures.0

@@ -20,3 +20,9 @@ returns-in_err-entered-clause-below g c = if_ok _ _ c.from_residual.ensures.0
 
 pub returns-in_err-entered-clause-roots : goal.returns-in_err-entered-clause-roots
 returns-in_err-entered-clause-roots g c = if_ok _ _ c.from_residual.ensures.0
+
+pub returns-in_err-entered-clause-noted : goal.returns-in_err-entered-clause-noted
+returns-in_err-entered-clause-noted g c = if_ok _ _ c.from_residual.ensures.0
+
+pub returns-clause-noted : goal.returns-clause-noted
+returns-clause-noted g c = IfOk-weaker c.absent.result _ _ (λ list a. c.in_ok-entered.ensures.noted) c.absent.ensures
