@@ -1,13 +1,13 @@
 -- Lists of IDs, and the positions of the packages that they name.
-use Rattle.std.proofs.Common.{◌≡◌, refl, subst, ⊎_elim, zero, suc, ℕ, ◌<◌, List, [], ◌∷◌, ◌++◌, length, get_or, map, arith, Bool, All}
-use Rattle.std.specs.Prelude.{Option, Some, ◌↔◌}
+use Rattle.std.proofs.Common.{◌≡◌, ◌∙◌, sym, refl, subst, ⊎_elim, zero, suc, ℕ, ◌<◌, List, [], ◌∷◌, ◌++◌, length, get_or, map, arith, Bool, All}
+use Rattle.std.specs.Prelude.{Option, Some, IsTrue, ◌↔◌}
 use denote.Ref.{Bor}
 use Rattle.std.specs.List.{AllZip, Contains}
 use Rattle.std.specs.Iterator.{Yields}
 use Rattle.std.proofs.lemmas.List.Elements.{All-push, Contains-append_left, Contains-push, Contains-push_cases, Contains-get_or}
 use Rattle.std.proofs.Math.ListN.{get_or-map}
 use Rattle.std.proofs.lemmas.List.{length-map}
-use Rattle.guppy_core.specs.IxSet.{IsIn}
+use Rattle.guppy_core.specs.IxSet.{has, IsIn}
 use Rattle.guppy_search.specs.declared.ix.index_type.PackageIx.{PackageIx}
 use Rattle.guppy_data.specs.declared.texts.error.Error.{Error}
 use Rattle.guppy_data.specs.declared.records.PackageRecord.{PackageRecord}
@@ -38,6 +38,13 @@ module _ (packages : List PackageRecord) (ids : List (List ℕ)) (positions : Li
   -- the positions are below the count
   pub named_below : All (λ p. p < length packages) positions
   named_below = λ k d within. let at = are.named (get_or positions k d) (Contains-get_or positions k d within) in within_of packages at.0 _ at.2
+
+-- the package with an ID is in a set exactly where its position is
+pub included_at : (packages : List PackageRecord) → DistinctBelow packages (length packages) → (included : List Bool) (id : List ℕ) (p : ℕ) → HasId packages id p → (answer : Bool) → answer ≡ has included p → IsTrue answer ↔ ((q : ℕ) × HasId packages id q × IsIn included q)
+included_at packages distinct included id p found answer is = (
+  λ yes_. (p, found, sym is ∙ yes_),
+  λ h. is ∙ subst (λ q. IsIn included q) (position_is packages distinct id h.0 p h.1 found) h.2,
+)
 
 -- what holds of the positions holds of the indexes
 pub All-ix_position : (P : ℕ → Type 0) (ixs : List PackageIx) → All P (map ix_position ixs) → All (λ ix. P (ix_position ix)) ixs

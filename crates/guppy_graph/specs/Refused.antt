@@ -49,7 +49,7 @@ pub record IsFirstNot (Known : List ℕ → Type 0) (texts : List (List ℕ))
   pub after : List (List ℕ)
   pub place : texts ≡ before ++ text ∷ after
   pub known : All Known before
-  pub unknown : Known text → ⊥
+  pub unknown : ¬ Known text
 
 -- the list ends in the text, the first of it that isn't known
 pub record EndsInFirstNot (Known : List ℕ → Type 0) (texts : List (List ℕ))
@@ -57,7 +57,7 @@ pub record EndsInFirstNot (Known : List ℕ → Type 0) (texts : List (List ℕ)
   pub before : List (List ℕ)
   pub place : texts ≡ before ++ text ∷ []
   pub known : All Known before
-  pub unknown : Known text → ⊥
+  pub unknown : ¬ Known text
 
 -- the ID is the first of the list that is no package's
 abbrev pub IsFirstUnknown : List PackageRecord → List (List ℕ) → List ℕ → Type 0

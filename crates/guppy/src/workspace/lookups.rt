@@ -1,11 +1,12 @@
 //! Members of a workspace by their paths and their names.
-ghost use Rattle.std.specs.Prelude.{◌≡◌, ◌<◌, List, [], ◌∷◌, length, map, All, IfOk, IfErr, IsOk};
+ghost use Rattle.std.specs.Prelude.{◌≡◌, ◌<◌, [], ◌∷◌, length, map, All, IfOk, IfErr, IsOk};
 ghost use Rattle.std.specs.List.{AllZip};
-ghost use Rattle.std.specs.Iterator.{IsFinite, Drains, Yields};
+ghost use Rattle.std.specs.Iterator.{IsFinite};
 ghost use Rattle.guppy_data.specs.Utf8Path.{path_text};
 ghost use Rattle.guppy_graph.specs.Ids.{ix_position};
 ghost use Rattle.guppy_graph.specs.Members.{HasPath, HasName, IsMemberPath, IsMemberName};
 ghost use Rattle.guppy_graph.specs.Refused.{NamesPath, NamesName, IsFirstUnknownPath, IsFirstUnknownName, EndsInUnknownPath, EndsInUnknownName};
+ghost use Rattle.guppy.specs.Read.{ReadsAll, ReadsTo, text_now};
 
 use crate::metadata::PackageMetadata;
 use crate::package_graph::PackageGraph;
@@ -66,13 +67,13 @@ impl<'g> Workspace<'g> {
     ) -> Result<Vec<PackageMetadata<'g>>, Error>
         requires can { I.can_next paths }
         requires ends { IsFinite (I.remaining paths) }
-        ensures found { IfOk result (λ members. (asked : List _) × Drains I.next_gives paths asked
-            × AllZip (λ path m. (graph_of m ≡ workspace_graph self.entry)
+        ensures found { IfOk result (λ members. ReadsAll I.next_gives path_text paths
+            (λ asked. AllZip (λ path m. (graph_of m ≡ workspace_graph self.entry)
             × HasPath (workspace_packages self.entry) path (package_position m))
-            (map path_text asked) members.items) }
+            asked members.items)) }
         ensures unknown { IfErr result
-            (NamesPath (λ path. (asked : List _) × (rest : I) × Yields I.next_gives paths asked rest
-            × EndsInUnknownPath (workspace_packages self.entry) (map path_text asked) path)) }
+            (NamesPath (ReadsTo I.next_gives path_text paths
+            (EndsInUnknownPath (workspace_packages self.entry)))) }
     {
         let ixs = self.graph.ixs_of_paths(paths)?;
         Ok(self.members_at(ixs.as_slice())?)
@@ -89,14 +90,13 @@ impl<'g> Workspace<'g> {
     ) -> Result<Vec<PackageMetadata<'g>>, Error>
         requires can { I.can_next names }
         requires ends { IsFinite (I.remaining names) }
-        ensures found { IfOk result (λ members. (asked : List _) × Drains I.next_gives names asked
-            × AllZip (λ name m. (graph_of m ≡ workspace_graph self.entry)
+        ensures found { IfOk result (λ members. ReadsAll I.next_gives text_now names
+            (λ asked. AllZip (λ name m. (graph_of m ≡ workspace_graph self.entry)
             × HasName (workspace_packages self.entry) name (package_position m))
-            (map (λ name. name.now) asked) members.items) }
+            asked members.items)) }
         ensures unknown { IfErr result
-            (NamesName (λ name. (asked : List _) × (rest : I) × Yields I.next_gives names asked rest
-            × EndsInUnknownName (workspace_packages self.entry)
-            (map (λ name. name.now) asked) name)) }
+            (NamesName (ReadsTo I.next_gives text_now names
+            (EndsInUnknownName (workspace_packages self.entry)))) }
     {
         let ixs = self.graph.ixs_of_names(names)?;
         Ok(self.members_at(ixs.as_slice())?)
@@ -161,12 +161,11 @@ impl PackageGraph {
     ) -> Result<Vec<PackageIx>, Error>
         requires can { I.can_next paths }
         requires ends { IsFinite (I.remaining paths) }
-        ensures found { IfOk result (λ ixs. (asked : List _) × Drains I.next_gives paths asked
-            × AllZip (HasPath self.now.packages) (map path_text asked)
-            (map ix_position ixs.items)) }
+        ensures found { IfOk result (λ ixs. ReadsAll I.next_gives path_text paths
+            (λ asked. AllZip (HasPath self.now.packages) asked (map ix_position ixs.items))) }
         ensures unknown { IfErr result
-            (NamesPath (λ path. (asked : List _) × (rest : I) × Yields I.next_gives paths asked rest
-            × EndsInUnknownPath self.now.packages (map path_text asked) path)) }
+            (NamesPath (ReadsTo I.next_gives path_text paths
+            (EndsInUnknownPath self.now.packages))) }
     {
         let mut ixs = Vec::new(self.alloc());
         for path in paths {
@@ -182,12 +181,11 @@ impl PackageGraph {
     ) -> Result<Vec<PackageIx>, Error>
         requires can { I.can_next names }
         requires ends { IsFinite (I.remaining names) }
-        ensures found { IfOk result (λ ixs. (asked : List _) × Drains I.next_gives names asked
-            × AllZip (HasName self.now.packages) (map (λ name. name.now) asked)
-            (map ix_position ixs.items)) }
+        ensures found { IfOk result (λ ixs. ReadsAll I.next_gives text_now names
+            (λ asked. AllZip (HasName self.now.packages) asked (map ix_position ixs.items))) }
         ensures unknown { IfErr result
-            (NamesName (λ name. (asked : List _) × (rest : I) × Yields I.next_gives names asked rest
-            × EndsInUnknownName self.now.packages (map (λ name. name.now) asked) name)) }
+            (NamesName (ReadsTo I.next_gives text_now names
+            (EndsInUnknownName self.now.packages))) }
     {
         let mut ixs = Vec::new(self.alloc());
         for name in names {
