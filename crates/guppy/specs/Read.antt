@@ -18,3 +18,7 @@ module _ {I T : Type 0} where
       → (List (List ℕ) → List ℕ → Type 0) → List ℕ → Type 0
   ReadsTo gives text list P last =
       (read : List T) × (rest : I) × Yields gives list read rest × P (map text read) last
+
+-- some package is there with the text
+abbrev pub HasSome : (List ℕ → ℕ → Type 0) → List ℕ → Type 0
+HasSome At text = (p : ℕ) × At text p

@@ -49,9 +49,7 @@ impl PackageGraph {
             (NamesPath (ReadsTo I.next_gives path_text paths
             (EndsInUnknownPath self.now.packages))) }
     {
-        let ixs = self.ixs_of_paths(paths)?;
-        let set = self.set_of(ixs)?;
-        Ok(set)
+        self.set_named(paths)
     }
 
     /// The members of the workspace with these names, and no other package. Repeats count once.
@@ -73,9 +71,7 @@ impl PackageGraph {
             (NamesName (ReadsTo I.next_gives text_now names
             (EndsInUnknownName self.now.packages))) }
     {
-        let ixs = self.ixs_of_names(names)?;
-        let set = self.set_of(ixs)?;
-        Ok(set)
+        self.set_named(names)
     }
 
     // The positions of the members.

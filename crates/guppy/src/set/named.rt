@@ -3,7 +3,7 @@ ghost use Rattle.std.specs.Prelude.{◌≡◌, ◌↔◌, ℕ, ◌<◌, true, fa
 ghost use Rattle.std.specs.List.{Contains};
 ghost use Rattle.std.specs.Iterator.{IsFinite};
 ghost use Rattle.guppy_core.specs.IxSet.{IsIn};
-ghost use Rattle.guppy.specs.Query.{AreNamed, IsNamedSet, IsSetWhere};
+ghost use Rattle.guppy.specs.Query.{IsNamedSet, IsSetWhere};
 ghost use Rattle.guppy_graph.specs.Ids.{ix_position};
 ghost use Rattle.guppy_graph.specs.Graph.{IsPackageGraph};
 ghost use Rattle.guppy.specs.PackageNames.{HasPackageName};
@@ -63,9 +63,7 @@ impl PackageGraph {
         ensures unknown { IfErr result
             (NamesId (ReadsTo I.next_gives text_now ids (EndsInUnknown self.now.packages))) }
     {
-        let ixs = self.ixs_of(ids)?;
-        let set = self.set_of(ixs)?;
-        Ok(set)
+        self.set_named(ids)
     }
 
     /// The packages with this name, of the workspace or not; none where no package has it.
@@ -82,25 +80,6 @@ impl PackageGraph {
         let ixs = self.ixs_with_name(name)?;
         let set = self.set_of(ixs)?;
         Ok(set)
-    }
-
-    // The positions of the packages with these IDs.
-    fn ixs_of<'a, I: Iterator<Item = &'a PackageId> + Drop>(
-        &self,
-        ids: I,
-    ) -> Result<Vec<PackageIx>, Error>
-        requires can { I.can_next ids }
-        requires ends { IsFinite (I.remaining ids) }
-        ensures named { IfOk result (λ ixs. ReadsAll I.next_gives text_now ids
-            (λ named. AreNamed self.now.packages named (map ix_position ixs.items))) }
-        ensures unknown { IfErr result
-            (NamesId (ReadsTo I.next_gives text_now ids (EndsInUnknown self.now.packages))) }
-    {
-        let mut ixs = Vec::new(self.alloc());
-        for id in ids {
-            ixs.push(self.ix_of(id)?)?;
-        }
-        Ok(ixs)
     }
 
     // The positions of the packages with this name.
