@@ -1,5 +1,5 @@
 -- The components that are cycles, and the IDs of their packages.
-use Rattle.std.proofs.Common.{◌≡◌, ◌⊎◌, ◌∙◌, sym, ap, refl, subst, ⊎_elim, inl, inr, arith, ℕ, zero, suc, ◌<◌, Bool, true, false, cond, List, [], ◌∷◌, ◌++◌, length, Option, Some, None, map, slice_get}
+use Rattle.std.proofs.Common.{◌≡◌, ◌⊎◌, ◌∙◌, sym, ap, refl, subst, ⊎_elim, inl, inr, arith, ℕ, zero, suc, ◌<◌, Bool, true, false, cond, List, [], ◌∷◌, ◌++◌, length, All, Option, Some, None, map, slice_get}
 use Rattle.std.specs.Prelude.{◌==◌, ◌&&◌, MatchOption, IsSomeAnd, is_some, option_map}
 use Rattle.std.specs.List.{Contains, filter, filter_map, cons_option}
 use Rattle.std.specs.Slice.Iter.{iter_rest}
@@ -75,6 +75,11 @@ filter_skips p x xs lacks = rw lacks refl
 
 pub filter_skips_last : {X : Type 0} (p : X → Bool) (x : X) (xs : List X) → p x ≡ false → filter p (xs ++ x ∷ []) ≡ filter p xs
 filter_skips_last p x xs lacks = filter-append p xs (x ∷ []) ∙ ap (λ ys. filter p xs ++ ys) (filter_skips p x [] lacks) ∙ append-nil (filter p xs)
+
+-- of the given components, those before or behind these are no cycles, and all lie below n
+pub record ArePassedOver {E : Type 0} (links : List (Link E)) (n : ℕ) (given components : List (List ℕ)) : Type 0 where
+  pub same : filter (is_cyclic_component links) components ≡ filter (is_cyclic_component links) given
+  pub below : All (All (λ p. p < n)) components
 
 -- what stands in a list is contained there
 contained : {X : Type 0} (xs : List X) (k : ℕ) (x : X) → slice_get xs k ≡ Some x → Contains xs x

@@ -1,56 +1,30 @@
--- Lists of IDs, and the positions of the packages that they name.
-use Rattle.std.proofs.Common.{◌≡◌, refl, subst, ⊎_elim, zero, suc, ℕ, ◌<◌, List, [], ◌∷◌, ◌++◌, length, get_or, map, arith, Bool, All}
-use Rattle.std.specs.Prelude.{Option, Some, ◌↔◌}
-use denote.Ref.{Bor}
+-- The positions of the packages that texts name.
+use Rattle.std.proofs.Common.{◌≡◌, ◌∙◌, sym, refl, subst, zero, suc, ℕ, ◌<◌, List, [], ◌∷◌, length, get_or, map, arith, Bool, All}
+use Rattle.std.specs.Prelude.{IsTrue, ◌↔◌}
 use Rattle.std.specs.List.{AllZip, Contains}
-use Rattle.std.specs.Iterator.{Yields}
-use Rattle.std.proofs.lemmas.List.Elements.{All-push, Contains-append_left, Contains-push, Contains-push_cases, Contains-get_or}
+use Rattle.std.proofs.lemmas.List.Elements.{Contains-get_or}
 use Rattle.std.proofs.Math.ListN.{get_or-map}
 use Rattle.std.proofs.lemmas.List.{length-map}
-use Rattle.guppy_core.specs.IxSet.{IsIn}
+use Rattle.guppy_core.specs.IxSet.{has, IsIn}
 use Rattle.guppy_search.specs.declared.ix.index_type.PackageIx.{PackageIx}
-use Rattle.guppy_data.specs.declared.texts.error.Error.{Error}
 use Rattle.guppy_data.specs.declared.records.PackageRecord.{PackageRecord}
-use Rattle.guppy_graph.specs.Ids.{HasId, IsKnown, DistinctBelow, ix_position}
+use Rattle.guppy_graph.specs.Ids.{HasId, DistinctBelow, ix_position}
 use Rattle.guppy_graph.specs.Keys.{DifferBelow}
-use Rattle.guppy.specs.Query.{AreNamed, IsSetNamed}
-use Rattle.guppy_graph.specs.Refused.{NamesId, IsFirstUnknown, EndsInUnknown}
-use Rattle.guppy_graph.proofs.Named.{position_is, within_of}
-use Rattle.guppy_graph.proofs.Unknown.{NamesId-along, first_unknown-next}
+use Rattle.guppy.specs.Query.{IsSetNamed}
+use Rattle.guppy_graph.proofs.Named.{position_is}
 
-module _ (packages : List PackageRecord) (ids : List (List ℕ)) (positions : List ℕ) (are : AreNamed packages ids positions) where
-  -- one more ID, and its position
-  pub AreNamed-push : DistinctBelow packages (length packages) → (id : List ℕ) (p : ℕ) → HasId packages id p → AreNamed packages (ids ++ id ∷ []) (positions ++ p ∷ [])
-  AreNamed-push distinct id p has = record {
-    known = All-push (IsKnown packages) ids id are.known (p, has);
-    there = λ q name in_ids has_q. ⊎_elim
-        (λ before. Contains-append_left positions (p ∷ []) q (are.there q name before has_q))
-        (λ last. subst (λ z. Contains (positions ++ p ∷ []) z)
-        (position_is packages distinct name p q (subst (λ z. HasId packages z p) last has) has_q)
-        (Contains-push positions p))
-        (Contains-push_cases ids id name in_ids);
-    named = λ q in_positions. ⊎_elim
-        (λ before. let at = are.named q before in (at.0, Contains-append_left ids (id ∷ []) at.0 at.1, at.2))
-        (λ last. (id, Contains-push ids id, subst (λ z. HasId packages id z) last has))
-        (Contains-push_cases positions p q in_positions);
-  }
-
-  -- the positions are below the count
-  pub named_below : All (λ p. p < length packages) positions
-  named_below = λ k d within. let at = are.named (get_or positions k d) (Contains-get_or positions k d within) in within_of packages at.0 _ at.2
+-- the package with an ID is in a set exactly where its position is
+pub included_at : (packages : List PackageRecord) → DistinctBelow packages (length packages) → (included : List Bool) (id : List ℕ) (p : ℕ) → HasId packages id p → (answer : Bool) → answer ≡ has included p → IsTrue answer ↔ ((q : ℕ) × HasId packages id q × IsIn included q)
+included_at packages distinct included id p found answer is = (
+  λ yes_. (p, found, sym is ∙ yes_),
+  λ h. is ∙ subst (λ q. IsIn included q) (position_is packages distinct id h.0 p h.1 found) h.2,
+)
 
 -- what holds of the positions holds of the indexes
 pub All-ix_position : (P : ℕ → Type 0) (ixs : List PackageIx) → All P (map ix_position ixs) → All (λ ix. P (ix_position ix)) ixs
 All-ix_position P ixs all = λ k d within.
     let below : k < length (map ix_position ixs) = rw (length-map ixs ix_position) within in
     subst P (get_or-map ix_position ixs k d) (all k (ix_position d) below)
-
--- an iterator gave known IDs, and then one that is unknown
-pub unknown_next : {S : Type 0} (steps : S → Option (Bor (List ℕ)) → S → Type 0) (packages : List PackageRecord) (s t u : S) (named : List (Bor (List ℕ))) (x : Bor (List ℕ)) (e : Error) → Yields steps s named t → steps t (Some x) u → All (IsKnown packages) (map (λ id. id.now) named) → NamesId (IsFirstUnknown packages (x.now ∷ [])) e
-    → NamesId (λ id. (named : List (Bor (List ℕ))) × (rest : S) × Yields steps s named rest × EndsInUnknown packages (map (λ id. id.now) named) id) e
-unknown_next {S} steps packages s t u named x e gave step known names =
-    NamesId-along (IsFirstUnknown packages (x.now ∷ [])) (λ id. (named : List (Bor (List ℕ))) × (rest : S) × Yields steps s named rest × EndsInUnknown packages (map (λ id. id.now) named) id) e
-    (λ id first. first_unknown-next (IsKnown packages) steps (λ (id : Bor (List ℕ)). id.now) s t u named x id gave step known first) names
 
 -- texts, and the positions that they name one by one
 module _ (Names : List ℕ → ℕ → Type 0) where

@@ -1,4 +1,5 @@
 pub mod Query
+pub mod Read
 pub mod PackageNames
 pub mod Visitors
 pub mod Iterators

@@ -4,7 +4,7 @@ use Rattle.std.specs.List.{Contains}
 use Rattle.guppy_search.specs.declared.ix.direction.DependencyDirection.{DependencyDirection}
 use Rattle.guppy_core.specs.IxSet.{IsIn}
 use Rattle.guppy_data.specs.declared.records.PackageRecord.{PackageRecord}
-use Rattle.guppy_graph.specs.Ids.{HasId, IsKnown}
+use Rattle.guppy_graph.specs.Ids.{HasId}
 use Rattle.guppy_graph.specs.Graph.{GraphData}
 
 -- a set of packages of a graph, as the set of their positions
@@ -17,13 +17,6 @@ pub record QueryData : Type 0 where
   pub graph : GraphData
   pub initials : List Bool
   pub direction : DependencyDirection
-
--- each ID is a package's, and the positions are those of these packages
-pub record AreNamed (packages : List PackageRecord) (ids : List (List ℕ))
-    (positions : List ℕ) : Type 0 where
-  pub known : All (IsKnown packages) ids
-  pub there : (p : ℕ) (id : List ℕ) → Contains ids id → HasId packages id p → Contains positions p
-  pub named : (p : ℕ) → Contains positions p → (id : List ℕ) × Contains ids id × HasId packages id p
 
 -- each text names a package, and the set has exactly the packages that they name
 pub record IsSetNamed (Names : List ℕ → ℕ → Type 0) (packages : List PackageRecord)

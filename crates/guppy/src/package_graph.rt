@@ -1,6 +1,7 @@
 //! The graph of packages: `RecordGraph` of `guppy_graph`, as its users see it.
 mod depends_cache;
 mod graph;
+mod naming;
 mod positions;
 
 pub use crate::{
@@ -9,3 +10,4 @@ pub use crate::{
 pub use depends_cache::DependsCache;
 pub use graph::{AllPackages, PackageGraph, PackageIds};
 pub use guppy_graph::Packages;
+pub(crate) use naming::NamesPackage;

@@ -12,8 +12,8 @@ mod visitor;
 use crate::link::PackageLink;
 use crate::package_graph::{PackageGraph, Packages};
 use crate::set::PackageSet;
+pub use guppy_core::Recorder;
 use guppy_core::{DependencyDirection, IxSet};
-pub use recorder::Recorder;
 use std::alloc::AllocError;
 use std::marker::Model;
 pub use visitor::PackageLinkVisitor;
@@ -27,15 +27,12 @@ pub struct PackageQuery<'g> {
 
 impl<'g> Model for PackageQuery<'g> {
     ghost use Rattle.guppy.specs.Query.{QueryData};
-    ghost use Rattle.guppy_data.specs.contracts.records.PackageRecord as of_package;
-    ghost use Rattle.guppy_data.specs.contracts.records.LinkRecord as of_link;
-    ghost use Rattle.guppy_data.specs.contracts.records.WorkspaceRecord as of_workspace;
+    ghost use Rattle.guppy_graph.specs.contracts.graph.RecordGraph as of_graph;
     ghost use Rattle.std.specs.Coded.{codes};
 
     ghost Value = { QueryData };
 
-    ghost coded = { Prim.hlevel
-        (codes, of_package.the_row.coded, of_link.the_row.coded, of_workspace.the_row.coded) };
+    ghost coded = { Prim.hlevel (codes, of_graph.the_row.coded) };
 
     ghost view = { λ q. record {
       graph = q.initials.graph;
@@ -97,15 +94,12 @@ pub struct PackageLinkContext<'g> {
 
 impl<'g> Model for PackageLinkContext<'g> {
     ghost use Rattle.guppy.specs.Query.{QueryData};
-    ghost use Rattle.guppy_data.specs.contracts.records.PackageRecord as of_package;
-    ghost use Rattle.guppy_data.specs.contracts.records.LinkRecord as of_link;
-    ghost use Rattle.guppy_data.specs.contracts.records.WorkspaceRecord as of_workspace;
+    ghost use Rattle.guppy_graph.specs.contracts.graph.RecordGraph as of_graph;
     ghost use Rattle.std.specs.Coded.{codes};
 
     ghost Value = { QueryData };
 
-    ghost coded = { Prim.hlevel
-        (codes, of_package.the_row.coded, of_link.the_row.coded, of_workspace.the_row.coded) };
+    ghost coded = { Prim.hlevel (codes, of_graph.the_row.coded) };
 
     ghost view = { λ c. c.query };
 }

@@ -34,15 +34,12 @@ pub struct PackageSet<'g> {
 impl<'g> Model for PackageSet<'g> {
     ghost use Rattle.std.specs.Prelude.{◌≡◌, length};
     ghost use Rattle.guppy.specs.Query.{SetData};
-    ghost use Rattle.guppy_data.specs.contracts.records.PackageRecord as of_package;
-    ghost use Rattle.guppy_data.specs.contracts.records.LinkRecord as of_link;
-    ghost use Rattle.guppy_data.specs.contracts.records.WorkspaceRecord as of_workspace;
+    ghost use Rattle.guppy_graph.specs.contracts.graph.RecordGraph as of_graph;
     ghost use Rattle.std.specs.Coded.{codes};
 
     ghost Value = { SetData };
 
-    ghost coded = { Prim.hlevel
-        (codes, of_package.the_row.coded, of_link.the_row.coded, of_workspace.the_row.coded) };
+    ghost coded = { Prim.hlevel (codes, of_graph.the_row.coded) };
 
     ghost view = { λ s. record { graph = s.graph.now; included = s.core } };
 

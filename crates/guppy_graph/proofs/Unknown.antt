@@ -1,26 +1,23 @@
 -- The first unknown text of a list, and the errors that name it.
-use Rattle.std.proofs.Common.{◌≡◌, ◌∙◌, sym, ap, refl, ℕ, List, [], ◌∷◌, ◌++◌, length, length-append, append_assoc, arith, All, map, Option, Some}
-use Rattle.std.specs.String.{string_bytes}
+use Rattle.std.proofs.Common.{◌≡◌, ◌∙◌, sym, ap, refl, ℕ, List, [], ◌∷◌, ◌++◌, length, length-append, append_assoc, arith, All, map, Option, Some, None}
+use Rattle.std.specs.Prelude.{IsSomeAnd}
 use Rattle.std.specs.Iterator.{Yields}
 use Rattle.std.proofs.iter.Next.{Yields-more}
 use Rattle.std.proofs.lemmas.List.{map_push}
 use Rattle.std.proofs.lemmas.List.Elements.{All-append, All-cons}
 use Rattle.guppy_data.specs.declared.texts.fault.ConstructFault.{ConstructFault}
 use Rattle.guppy_data.specs.declared.texts.error.Error.{Error}
-use Rattle.guppy_data.specs.declared.texts.error.Error.TheVariants.{PackageGraphConstructError, UnknownPackageId, UnknownWorkspacePath, UnknownWorkspaceName}
-use Rattle.guppy_graph.specs.Refused.{TellsFault, NamesId, NamesPath, NamesName, IsFirstNot, EndsInFirstNot}
+use Rattle.guppy_data.specs.declared.texts.error.Error.TheVariants.{PackageGraphConstructError, OutOfMemory}
+use Rattle.guppy_graph.specs.Refused.{TellsFault, NamesText, IsFirstNot, EndsInFirstNot}
 
-pub NamesId-along : (P Q : List ℕ → Type 0) (e : Error) → ((id : List ℕ) → P id → Q id) → NamesId P e → NamesId Q e
-NamesId-along P Q (UnknownPackageId id) h n = h id n
-NamesId-along P Q _ h n = n
+some-along : (o : Option (List ℕ)) (P Q : List ℕ → Type 0) → ((text : List ℕ) → P text → Q text) → IsSomeAnd o P → IsSomeAnd o Q
+some-along None P Q h n = absurd n
+some-along (Some text) P Q h n = h text n
 
-pub NamesPath-along : (P Q : List ℕ → Type 0) (e : Error) → ((path : List ℕ) → P path → Q path) → NamesPath P e → NamesPath Q e
-NamesPath-along P Q (UnknownWorkspacePath path) h n = h path n
-NamesPath-along P Q _ h n = n
-
-pub NamesName-along : (P Q : List ℕ → Type 0) (e : Error) → ((name : List ℕ) → P name → Q name) → NamesName P e → NamesName Q e
-NamesName-along P Q (UnknownWorkspaceName name) h n = h (string_bytes name) n
-NamesName-along P Q _ h n = n
+-- what an error says of the text that it names
+pub NamesText-along : (named : Error → Option (List ℕ)) (P Q : List ℕ → Type 0) (e : Error) → ((text : List ℕ) → P text → Q text) → NamesText named P e → NamesText named Q e
+NamesText-along named P Q OutOfMemory h n = n
+NamesText-along named P Q e h n = some-along (named e) P Q h n
 
 pub TellsFault-along : (P Q : ConstructFault → Type 0) (e : Error) → ((f : ConstructFault) → P f → Q f) → TellsFault P e → TellsFault Q e
 TellsFault-along P Q (PackageGraphConstructError f) h n = h f n

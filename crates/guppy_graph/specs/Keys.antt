@@ -39,7 +39,7 @@ module _ (order : List ℕ → List ℕ → Ordering) (key_at : ℕ → Option (
 module _ {K : Type 0} (Has : K → ℕ → Type 0) where
   -- no position below n has the key
   abbrev pub NoneBelow : K → ℕ → Type 0
-  NoneBelow key n = (p : ℕ) → p < n → Has key p → ⊥
+  NoneBelow key n = (p : ℕ) → p < n → ¬ Has key p
 
   -- the position is the first that has the key
   abbrev pub IsFirstWith : K → ℕ → Type 0

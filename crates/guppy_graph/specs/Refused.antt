@@ -1,5 +1,5 @@
 -- What an error tells.
-use Rattle.std.specs.Prelude.{◌≡◌, ℕ, List, [], ◌∷◌, ◌++◌, All}
+use Rattle.std.specs.Prelude.{◌≡◌, ℕ, List, [], ◌∷◌, ◌++◌, All, Option, Some, None, IsSomeAnd}
 use Rattle.guppy_search.specs.declared.graph_core.graph.GraphFault.{GraphFault}
 use Rattle.guppy_search.specs.declared.graph_core.graph.GraphFault.TheVariants.{TooManyNodes, TooManyLinks, UnknownEnd, RepeatedLink, OutOfMemory as GraphMemory}
 use Rattle.guppy_data.specs.declared.texts.fault.ConstructFault.{ConstructFault}
@@ -24,23 +24,37 @@ TellsFault P _ = ⊥
 abbrev pub IsRefusal : List PackageRecord → List LinkRecord → WorkspaceRecord → Error → Type 0
 IsRefusal packages links workspace = TellsFault (IsFirstFault packages links workspace)
 
+-- the ID that the error names as no package's
+abbrev pub named_id : Error → Option (List ℕ)
+named_id (UnknownPackageId id) = Some id
+named_id _ = None
+
+-- the path that the error names as no member's
+abbrev pub named_path : Error → Option (List ℕ)
+named_path (UnknownWorkspacePath path) = Some path
+named_path _ = None
+
+-- the name that the error names as no member's
+abbrev pub named_name : Error → Option (List ℕ)
+named_name (UnknownWorkspaceName name) = Some (string_bytes name)
+named_name _ = None
+
+-- the error names a text of which P holds, as `named` tells it, or tells that memory ran out
+abbrev pub NamesText : (Error → Option (List ℕ)) → (List ℕ → Type 0) → Error → Type 0
+NamesText named P OutOfMemory = Unit {0}
+NamesText named P error = IsSomeAnd (named error) P
+
 -- the error names an ID of which P holds, or tells that memory ran out
 abbrev pub NamesId : (List ℕ → Type 0) → Error → Type 0
-NamesId P (UnknownPackageId id) = P id
-NamesId P OutOfMemory = Unit {0}
-NamesId P _ = ⊥
+NamesId = NamesText named_id
 
 -- the error names a path of which P holds, or tells that memory ran out
 abbrev pub NamesPath : (List ℕ → Type 0) → Error → Type 0
-NamesPath P (UnknownWorkspacePath path) = P path
-NamesPath P OutOfMemory = Unit {0}
-NamesPath P _ = ⊥
+NamesPath = NamesText named_path
 
 -- the error names a name of which P holds, or tells that memory ran out
 abbrev pub NamesName : (List ℕ → Type 0) → Error → Type 0
-NamesName P (UnknownWorkspaceName name) = P (string_bytes name)
-NamesName P OutOfMemory = Unit {0}
-NamesName P _ = ⊥
+NamesName = NamesText named_name
 
 -- the text is the first of the list that isn't known
 pub record IsFirstNot (Known : List ℕ → Type 0) (texts : List (List ℕ))
@@ -49,7 +63,7 @@ pub record IsFirstNot (Known : List ℕ → Type 0) (texts : List (List ℕ))
   pub after : List (List ℕ)
   pub place : texts ≡ before ++ text ∷ after
   pub known : All Known before
-  pub unknown : Known text → ⊥
+  pub unknown : ¬ Known text
 
 -- the list ends in the text, the first of it that isn't known
 pub record EndsInFirstNot (Known : List ℕ → Type 0) (texts : List (List ℕ))
@@ -57,7 +71,7 @@ pub record EndsInFirstNot (Known : List ℕ → Type 0) (texts : List (List ℕ)
   pub before : List (List ℕ)
   pub place : texts ≡ before ++ text ∷ []
   pub known : All Known before
-  pub unknown : Known text → ⊥
+  pub unknown : ¬ Known text
 
 -- the ID is the first of the list that is no package's
 abbrev pub IsFirstUnknown : List PackageRecord → List (List ℕ) → List ℕ → Type 0

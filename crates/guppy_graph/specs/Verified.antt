@@ -96,8 +96,8 @@ module _ (g : GraphData) where
 
   -- the fault tells what is wrong with the link of the number, its version first
   abbrev pub IsLinkFault : ℕ → VerifyFault → Type 0
-  IsLinkFault n fault = ((fault ≡ WrongVersion n) × (HasVersionAt n → ⊥))
-      ⊎ ((fault ≡ NoSection n) × HasVersionAt n × (HasSectionAt n → ⊥))
+  IsLinkFault n fault = ((fault ≡ WrongVersion n) × (¬ HasVersionAt n))
+      ⊎ ((fault ≡ NoSection n) × HasVersionAt n × (¬ HasSectionAt n))
 
   -- the fault is of the first target of the package, by ID, that breaks a rule
   abbrev pub IsTargetFault : ℕ → VerifyFault → Type 0

@@ -222,7 +222,7 @@ impl RecordGraph {
     }
 
     /// The graph by positions.
-    pub fn graph(&self) -> &Graph<Packages>
+    pub fn dep_graph(&self) -> &Graph<Packages>
         ensures nodes { result.now.nodes ≡ self.now.packages }
         ensures links { result.now.links ≡ self.now.links }
         ensures graph { IsPackageGraph self.now }
@@ -304,7 +304,7 @@ impl RecordGraph {
     /// The position of the package with the ID, if there is one. Time grows with the logarithm of the
     /// packages. Takes no memory.
     pub fn find_ix(&self, id: &PackageId) -> Option<PackageIx>
-        ensures found { MatchOption result (IsKnown self.now.packages id.now → ⊥)
+        ensures found { MatchOption result (¬ IsKnown self.now.packages id.now)
             (λ ix. HasId self.now.packages id.now (ix_position ix)) }
         ensures graph { IsPackageGraph self.now }
     {

@@ -35,7 +35,7 @@ impl RecordGraph {
             (λ e. (fault : VerifyFault) × (e ≡ Error.PackageGraphInternalError fault)
             × IsFirstVerifyFault self.now fault) }
     {
-        for position in 0..self.graph().node_count() {
+        for position in 0..self.dep_graph().node_count() {
             if let Some(fault) = self.fault_of_package(position) {
                 return Err(fault.into());
             }
@@ -78,7 +78,7 @@ impl RecordGraph {
             (IsLeavingLinkFault self.now position) }
     {
         let ix = self.ix_at(position);
-        for number in self.graph().links_of(ix, DependencyDirection::Forward) {
+        for number in self.dep_graph().links_of(ix, DependencyDirection::Forward) {
             if let Some(fault) = self.fault_of_link(*number) {
                 return Some(fault);
             }

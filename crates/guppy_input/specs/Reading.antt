@@ -10,8 +10,8 @@ use Rattle.guppy_input.specs.Records.{AreRecordsOf}
 
 -- the records of some statements become those of these statements after them
 abbrev pub AddsStatements : Records → Records → List Statement → Type 0
-AddsStatements old new added =
-    (statements : List Statement) → AreRecordsOf statements old.packages.items old.links.items old.workspace
+AddsStatements old new added = (statements : List Statement)
+    → AreRecordsOf statements old.packages.items old.links.items old.workspace
     → AreRecordsOf (statements ++ added) new.packages.items new.links.items new.workspace
 
 abbrev pub IsWantOfMemory : Error → Type 0

@@ -116,7 +116,8 @@ impl Records {
     /// Adds the record that a line says. Takes memory for the record and copies of the line's IDs, and
     /// time linear in their lengths.
     pub fn add(&mut self, alloc: Global, statement: Statement<'_>) -> Result<(), AllocError>
-        ensures { OnOk result (AddsStatements self.old self.new (statement_shown statement.entry ∷ [])) }
+        ensures { OnOk result
+            (AddsStatements self.old self.new (statement_shown statement.entry ∷ [])) }
     {
         match statement {
             Statement::Package(id) => {

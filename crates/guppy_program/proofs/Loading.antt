@@ -13,7 +13,7 @@ use Rattle.guppy_program.specs.Loaded.{IsRecordFault}
 pub records_refused : (input : List ℕ) (packages : List PackageRecord) (links : List LinkRecord) (workspace : WorkspaceRecord) (error : Error)
     → IsAllGood input → AreRecordsOf (statements_of input) packages links workspace → IsRefusal packages links workspace error → TellsFault (IsRecordFault input) error
 records_refused input packages links workspace (PackageGraphConstructError fault) good said refused =
-    record { good = good; packages = packages; links = links; workspace = workspace; said = said; first = refused }
+    record { good = good; packages = packages; links = links; workspace = workspace; said = said; holds = refused }
 records_refused input packages links workspace (UnknownPackageId id) good said refused = absurd refused
 records_refused input packages links workspace (UnknownFeatureId id feature) good said refused = absurd refused
 records_refused input packages links workspace (UnknownWorkspacePath path) good said refused = absurd refused

@@ -5,7 +5,7 @@ use Rattle.std.specs.List.{AllByRecursion}
 use Rattle.std.specs.List.Sorted.{IsStrictlySortedBy}
 use Rattle.std.specs.declared.cmp.Ordering.{Ordering}
 use Rattle.std.specs.declared.cmp.Ordering.TheVariants.{Less}
-use Rattle.std.specs.Iterator.{Yields, Drains}
+use Rattle.std.specs.Iterator.{Drains}
 use denote.Ref.{Bor}
 use Rattle.std.proofs.Math.ListN.{get_or-map}
 use Rattle.std.proofs.lemmas.List.{length-map, take-append-drop}
@@ -20,8 +20,9 @@ use Rattle.guppy_data.specs.Sorted.{KeepsUpTo}
 use Rattle.guppy.specs.Ids.{HasId, IsKnown}
 use Rattle.guppy.specs.Graph.{GraphData}
 use Rattle.guppy.specs.Query.{IsNamedSet, IncludesId, SetData}
-use Rattle.guppy.specs.Refused.{NamesId, IsFirstUnknown, EndsInUnknown}
-use Rattle.guppy.proofs.Unknown.{NamesId-along, first_unknown-read}
+use Rattle.guppy.specs.Refused.{NamesId, named_id, IsFirstUnknown, EndsInUnknown}
+use Rattle.guppy.specs.Read.{ReadsTo, text_now}
+use Rattle.guppy.proofs.Unknown.{NamesText-along, first_unknown-read}
 use Rattle.guppy_program.specs.Answer.{IsReached}
 
 module _ {S : Type 0} (steps : S → Option (Bor (List ℕ)) → S → Type 0) (s : S) (ids : List (List ℕ)) (road : YieldsList steps (λ r. r.now) s ids) where
@@ -31,10 +32,10 @@ module _ {S : Type 0} (steps : S → Option (Bor (List ℕ)) → S → Type 0) (
 
   -- the first unknown ID of what was given is that of the list
   pub first_unknown-given : (packages : List PackageRecord) (e : Error)
-      → NamesId (λ id. (named : List (Bor (List ℕ))) × (rest : S) × Yields steps s named rest × EndsInUnknown packages (map (λ r. r.now) named) id) e
+      → NamesId (ReadsTo steps text_now s (EndsInUnknown packages)) e
       → NamesId (IsFirstUnknown packages ids) e
   first_unknown-given packages e names =
-      NamesId-along (λ id. (named : List (Bor (List ℕ))) × (rest : S) × Yields steps s named rest × EndsInUnknown packages (map (λ r. r.now) named) id) (IsFirstUnknown packages ids) e
+      NamesText-along named_id (ReadsTo steps text_now s (EndsInUnknown packages)) (IsFirstUnknown packages ids) e
       (λ id n. subst (λ l. IsFirstUnknown packages l id) (take-append-drop (length n.0) ids)
       (first_unknown-read (IsKnown packages) (take (length n.0) ids) (drop (length n.0) ids) id
       (subst (λ l. EndsInUnknown packages l id) (YieldsList-so_far road n.0 n.1 n.2) n.3))) names

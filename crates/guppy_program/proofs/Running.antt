@@ -87,7 +87,7 @@ of_whole-along (Some input) new P Q along is = (is.0, along input is.1)
 
 module _ (args : List (List ℕ)) (command : Command) (asked : command_of args ≡ Some command) (old new : Option (List ℕ)) where
   program_answer : (input output : List ℕ) → IsInputAnswer command input output → IsProgramAnswer args input output
-  program_answer input output is = record { command = command; asked = asked; graph = is.0; loaded = is.1; answer = is.2 }
+  program_answer input output is = record { command = command; asked = asked; graph = is.0; loaded = is.1; holds = is.2 }
 
   pub answered : (P : List ℕ → Type 0) (output : List ℕ) → OfWholeInput old new (λ i. IsInputAnswer command i output) → P output → OfWholeInput old new (λ i. IsAnswered args i P)
   answered P output answers holds = of_whole-along old new (λ i. IsInputAnswer command i output) (λ i. IsAnswered args i P) (λ i is. (output, program_answer i output is, holds)) answers
@@ -101,12 +101,12 @@ module _ (args : List (List ℕ)) (command : Command) (asked : command_of args �
   pub source_refused : (error : Error) → IsSourceFault command old new (Library error) → IsLibraryRefusal args old new error
   source_refused (PackageGraphConstructError f) is = is
   source_refused (UnknownPackageId id) is = of_whole-along old new (λ i. OfLoaded i (λ g. IsFirstUnknownNamed command g id)) (λ i. IsUnknownId args i id)
-      (λ i first. record { command = command; asked = asked; graph = first.0; loaded = first.1; first = first.2 }) is
+      (λ i first. record { command = command; asked = asked; graph = first.0; loaded = first.1; holds = first.2 }) is
   source_refused (UnknownFeatureId id feature) is = absurd is
   source_refused (UnknownWorkspacePath path) is = absurd is
   source_refused (UnknownWorkspaceName name) is = absurd is
   source_refused (PackageGraphInternalError fault) is = of_whole-along old new (λ i. OfLoaded i (λ g. IsVerifyFault command g fault)) (λ i. IsFaultFound args i fault)
-      (λ i first. record { command = command; asked = asked; graph = first.0; loaded = first.1; first = first.2 }) is
+      (λ i first. record { command = command; asked = asked; graph = first.0; loaded = first.1; holds = first.2 }) is
   source_refused (FeatureGraphInternalError text) is = absurd is
   source_refused OutOfMemory is = tt
 

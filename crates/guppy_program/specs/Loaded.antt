@@ -12,24 +12,25 @@ use Rattle.guppy_input.specs.declared.fault.RunFault.TheVariants.{Library, BadLi
 use Rattle.guppy_input.specs.Text.{IsAllGood, IsFirstBadLine, statements_of}
 use Rattle.guppy_input.specs.Records.{AreRecordsOf}
 
--- every line is good, the records that they say break no rule, and the graph holds exactly these
-pub record IsLoaded (input : List ℕ) (g : GraphData) : Type 0 where
+-- every line is good, and P holds of the records that they say
+pub record OfRecords (input : List ℕ)
+    (P : List PackageRecord → List LinkRecord → WorkspaceRecord → Type 0) : Type 0 where
   pub good : IsAllGood input
   pub packages : List PackageRecord
   pub links : List LinkRecord
   pub workspace : WorkspaceRecord
   pub said : AreRecordsOf (statements_of input) packages links workspace
-  pub accepted : IsAccepted packages links workspace
-  pub held : Holds g packages links workspace
+  pub holds : P packages links workspace
+
+-- every line is good, the records that they say break no rule, and the graph holds exactly these
+abbrev pub IsLoaded : List ℕ → GraphData → Type 0
+IsLoaded input g = OfRecords input (λ packages links workspace.
+    IsAccepted packages links workspace × Holds g packages links workspace)
 
 -- every line is good, and the fault is the first of the records that they say
-pub record IsRecordFault (input : List ℕ) (fault : ConstructFault) : Type 0 where
-  pub good : IsAllGood input
-  pub packages : List PackageRecord
-  pub links : List LinkRecord
-  pub workspace : WorkspaceRecord
-  pub said : AreRecordsOf (statements_of input) packages links workspace
-  pub first : IsFirstFault packages links workspace fault
+abbrev pub IsRecordFault : List ℕ → ConstructFault → Type 0
+IsRecordFault input fault = OfRecords input (λ packages links workspace.
+    IsFirstFault packages links workspace fault)
 
 -- the number is that of the first bad line, or every line is good and the error tells the first
 -- fault of the records, or memory ran out

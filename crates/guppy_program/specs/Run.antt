@@ -13,13 +13,19 @@ use Rattle.guppy_command.specs.Command.{Command, command_of}
 use Rattle.guppy_program.specs.Loaded.{IsLoaded, IsRecordFault}
 use Rattle.guppy_program.specs.Answer.{IsAnswer, IsFirstUnknownNamed, IsVerifyFault}
 
--- the output is an answer to the arguments and the input
-pub record IsProgramAnswer (args : List (List ℕ)) (input output : List ℕ) : Type 0 where
+-- the arguments ask a command, the input says a graph, and P holds of the two
+pub record OfAsked (args : List (List ℕ)) (input : List ℕ)
+    (P : Command → GraphData → Type 0) : Type 0 where
   pub command : Command
   pub asked : command_of args ≡ Some command
   pub graph : GraphData
   pub loaded : IsLoaded input graph
-  pub answer : IsAnswer command graph output
+  pub holds : P command graph
+
+-- the output is an answer to the arguments and the input
+abbrev pub IsProgramAnswer : List (List ℕ) → List ℕ → List ℕ → Type 0
+IsProgramAnswer args input output =
+    OfAsked args input (λ command graph. IsAnswer command graph output)
 
 -- P holds of an answer
 abbrev pub IsAnswered : List (List ℕ) → List ℕ → (List ℕ → Type 0) → Type 0
@@ -31,21 +37,15 @@ IsBegun args input P = (front rest : List ℕ) × IsProgramAnswer args input (fr
 
 -- every line is good, the records are accepted, and the ID is the first of the command that is no
 -- package's
-pub record IsUnknownId (args : List (List ℕ)) (input id : List ℕ) : Type 0 where
-  pub command : Command
-  pub asked : command_of args ≡ Some command
-  pub graph : GraphData
-  pub loaded : IsLoaded input graph
-  pub first : IsFirstUnknownNamed command graph id
+abbrev pub IsUnknownId : List (List ℕ) → List ℕ → List ℕ → Type 0
+IsUnknownId args input id =
+    OfAsked args input (λ command graph. IsFirstUnknownNamed command graph id)
 
 -- every line is good, the records are accepted, and the fault is the first of the graph, which the
 -- command asks for
-pub record IsFaultFound (args : List (List ℕ)) (input : List ℕ) (fault : VerifyFault) : Type 0 where
-  pub command : Command
-  pub asked : command_of args ≡ Some command
-  pub graph : GraphData
-  pub loaded : IsLoaded input graph
-  pub first : IsVerifyFault command graph fault
+abbrev pub IsFaultFound : List (List ℕ) → List ℕ → VerifyFault → Type 0
+IsFaultFound args input fault =
+    OfAsked args input (λ command graph. IsVerifyFault command graph fault)
 
 -- the source has come to its end, and P holds of all that it had
 abbrev pub OfWholeInput : Option (List ℕ) → Option (List ℕ) → (List ℕ → Type 0) → Type 0

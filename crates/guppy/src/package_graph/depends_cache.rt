@@ -19,17 +19,13 @@ pub struct DependsCache<'g> {
 
 impl<'g> Model for DependsCache<'g> {
     ghost use Rattle.std.specs.Prelude.{◌≡◌, length};
-    ghost use Rattle.guppy_data.specs.contracts.records.PackageRecord as of_package;
-    ghost use Rattle.guppy_data.specs.contracts.records.LinkRecord as of_link;
-    ghost use Rattle.guppy_data.specs.contracts.records.WorkspaceRecord as of_workspace;
-    ghost use Rattle.std.specs.Coded.{codes};
+    ghost use Rattle.guppy_graph.specs.contracts.graph.RecordGraph as of_graph;
     ghost use Rattle.guppy_graph.specs.Graph.{GraphData};
 
     // The graph that is asked about.
     ghost Value = { GraphData };
 
-    ghost coded = { Prim.hlevel
-        (codes, of_package.the_row.coded, of_link.the_row.coded, of_workspace.the_row.coded) };
+    ghost coded = { of_graph.the_row.coded };
 
     ghost view = { λ c. c.graph.now };
 

@@ -23,15 +23,11 @@ pub struct PackageGraph {
 
 impl Model for PackageGraph {
     ghost use Rattle.guppy_graph.specs.Graph.{GraphData};
-    ghost use Rattle.guppy_data.specs.contracts.records.PackageRecord as of_package;
-    ghost use Rattle.guppy_data.specs.contracts.records.LinkRecord as of_link;
-    ghost use Rattle.guppy_data.specs.contracts.records.WorkspaceRecord as of_workspace;
-    ghost use Rattle.std.specs.Coded.{codes};
+    ghost use Rattle.guppy_graph.specs.contracts.graph.RecordGraph as of_graph;
 
     ghost Value = { GraphData };
 
-    ghost coded = { Prim.hlevel
-        (codes, of_package.the_row.coded, of_link.the_row.coded, of_workspace.the_row.coded) };
+    ghost coded = { of_graph.the_row.coded };
 
     ghost view = { λ g. g.records };
 }

@@ -28,7 +28,7 @@ impl PackageGraph {
         ensures links { result.now.links ≡ self.now.links }
         ensures graph { IsPackageGraph self.now }
     {
-        self.records.graph()
+        self.records.dep_graph()
     }
 
     /// Whether at least one link leads from one position to the other, and at least one back.

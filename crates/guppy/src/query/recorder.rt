@@ -1,5 +1,5 @@
-//! A visitor that writes down what another one is shown and answers.
-ghost use Rattle.std.specs.Prelude.{◌≡◌, ℕ, ◌<◌, ◌≤◌, [], length, IfOk, IsOkUnless, vec_capacity};
+//! Resolves that tell their trace: `Recorder` as a visitor of packages.
+ghost use Rattle.std.specs.Prelude.{◌≡◌, ℕ, ◌<◌, length, IfOk, IsOkUnless};
 ghost use Rattle.guppy_core.specs.Resolve.{JudgesResolve, Visits};
 ghost use Rattle.guppy.specs.Visitors.{VisitsAt, MayVisitAt};
 
@@ -7,33 +7,10 @@ use crate::link::PackageLink;
 use crate::query::visitor::PackageLinkVisitor;
 use crate::query::{PackageLinkContext, PackageQuery};
 use crate::set::PackageSet;
+use guppy_core::Recorder;
 use guppy_data::Error;
-use std::alloc::{AllocError, Global};
 
-/// A visitor around another one, which answers. It keeps a list of the links that it was shown, by
-/// number, each with the answer, as long as there is room.
-#[derive(Drop)]
-pub struct Recorder<V> {
-    /// The visitor that answers.
-    pub visitor: V,
-    /// The links that were shown, by number, and the answers.
-    pub entries: Vec<(usize, bool)>,
-}
-
-impl<V: Drop> Recorder<V> {
-    /// Around this visitor, with no entry and room for so many.
-    ///
-    /// Takes memory for them. Fails only where there is none.
-    pub fn new(alloc: Global, visitor: V, room: usize) -> Result<Self, AllocError>
-        ensures visitor { IfOk result (λ r. r.visitor ≡ visitor) }
-        ensures entries { IfOk result (λ r. r.entries.items ≡ []) }
-        ensures room { IfOk result (λ r. room ≤ vec_capacity r.entries) }
-    {
-        let entries = Vec::with_capacity(alloc, room)?;
-        Ok(Recorder { visitor, entries })
-    }
-}
-
+/// Answers as the visitor inside it, and keeps each link that was shown, by number, with the answer.
 impl<V: PackageLinkVisitor> PackageLinkVisitor for Recorder<V> {
     ghost use Rattle.std.specs.Prelude.{◌≡◌, ◌<◌, ◌≤◌, ◌++◌, ◌∷◌, [], length, vec_capacity};
 

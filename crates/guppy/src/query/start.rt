@@ -1,10 +1,11 @@
 //! The calls of a graph, a package and a set that answer a query.
-ghost use Rattle.std.specs.Prelude.{◌≡◌, ◌↔◌, ℕ, List, IfOk, IfErr, IsOkUnless, map};
-ghost use Rattle.std.specs.Iterator.{IsFinite, Drains, Yields};
+ghost use Rattle.std.specs.Prelude.{◌≡◌, IfOk, IfErr, IsOkUnless};
+ghost use Rattle.std.specs.Iterator.{IsFinite};
 ghost use Rattle.guppy_data.specs.Utf8Path.{path_text};
 ghost use Rattle.guppy.specs.Query.{IsNamedSet, IsSetNamed, IsSetWhere, initials_of};
 ghost use Rattle.guppy_graph.specs.Members.{HasPath, HasName, IsMember};
 ghost use Rattle.guppy_graph.specs.Refused.{NamesId, NamesPath, NamesName, EndsInUnknown, EndsInUnknownPath, EndsInUnknownName};
+ghost use Rattle.guppy.specs.Read.{ReadsAll, ReadsTo, text_now};
 
 use crate::metadata::PackageMetadata;
 use crate::package_graph::PackageGraph;
@@ -29,11 +30,10 @@ impl PackageGraph {
         requires ends { IsFinite (I.remaining ids) }
         ensures graph { IfOk result (λ q. q.graph ≡ self.now) }
         ensures direction { IfOk result (λ q. q.direction ≡ direction) }
-        ensures initials { IfOk result (λ q. (named : List _) × Drains I.next_gives ids named
-            × IsNamedSet self.now.packages (map (λ id. id.now) named) q.initials) }
+        ensures initials { IfOk result (λ q. ReadsAll I.next_gives text_now ids
+            (λ named. IsNamedSet self.now.packages named q.initials)) }
         ensures unknown { IfErr result
-            (NamesId (λ id. (named : List _) × (rest : I) × Yields I.next_gives ids named rest
-            × EndsInUnknown self.now.packages (map (λ id. id.now) named) id)) }
+            (NamesId (ReadsTo I.next_gives text_now ids (EndsInUnknown self.now.packages))) }
     {
         let initials = self.resolve_ids(ids)?;
         Ok(PackageQuery {
@@ -56,11 +56,10 @@ impl PackageGraph {
         requires ends { IsFinite (I.remaining ids) }
         ensures graph { IfOk result (λ q. q.graph ≡ self.now) }
         ensures direction { IfOk result (λ q. q.direction ≡ DependencyDirection.Forward) }
-        ensures initials { IfOk result (λ q. (named : List _) × Drains I.next_gives ids named
-            × IsNamedSet self.now.packages (map (λ id. id.now) named) q.initials) }
+        ensures initials { IfOk result (λ q. ReadsAll I.next_gives text_now ids
+            (λ named. IsNamedSet self.now.packages named q.initials)) }
         ensures unknown { IfErr result
-            (NamesId (λ id. (named : List _) × (rest : I) × Yields I.next_gives ids named rest
-            × EndsInUnknown self.now.packages (map (λ id. id.now) named) id)) }
+            (NamesId (ReadsTo I.next_gives text_now ids (EndsInUnknown self.now.packages))) }
     {
         self.query_directed(ids, DependencyDirection::Forward)
     }
@@ -79,11 +78,10 @@ impl PackageGraph {
         requires ends { IsFinite (I.remaining ids) }
         ensures graph { IfOk result (λ q. q.graph ≡ self.now) }
         ensures direction { IfOk result (λ q. q.direction ≡ DependencyDirection.Reverse) }
-        ensures initials { IfOk result (λ q. (named : List _) × Drains I.next_gives ids named
-            × IsNamedSet self.now.packages (map (λ id. id.now) named) q.initials) }
+        ensures initials { IfOk result (λ q. ReadsAll I.next_gives text_now ids
+            (λ named. IsNamedSet self.now.packages named q.initials)) }
         ensures unknown { IfErr result
-            (NamesId (λ id. (named : List _) × (rest : I) × Yields I.next_gives ids named rest
-            × EndsInUnknown self.now.packages (map (λ id. id.now) named) id)) }
+            (NamesId (ReadsTo I.next_gives text_now ids (EndsInUnknown self.now.packages))) }
     {
         self.query_directed(ids, DependencyDirection::Reverse)
     }
@@ -118,12 +116,11 @@ impl PackageGraph {
         requires ends { IsFinite (I.remaining paths) }
         ensures graph { IfOk result (λ q. q.graph ≡ self.now) }
         ensures direction { IfOk result (λ q. q.direction ≡ DependencyDirection.Forward) }
-        ensures initials { IfOk result (λ q. (asked : List _) × Drains I.next_gives paths asked
-            × IsSetNamed (HasPath self.now.packages) self.now.packages
-            (map path_text asked) q.initials) }
+        ensures initials { IfOk result (λ q. ReadsAll I.next_gives path_text paths
+            (λ asked. IsSetNamed (HasPath self.now.packages) self.now.packages asked q.initials)) }
         ensures unknown { IfErr result
-            (NamesPath (λ path. (asked : List _) × (rest : I) × Yields I.next_gives paths asked rest
-            × EndsInUnknownPath self.now.packages (map path_text asked) path)) }
+            (NamesPath (ReadsTo I.next_gives path_text paths
+            (EndsInUnknownPath self.now.packages))) }
     {
         let initials = self.resolve_workspace_paths(paths)?;
         Ok(forward_from(initials))
@@ -143,12 +140,11 @@ impl PackageGraph {
         requires ends { IsFinite (I.remaining names) }
         ensures graph { IfOk result (λ q. q.graph ≡ self.now) }
         ensures direction { IfOk result (λ q. q.direction ≡ DependencyDirection.Forward) }
-        ensures initials { IfOk result (λ q. (asked : List _) × Drains I.next_gives names asked
-            × IsSetNamed (HasName self.now.packages) self.now.packages
-            (map (λ name. name.now) asked) q.initials) }
+        ensures initials { IfOk result (λ q. ReadsAll I.next_gives text_now names
+            (λ asked. IsSetNamed (HasName self.now.packages) self.now.packages asked q.initials)) }
         ensures unknown { IfErr result
-            (NamesName (λ name. (asked : List _) × (rest : I) × Yields I.next_gives names asked rest
-            × EndsInUnknownName self.now.packages (map (λ name. name.now) asked) name)) }
+            (NamesName (ReadsTo I.next_gives text_now names
+            (EndsInUnknownName self.now.packages))) }
     {
         let initials = self.resolve_workspace_names(names)?;
         Ok(forward_from(initials))

@@ -1,11 +1,12 @@
 //! The calls of a graph that answer the set of members of the workspace.
-ghost use Rattle.std.specs.Prelude.{◌≡◌, List, IfOk, IfErr, IsOkUnless, map};
-ghost use Rattle.std.specs.Iterator.{IsFinite, Drains, Yields};
+ghost use Rattle.std.specs.Prelude.{◌≡◌, IfOk, IfErr, IsOkUnless, map};
+ghost use Rattle.std.specs.Iterator.{IsFinite};
 ghost use Rattle.guppy_data.specs.Utf8Path.{path_text};
 ghost use Rattle.guppy.specs.Query.{IsSetNamed, IsSetWhere};
 ghost use Rattle.guppy_graph.specs.Members.{HasPath, HasName, IsMember, AreMembersByPath};
 ghost use Rattle.guppy_graph.specs.Ids.{ix_position};
 ghost use Rattle.guppy_graph.specs.Refused.{NamesPath, NamesName, EndsInUnknownPath, EndsInUnknownName};
+ghost use Rattle.guppy.specs.Read.{ReadsAll, ReadsTo, text_now};
 
 use crate::package_graph::PackageGraph;
 use crate::set::PackageSet;
@@ -41,16 +42,14 @@ impl PackageGraph {
         requires can { I.can_next paths }
         requires ends { IsFinite (I.remaining paths) }
         ensures graph { IfOk result (λ set. set.graph ≡ self.now) }
-        ensures members { IfOk result (λ set. (asked : List _) × Drains I.next_gives paths asked
-            × IsSetNamed (HasPath self.now.packages) self.now.packages
-            (map path_text asked) set.included) }
+        ensures members { IfOk result (λ set. ReadsAll I.next_gives path_text paths
+            (λ asked. IsSetNamed (HasPath self.now.packages) self.now.packages
+            asked set.included)) }
         ensures unknown { IfErr result
-            (NamesPath (λ path. (asked : List _) × (rest : I) × Yields I.next_gives paths asked rest
-            × EndsInUnknownPath self.now.packages (map path_text asked) path)) }
+            (NamesPath (ReadsTo I.next_gives path_text paths
+            (EndsInUnknownPath self.now.packages))) }
     {
-        let ixs = self.ixs_of_paths(paths)?;
-        let set = self.set_of(ixs)?;
-        Ok(set)
+        self.set_named(paths)
     }
 
     /// The members of the workspace with these names, and no other package. Repeats count once.
@@ -65,16 +64,14 @@ impl PackageGraph {
         requires can { I.can_next names }
         requires ends { IsFinite (I.remaining names) }
         ensures graph { IfOk result (λ set. set.graph ≡ self.now) }
-        ensures members { IfOk result (λ set. (asked : List _) × Drains I.next_gives names asked
-            × IsSetNamed (HasName self.now.packages) self.now.packages
-            (map (λ name. name.now) asked) set.included) }
+        ensures members { IfOk result (λ set. ReadsAll I.next_gives text_now names
+            (λ asked. IsSetNamed (HasName self.now.packages) self.now.packages
+            asked set.included)) }
         ensures unknown { IfErr result
-            (NamesName (λ name. (asked : List _) × (rest : I) × Yields I.next_gives names asked rest
-            × EndsInUnknownName self.now.packages (map (λ name. name.now) asked) name)) }
+            (NamesName (ReadsTo I.next_gives text_now names
+            (EndsInUnknownName self.now.packages))) }
     {
-        let ixs = self.ixs_of_names(names)?;
-        let set = self.set_of(ixs)?;
-        Ok(set)
+        self.set_named(names)
     }
 
     // The positions of the members.

@@ -1,13 +1,14 @@
 //! The calls of a graph and a package that answer the set of exactly the named packages.
-ghost use Rattle.std.specs.Prelude.{◌≡◌, ◌↔◌, ℕ, ◌<◌, List, Bool, true, false, replicate, length, All, IsTrue, IfOk, IfErr, IsOkUnless, map};
+ghost use Rattle.std.specs.Prelude.{◌≡◌, ◌↔◌, ℕ, ◌<◌, true, false, replicate, length, All, IsTrue, IfOk, IfErr, IsOkUnless, map};
 ghost use Rattle.std.specs.List.{Contains};
-ghost use Rattle.std.specs.Iterator.{IsFinite, Drains, Yields};
+ghost use Rattle.std.specs.Iterator.{IsFinite};
 ghost use Rattle.guppy_core.specs.IxSet.{IsIn};
-ghost use Rattle.guppy.specs.Query.{AreNamed, IsNamedSet, IsSetWhere};
+ghost use Rattle.guppy.specs.Query.{IsNamedSet, IsSetWhere};
 ghost use Rattle.guppy_graph.specs.Ids.{ix_position};
 ghost use Rattle.guppy_graph.specs.Graph.{IsPackageGraph};
 ghost use Rattle.guppy.specs.PackageNames.{HasPackageName};
 ghost use Rattle.guppy_graph.specs.Refused.{NamesId, EndsInUnknown};
+ghost use Rattle.guppy.specs.Read.{ReadsAll, ReadsTo, text_now};
 
 use crate::metadata::PackageMetadata;
 use crate::package_graph::PackageGraph;
@@ -57,15 +58,12 @@ impl PackageGraph {
         requires can { I.can_next ids }
         requires ends { IsFinite (I.remaining ids) }
         ensures graph { IfOk result (λ set. set.graph ≡ self.now) }
-        ensures members { IfOk result (λ set. (named : List _) × Drains I.next_gives ids named
-            × IsNamedSet self.now.packages (map (λ id. id.now) named) set.included) }
+        ensures members { IfOk result (λ set. ReadsAll I.next_gives text_now ids
+            (λ named. IsNamedSet self.now.packages named set.included)) }
         ensures unknown { IfErr result
-            (NamesId (λ id. (named : List _) × (rest : I) × Yields I.next_gives ids named rest
-            × EndsInUnknown self.now.packages (map (λ id. id.now) named) id)) }
+            (NamesId (ReadsTo I.next_gives text_now ids (EndsInUnknown self.now.packages))) }
     {
-        let ixs = self.ixs_of(ids)?;
-        let set = self.set_of(ixs)?;
-        Ok(set)
+        self.set_named(ids)
     }
 
     /// The packages with this name, of the workspace or not; none where no package has it.
@@ -82,26 +80,6 @@ impl PackageGraph {
         let ixs = self.ixs_with_name(name)?;
         let set = self.set_of(ixs)?;
         Ok(set)
-    }
-
-    // The positions of the packages with these IDs.
-    fn ixs_of<'a, I: Iterator<Item = &'a PackageId> + Drop>(
-        &self,
-        ids: I,
-    ) -> Result<Vec<PackageIx>, Error>
-        requires can { I.can_next ids }
-        requires ends { IsFinite (I.remaining ids) }
-        ensures named { IfOk result (λ ixs. (named : List _) × Drains I.next_gives ids named
-            × AreNamed self.now.packages (map (λ id. id.now) named) (map ix_position ixs.items)) }
-        ensures unknown { IfErr result
-            (NamesId (λ id. (named : List _) × (rest : I) × Yields I.next_gives ids named rest
-            × EndsInUnknown self.now.packages (map (λ id. id.now) named) id)) }
-    {
-        let mut ixs = Vec::new(self.alloc());
-        for id in ids {
-            ixs.push(self.ix_of(id)?)?;
-        }
-        Ok(ixs)
     }
 
     // The positions of the packages with this name.

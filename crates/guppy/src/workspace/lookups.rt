@@ -1,17 +1,18 @@
 //! Members of a workspace by their paths and their names.
-ghost use Rattle.std.specs.Prelude.{◌≡◌, ◌<◌, List, [], ◌∷◌, length, map, All, IfOk, IfErr, IsOk};
+ghost use Rattle.std.specs.Prelude.{◌≡◌, ◌<◌, [], ◌∷◌, length, map, All, IfOk, IfErr, IsOk};
 ghost use Rattle.std.specs.List.{AllZip};
-ghost use Rattle.std.specs.Iterator.{IsFinite, Drains, Yields};
+ghost use Rattle.std.specs.Iterator.{IsFinite};
 ghost use Rattle.guppy_data.specs.Utf8Path.{path_text};
 ghost use Rattle.guppy_graph.specs.Ids.{ix_position};
 ghost use Rattle.guppy_graph.specs.Members.{HasPath, HasName, IsMemberPath, IsMemberName};
-ghost use Rattle.guppy_graph.specs.Refused.{NamesPath, NamesName, IsFirstUnknownPath, IsFirstUnknownName, EndsInUnknownPath, EndsInUnknownName};
+ghost use Rattle.guppy_graph.specs.Refused.{NamesText, NamesPath, NamesName, IsFirstUnknownPath, IsFirstUnknownName, EndsInFirstNot, EndsInUnknownPath, EndsInUnknownName};
+ghost use Rattle.guppy.specs.Read.{HasSome, ReadsAll, ReadsTo, text_now};
 
 use crate::metadata::PackageMetadata;
-use crate::package_graph::PackageGraph;
+use crate::package_graph::NamesPackage;
 use crate::workspace::Workspace;
 use guppy_core::{IndexType, PackageIx};
-use guppy_data::{Error, Utf8Path, Utf8PathBuf};
+use guppy_data::{Error, Utf8Path};
 use std::alloc::AllocError;
 
 impl<'g> Workspace<'g> {
@@ -30,7 +31,7 @@ impl<'g> Workspace<'g> {
             (NamesPath (IsFirstUnknownPath (workspace_packages self.entry)
             (path_text path.entry ∷ []))) }
     {
-        let ix = self.graph.ix_of_path(path)?;
+        let ix = path.ix_in(self.graph)?;
         Ok(PackageMetadata {
             graph: self.graph,
             position: ix.index(),
@@ -48,7 +49,7 @@ impl<'g> Workspace<'g> {
         ensures unknown { IfErr result
             (NamesName (IsFirstUnknownName (workspace_packages self.entry) (name.now ∷ []))) }
     {
-        let ix = self.graph.ix_of_name(name)?;
+        let ix = name.ix_in(self.graph)?;
         Ok(PackageMetadata {
             graph: self.graph,
             position: ix.index(),
@@ -66,16 +67,15 @@ impl<'g> Workspace<'g> {
     ) -> Result<Vec<PackageMetadata<'g>>, Error>
         requires can { I.can_next paths }
         requires ends { IsFinite (I.remaining paths) }
-        ensures found { IfOk result (λ members. (asked : List _) × Drains I.next_gives paths asked
-            × AllZip (λ path m. (graph_of m ≡ workspace_graph self.entry)
+        ensures found { IfOk result (λ members. ReadsAll I.next_gives path_text paths
+            (λ asked. AllZip (λ path m. (graph_of m ≡ workspace_graph self.entry)
             × HasPath (workspace_packages self.entry) path (package_position m))
-            (map path_text asked) members.items) }
+            asked members.items)) }
         ensures unknown { IfErr result
-            (NamesPath (λ path. (asked : List _) × (rest : I) × Yields I.next_gives paths asked rest
-            × EndsInUnknownPath (workspace_packages self.entry) (map path_text asked) path)) }
+            (NamesPath (ReadsTo I.next_gives path_text paths
+            (EndsInUnknownPath (workspace_packages self.entry)))) }
     {
-        let ixs = self.graph.ixs_of_paths(paths)?;
-        Ok(self.members_at(ixs.as_slice())?)
+        self.members_named(paths)
     }
 
     /// The members with these names, in their order, with their repeats.
@@ -89,16 +89,32 @@ impl<'g> Workspace<'g> {
     ) -> Result<Vec<PackageMetadata<'g>>, Error>
         requires can { I.can_next names }
         requires ends { IsFinite (I.remaining names) }
-        ensures found { IfOk result (λ members. (asked : List _) × Drains I.next_gives names asked
-            × AllZip (λ name m. (graph_of m ≡ workspace_graph self.entry)
+        ensures found { IfOk result (λ members. ReadsAll I.next_gives text_now names
+            (λ asked. AllZip (λ name m. (graph_of m ≡ workspace_graph self.entry)
             × HasName (workspace_packages self.entry) name (package_position m))
-            (map (λ name. name.now) asked) members.items) }
+            asked members.items)) }
         ensures unknown { IfErr result
-            (NamesName (λ name. (asked : List _) × (rest : I) × Yields I.next_gives names asked rest
-            × EndsInUnknownName (workspace_packages self.entry)
-            (map (λ name. name.now) asked) name)) }
+            (NamesName (ReadsTo I.next_gives text_now names
+            (EndsInUnknownName (workspace_packages self.entry)))) }
     {
-        let ixs = self.graph.ixs_of_names(names)?;
+        self.members_named(names)
+    }
+
+    // The packages that the list names, in its order, with its repeats.
+    fn members_named<N: NamesPackage, I: Iterator<Item = N> + Drop>(
+        self,
+        names: I,
+    ) -> Result<Vec<PackageMetadata<'g>>, Error>
+        requires can { I.can_next names }
+        requires ends { IsFinite (I.remaining names) }
+        ensures found { IfOk result (λ members. ReadsAll I.next_gives N.text names
+            (λ texts. AllZip (λ text m. (graph_of m ≡ workspace_graph self.entry)
+            × N.at (workspace_packages self.entry) text (package_position m))
+            texts members.items)) }
+        ensures unknown { IfErr result (NamesText N.named (ReadsTo I.next_gives N.text names
+            (EndsInFirstNot (HasSome (N.at (workspace_packages self.entry)))))) }
+    {
+        let ixs = self.graph.ixs_of::<N, I>(names)?;
         Ok(self.members_at(ixs.as_slice())?)
     }
 
@@ -117,82 +133,5 @@ impl<'g> Workspace<'g> {
             })?;
         }
         Ok(members)
-    }
-}
-
-impl PackageGraph {
-    // The position of the member with the path. Takes memory only for the error's copy of the path.
-    fn ix_of_path(&self, path: Utf8Path<'_>) -> Result<PackageIx, Error>
-        ensures found { IfOk result (λ ix. HasPath self.now.packages (path_text path.entry)
-            (ix_position ix)) }
-        ensures known { IsMemberPath self.now.packages (path_text path.entry) → IsOk result }
-        ensures unknown { IfErr result
-            (NamesPath (IsFirstUnknownPath self.now.packages (path_text path.entry ∷ []))) }
-    {
-        match self.position_of_path(path) {
-            Some(position) => Ok(self.ix_at(position)),
-            None => {
-                let text = String::from_str(self.alloc(), path.as_str())?;
-                Err(Error::UnknownWorkspacePath(Utf8PathBuf::new(text)))
-            }
-        }
-    }
-
-    // The position of the member with the name. Takes memory only for the error's copy of the name.
-    fn ix_of_name(&self, name: &str) -> Result<PackageIx, Error>
-        ensures found { IfOk result (λ ix. HasName self.now.packages name.now (ix_position ix)) }
-        ensures known { IsMemberName self.now.packages name.now → IsOk result }
-        ensures unknown { IfErr result
-            (NamesName (IsFirstUnknownName self.now.packages (name.now ∷ []))) }
-    {
-        match self.position_of_name(name) {
-            Some(position) => Ok(self.ix_at(position)),
-            None => {
-                let name = String::from_str(self.alloc(), name)?;
-                Err(Error::UnknownWorkspaceName(name))
-            }
-        }
-    }
-
-    /// The positions of the members with these paths, in their order, with their repeats.
-    pub(crate) fn ixs_of_paths<'a, I: Iterator<Item = Utf8Path<'a>> + Drop>(
-        &self,
-        paths: I,
-    ) -> Result<Vec<PackageIx>, Error>
-        requires can { I.can_next paths }
-        requires ends { IsFinite (I.remaining paths) }
-        ensures found { IfOk result (λ ixs. (asked : List _) × Drains I.next_gives paths asked
-            × AllZip (HasPath self.now.packages) (map path_text asked)
-            (map ix_position ixs.items)) }
-        ensures unknown { IfErr result
-            (NamesPath (λ path. (asked : List _) × (rest : I) × Yields I.next_gives paths asked rest
-            × EndsInUnknownPath self.now.packages (map path_text asked) path)) }
-    {
-        let mut ixs = Vec::new(self.alloc());
-        for path in paths {
-            ixs.push(self.ix_of_path(path)?)?;
-        }
-        Ok(ixs)
-    }
-
-    /// The positions of the members with these names, in their order, with their repeats.
-    pub(crate) fn ixs_of_names<'a, I: Iterator<Item = &'a str> + Drop>(
-        &self,
-        names: I,
-    ) -> Result<Vec<PackageIx>, Error>
-        requires can { I.can_next names }
-        requires ends { IsFinite (I.remaining names) }
-        ensures found { IfOk result (λ ixs. (asked : List _) × Drains I.next_gives names asked
-            × AllZip (HasName self.now.packages) (map (λ name. name.now) asked)
-            (map ix_position ixs.items)) }
-        ensures unknown { IfErr result
-            (NamesName (λ name. (asked : List _) × (rest : I) × Yields I.next_gives names asked rest
-            × EndsInUnknownName self.now.packages (map (λ name. name.now) asked) name)) }
-    {
-        let mut ixs = Vec::new(self.alloc());
-        for name in names {
-            ixs.push(self.ix_of_name(name)?)?;
-        }
-        Ok(ixs)
     }
 }

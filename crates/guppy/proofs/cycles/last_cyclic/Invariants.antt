@@ -1,13 +1,9 @@
-use Rattle.std.proofs.Common.{◌≡◌, ◌<◌, All, length}
-use Rattle.std.specs.List.{filter}
-use Rattle.guppy_graph.specs.Cycles.{is_cyclic_component}
+use Rattle.std.proofs.Common.{length}
+use Rattle.guppy.proofs.CyclicComponents.{ArePassedOver}
 use Rattle.guppy.proofs.cycles.last_cyclic.Given as goal
 
 abbrev pub invariant-loop-component : goal.invariant-loop-component
-invariant-loop-component l = record {
-  same : filter (is_cyclic_component l.graph.links) l.components ≡ filter (is_cyclic_component l.graph.links) l.fn.components;
-  below : All (All (λ p. p < length l.graph.packages)) l.components;
-}
+invariant-loop-component l = ArePassedOver l.graph.links (length l.graph.packages) l.fn.components l.components
 
 abbrev pub decreases-loop-component : goal.decreases-loop-component
 decreases-loop-component l = length l.components

@@ -9,7 +9,7 @@ use Rattle.guppy_graph.proofs.Verifying.{fault_lacks}
 use Rattle.guppy_graph.proofs.graph.RecordGraph.fault_of_links.Goals as goal
 
 pub fault_of_link-requires : goal.fault_of_link-requires
-fault_of_link-requires c = (rw c.graph.ensures.links at c.links_of-number-items.ensures.within) c.loop-number.number-index 0 c.loop-number-test.true
+fault_of_link-requires c = (rw c.dep_graph.ensures.links at c.links_of-number-items.ensures.within) c.loop-number.number-index 0 c.loop-number-test.true
 
 pub returns-in-Some : goal.returns-in-Some
 returns-in-Some c =
@@ -17,7 +17,7 @@ returns-in-Some c =
     let numbers = c.links_of-number-items.result.now in
     let k = c.loop-number.number-index in
     let n : ℕ = get_or numbers k 0 in
-    let are : numbers ≡ links_at Forward g.links c.args.position = rw (c.graph.ensures.links, c.ix_at-ix.ensures) at c.links_of-number-items.ensures.links in
+    let are : numbers ≡ links_at Forward g.links c.args.position = rw (c.dep_graph.ensures.links, c.ix_at-ix.ensures) at c.links_of-number-items.ensures.links in
     record {
       place = k;
       first = record {
@@ -36,5 +36,5 @@ pub returns : goal.returns
 returns c =
     let g = c.args.self.now in
     let numbers = c.links_of-number-items.result.now in
-    let are : numbers ≡ links_at Forward g.links c.args.position = rw (c.graph.ensures.links, c.ix_at-ix.ensures) at c.links_of-number-items.ensures.links in
+    let are : numbers ≡ links_at Forward g.links c.args.position = rw (c.dep_graph.ensures.links, c.ix_at-ix.ensures) at c.links_of-number-items.ensures.links in
     subst (All (IsLinkVerified g)) are (subst (All (IsLinkVerified g)) (take_all c.loop-number.number-index numbers c.loop-number-test.false) c.loop-number.invariant)

@@ -7,7 +7,7 @@ use Rattle.guppy_graph.proofs.graph.RecordGraph.verify.Goals as goal
 pub returns-in-Some-clause-verified : goal.returns-in-Some-clause-verified
 returns-in-Some-clause-verified c =
     let count = c.node_count-position-end.ensures.count in
-    let nodes = ap length c.graph.ensures.nodes in
+    let nodes = ap length c.dep_graph.ensures.nodes in
     let within : c.loop-position.position < length c.args.self.now.packages = omega (arith, count, nodes, c.loop-position-test.true) in (
       λ ok. absurd (cc),
       λ verified. absurd (no_fault c.args.self.now verified c.in-Some.fault
@@ -20,5 +20,5 @@ loop-position-preserved c = below_more (IsPackageVerified c.args.self.now) c.loo
 pub returns-clause-verified : goal.returns-clause-verified
 returns-clause-verified c =
     let count = c.node_count-position-end.ensures.count in
-    let nodes = ap length c.graph.ensures.nodes in
-    (λ ok. verified_of_packages c.args.self.now c.graph.ensures.graph (λ p below. c.loop-position.invariant p (omega (arith, count, nodes, c.loop-position-test.false))), λ verified. refl)
+    let nodes = ap length c.dep_graph.ensures.nodes in
+    (λ ok. verified_of_packages c.args.self.now c.dep_graph.ensures.graph (λ p below. c.loop-position.invariant p (omega (arith, count, nodes, c.loop-position-test.false))), λ verified. refl)

@@ -1,6 +1,0 @@
-use Rattle.guppy_data.specs.Utf8Path.{path_text}
-use Rattle.guppy_graph.proofs.Membership.{path_within}
-use Rattle.guppy.proofs.package_graph.graph.PackageGraph.ix_of_path.Goals as goal
-
-pub ix_at-requires : goal.ix_at-requires
-ix_at-requires c = path_within c.args.self.now.packages (path_text c.args.path) c.in-Some.position c.in-Some.ensures

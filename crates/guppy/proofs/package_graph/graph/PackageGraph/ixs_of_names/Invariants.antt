@@ -1,8 +1,0 @@
-use Rattle.std.proofs.Common.{map}
-use Rattle.std.specs.List.{AllZip}
-use Rattle.guppy_graph.specs.Ids.{ix_position}
-use Rattle.guppy_graph.specs.Members.{HasName}
-use Rattle.guppy.proofs.package_graph.graph.PackageGraph.ixs_of_names.Given as goal
-
-abbrev pub invariant-loop-name : goal.invariant-loop-name
-invariant-loop-name g l = AllZip (HasName l.self.packages) (map (λ name. name.now) l.yielded) (map ix_position l.ixs.items)
