@@ -1,12 +1,14 @@
 -- Links as numbers with ends.
 use Rattle.std.proofs.Common.{◌≡◌, ℕ, ◌<◌, List, [], ◌∷◌, length, map, refl, sym, ap, ◌∙◌, arith, inl, inr, Bool, Some}
 use Rattle.std.specs.Prelude.{slice_get, slice_index, All}
-use Rattle.std.proofs.lemmas.List.{get_or-map}
+use Rattle.std.proofs.lemmas.List.{get_or-map, length-map}
 use Rattle.std.proofs.lemmas.List.Elements.{All-map, All-weaker, Contains-get_or}
 use Rattle.std.proofs.lemmas.Option.{slice_get_within, slice_get_cases, get_or_from_slice_get}
 use Rattle.guppy_search.specs.declared.ix.direction.DependencyDirection.{DependencyDirection}
 use Rattle.guppy_search.specs.declared.graph_core.link.Link.{Link}
 use Rattle.guppy_search.specs.Graph.{LinkIs}
+use Rattle.guppy_search.specs.Links.{far_end, links_at}
+use Rattle.guppy_search.specs.Stored.{far_at, far_ends_at}
 use Rattle.guppy_search.specs.Walked.{AreWalked, LinkEnds, ends_at, numbers_of}
 
 module _ {E : Type 0} (links : List (Link E)) where
@@ -15,6 +17,18 @@ module _ {E : Type 0} (links : List (Link E)) where
 
   pub ends_at-found : (n : ℕ) (l : Link E) → slice_get links n ≡ Some l → ends_at links n ≡ (let ends : LinkEnds = record { from = l.from; to = l.to; number = n } in ends)
   ends_at-found n l found = rw (read_at (λ (l : Link E). l.from) n l found, read_at (λ (l : Link E). l.to) n l found)
+
+  -- the far end that is stored of a link
+  pub far_at-found : (d : DependencyDirection) (n : ℕ) (l : Link E) → slice_get links n ≡ Some l → far_at d links n ≡ far_end d l
+  far_at-found d n l found = read_at (far_end d) n l found
+
+  -- as many far ends stand beside the numbers of a position
+  pub beside_len : (d : DependencyDirection) (p : ℕ) → length (far_ends_at d links p) ≡ length (links_at d links p)
+  beside_len d p = length-map (links_at d links p) (far_at d links)
+
+  -- beside its number stands the far end of a link
+  pub far_beside : (d : DependencyDirection) (p k : ℕ) (l : Link E) → k < length (links_at d links p) → slice_get links (slice_index (links_at d links p) k) ≡ Some l → slice_index (far_ends_at d links p) k ≡ far_end d l
+  far_beside d p k l within found = get_or-map (far_at d links) (links_at d links p) k 0 0 within ∙ far_at-found d _ l found
 
   ends_are : (n : ℕ) → n < length links → LinkIs links (ends_at links n).from (ends_at links n).to n
   ends_are n within = elim (slice_get_cases links n).1 [

@@ -69,7 +69,7 @@ pub(crate) fn first_repeat<E>(
     forward: &LinkLists,
 ) -> Result<Option<usize>, AllocError>
     requires lists { ListsAre DependencyDirection.Forward count links.now forward.now.bounds.items
-        forward.now.numbers.items }
+        forward.now.numbers.items forward.now.far.items }
     requires ends { All (EndsBelow count) links.now }
     ensures { IfOk result (λ r. MatchOption r (SinglesBelow links.now (length links.now))
         (IsFirstRepeat links.now)) }

@@ -60,6 +60,7 @@ impl<G: GraphSpec> Graph<G> {
     ghost use Rattle.guppy_search.specs.Graph.{IsGraph, NoLink, LinkIs};
     ghost use Rattle.guppy_search.specs.Fault.{IsFault};
     ghost use Rattle.guppy_search.specs.Links.{links_at};
+    ghost use Rattle.guppy_search.specs.Stored.{far_ends_at};
 
     /// The graph of these nodes and links, where each link's ends are positions of nodes and no
     /// ordered pair has two links. Otherwise the first fault: in the order of `GraphFault`, then
@@ -165,6 +166,18 @@ impl<G: GraphSpec> Graph<G> {
         match direction {
             DependencyDirection::Forward => self.forward.at(position),
             DependencyDirection::Reverse => self.reverse.at(position),
+        }
+    }
+
+    /// The far ends of the links that `links_at` gives, in its order.
+    pub(crate) fn far_ends_at(&self, position: usize, direction: DependencyDirection) -> &[u32]
+        requires { position < length self.now.nodes }
+        ensures ends { result.now ≡ far_ends_at direction self.now.links position }
+        ensures graph { IsGraph self.now }
+    {
+        match direction {
+            DependencyDirection::Forward => self.forward.far_at(position),
+            DependencyDirection::Reverse => self.reverse.far_at(position),
         }
     }
 

@@ -23,20 +23,20 @@ links-init g c = record {
 
 pub visit-requires : goal.visit-requires
 visit-requires g c =
-    let row = c.links_at-number-items in
+    let row = c.links_at-row in
     let s = c.links.invariant in
     let ready = rw (← row.ensures.links) at c.requires.ready in
     let numbers = row.result.now in
-    let n = get_or numbers c.links.number-index 0 in
-    let left : Contains (drop c.links.number-index numbers) n = rw (drop_next numbers c.links.number-index c.links-test.true) (Contains-first n _) in
+    let n = get_or numbers c.links.place 0 in
+    let left : Contains (drop c.links.place numbers) n = rw (drop_next numbers c.links.place c.links-test.true) (Contains-first n _) in
     ready.at s.shown.0 _ _ _ _ _ s.shown.2 left s.shown.1
 
 pub links-preserved-then-not-visit : goal.links-preserved-then-not-visit
 links-preserved-then-not-visit g c =
     let s = c.links.invariant in
-    let row = c.links_at-number-items.result.now in
-    let n = get_or row c.links.number-index 0 in
-    let e = drop_next row c.links.number-index c.links-test.true in
+    let row = c.links_at-row.result.now in
+    let n = get_or row c.links.place 0 in
+    let e = drop_next row c.links.place c.links-test.true in
     record {
       size = s.size;
       same_place = c.if-not-visit.ensures.same_place ∙ s.same_place;
@@ -51,8 +51,8 @@ links-preserved-then-not-visit g c =
 
 pub link-requires : goal.link-requires
 link-requires g c =
-    let row = c.links_at-number-items in
-    row_within _ _ _ row.result.now row.ensures.links c.links.number-index 0 c.links-test.true
+    let row = c.links_at-row in
+    row_within _ _ _ row.result.now row.ensures.links c.links.place 0 c.links-test.true
 
 pub include-requires-clause-in_range : goal.include-requires-clause-in_range
 include-requires-clause-in_range g c =
@@ -79,11 +79,11 @@ include-requires-clause-room g c = λ new.
 pub links-preserved : goal.links-preserved
 links-preserved g c =
     let s = c.links.invariant in
-    let row = c.links_at-number-items.result.now in
-    let n = get_or row c.links.number-index 0 in
+    let row = c.links_at-row.result.now in
+    let n = get_or row c.links.place 0 in
     let link = c.link.result.now in
     let far = far_end c.args.direction link in
-    let e = drop_next row c.links.number-index c.links-test.true in
+    let e = drop_next row c.links.place c.links-test.true in
     let shows = rw e at s.shown.2 in
     let k = rw c.far_end-far_end.ensures at c.include.ensures.cases in
     let same_place = c.if-not-visit.ensures.same_place ∙ s.same_place in
@@ -111,8 +111,8 @@ links-preserved g c =
 pub returns : goal.returns
 returns g c =
     let s = c.links.invariant in
-    let row = c.links_at-number-items in
-    let e = drop_all c.links.number-index row.result.now c.links-test.false in
+    let row = c.links_at-row in
+    let e = drop_all c.links.place row.result.now c.links-test.false in
     record {
       count = s.size;
       same_place = s.same_place;
