@@ -7,9 +7,11 @@ use Rattle.std.proofs.lemmas.Option.{slice_get_within, slice_get_cases, get_or_f
 use Rattle.guppy_search.specs.declared.ix.direction.DependencyDirection.{DependencyDirection}
 use Rattle.guppy_search.specs.declared.graph_core.link.Link.{Link}
 use Rattle.guppy_search.specs.Graph.{LinkIs}
-use Rattle.guppy_search.specs.Links.{far_end, links_at}
+use Rattle.guppy_search.specs.Links.{far_end, links_at, EndsBelow}
 use Rattle.guppy_search.specs.Stored.{far_at, far_ends_at}
 use Rattle.guppy_search.specs.Walked.{AreWalked, LinkEnds, ends_at, numbers_of}
+use Rattle.guppy_search.proofs.Rows.{row_within}
+use Rattle.guppy_search.proofs.Searching.{far_end_below}
 
 module _ {E : Type 0} (links : List (Link E)) where
   read_at : (f : Link E → ℕ) (n : ℕ) (l : Link E) → slice_get links n ≡ Some l → slice_index (map f links) n ≡ f l
@@ -21,6 +23,14 @@ module _ {E : Type 0} (links : List (Link E)) where
   -- the far end that is stored of a link
   pub far_at-found : (d : DependencyDirection) (n : ℕ) (l : Link E) → slice_get links n ≡ Some l → far_at d links n ≡ far_end d l
   far_at-found d n l found = read_at (far_end d) n l found
+
+  -- the far ends of a position's links are positions
+  pub far_below : (d : DependencyDirection) (count p : ℕ) → All (EndsBelow count) links → All (λ e. e < count) (far_ends_at d links p)
+  far_below d count p ends =
+      All-map (λ e. e < count) (far_at d links) (links_at d links p) (All-weaker (λ n. n < length links) (λ n. far_at d links n < count) (λ n within. elim (slice_get_cases links n).1 [
+        | inl s ↦ rw (far_at-found d n s.0 s.2) (far_end_below d links count n s.0 s.2 ends)
+        | inr s ↦ absurd (let past = s.0 in omega arith)
+      ]) (links_at d links p) (row_within d links p (links_at d links p) refl))
 
   -- as many far ends stand beside the numbers of a position
   pub beside_len : (d : DependencyDirection) (p : ℕ) → length (far_ends_at d links p) ≡ length (links_at d links p)

@@ -66,7 +66,7 @@ impl<G: GraphSpec> Graph<G> {
     /// ordered pair has two links. Otherwise the first fault: in the order of `GraphFault`, then
     /// the lowest link number. `OutOfMemory` comes where a growth was refused.
     ///
-    /// Time grows with nodes and links. Takes memory for two numbers a link and three a node, beside
+    /// Time grows with nodes and links. Takes memory for 24 bytes a link and three numbers a node, beside
     /// the parts themselves.
     pub fn from_parts(nodes: Vec<G::Node>, links: Vec<Link<G::Edge>>) -> Result<Self, GraphFault>
         ensures nodes { IfOk result (λ g. g.nodes ≡ nodes.items) }
@@ -190,8 +190,10 @@ impl<G: GraphSpec> Graph<G> {
         ensures { MatchOption result (NoLink self.now.links (G.Ix.index_of from) (G.Ix.index_of to))
             (LinkIs self.now.links (G.Ix.index_of from) (G.Ix.index_of to)) }
     {
-        let row = self.links_at(from.index(), DependencyDirection::Forward);
-        number_to(self.links.as_slice(), row, to.index())
+        let from = from.index();
+        let row = self.links_at(from, DependencyDirection::Forward);
+        let far_ends = self.far_ends_at(from, DependencyDirection::Forward);
+        number_to(row, far_ends, to.index())
     }
 
     /// The allocator that the graph's memory comes from.
