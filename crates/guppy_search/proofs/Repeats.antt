@@ -11,7 +11,7 @@ use Rattle.guppy_search.specs.declared.ix.direction.DependencyDirection.TheVaria
 use Rattle.guppy_search.specs.declared.graph_core.link.Link.{Link}
 use Rattle.guppy_search.specs.Links.{links_at, near_end, EndsBelow, SamePair}
 use Rattle.guppy_search.specs.Stored.{far_at, far_ends_at}
-use Rattle.guppy_search.specs.Pairs.{LeadApart, IsFirstAgain, SinglesBelow, IsFirstRepeat}
+use Rattle.guppy_search.specs.Pairs.{to_at, LeadApart, IsFirstAgain, SinglesBelow, IsFirstRepeat}
 use Rattle.guppy_search.proofs.Numbers.{numbers_ascend}
 use Rattle.guppy_search.proofs.Rows.{row_links, row_has}
 
@@ -72,10 +72,6 @@ module _ (far : List ℕ) (mark : ℕ) (marks : List ℕ) where
 -- the position that the link n comes from
 abbrev pub from_at : {E : Type 0} → List (Link E) → ℕ → ℕ
 from_at {E} links n = slice_index (map (λ (l : Link E). l.from) links) n
-
--- the position that the link n leads to
-abbrev pub to_at : {E : Type 0} → List (Link E) → ℕ → ℕ
-to_at links n = far_at Forward links n
 
 -- the link n has the pair of an earlier one
 pub record IsRepeat {E : Type 0} (links : List (Link E)) (n : ℕ) : Type 0 where

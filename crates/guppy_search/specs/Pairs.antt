@@ -1,8 +1,12 @@
 -- The first link with an unknown end, and the first that repeats a pair.
 use Rattle.std.specs.List.{HoldsAt}
-use Rattle.std.specs.Prelude.{take, true, All, ◌≡◌, ◌≢◌, ℕ, ◌<◌, List, length, Some, slice_get, slice_index}
+use Rattle.std.specs.Prelude.{take, map, true, All, ◌≡◌, ◌≢◌, ℕ, ◌<◌, List, length, Some, slice_get, slice_index}
 use Rattle.guppy_search.specs.declared.graph_core.link.Link.{Link}
 use Rattle.guppy_search.specs.Links.{SamePair, EndsBelow, is_unknown}
+
+-- the position that the link n leads to
+abbrev pub to_at : {E : Type 0} → List (Link E) → ℕ → ℕ
+to_at {E} links n = slice_index (map (λ (l : Link E). l.to) links) n
 
 -- the first i far ends are others
 abbrev pub NoneTo : List ℕ → ℕ → ℕ → Type 0

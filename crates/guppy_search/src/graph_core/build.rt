@@ -37,12 +37,7 @@ pub(crate) fn number_to(row: &[usize], far_ends: &[u32], to: usize) -> Option<us
 
 /// The number beside the first of the far ends that an earlier one is. The far ends up to there get
 /// the mark.
-fn first_again(
-    row: &[usize],
-    far_ends: &[u32],
-    mark: usize,
-    marks: &mut [usize],
-) -> Option<usize>
+fn first_again(row: &[usize], far_ends: &[u32], mark: usize, marks: &mut [usize]) -> Option<usize>
     requires beside { length far_ends.now ≡ length row.now }
     requires ends { All (λ p. p < length marks.old) far_ends.now }
     requires unused { All (λ m. m < mark) marks.old }

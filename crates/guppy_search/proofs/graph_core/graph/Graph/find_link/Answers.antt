@@ -14,5 +14,5 @@ returns g c =
     let row = c.links_at-row.ensures.links in
     let far = c.far_ends_at-far_ends.ensures.ends in
     let from = c.index-from.ensures.position in
-    let to = c.index-2.ensures.position in
-    rw (← from, ← to) (found_link c.args.self.now.links c.index-from.result c.index-2.result c.number_to.result (rw (row, far) at c.number_to.ensures))
+    let to = c.index.ensures.position in
+    rw (← from, ← to) (found_link c.args.self.now.links c.index-from.result c.index.result c.number_to.result (rw (row, far) at c.number_to.ensures))
