@@ -1,6 +1,6 @@
 -- A link between two positions, found in a row.
 use Rattle.std.proofs.Common.{◌≡◌, ℕ, ◌+◌, List, length, get_or, sym, ap, ◌∙◌, arith, ⊎_elim, Option, None, Some}
-use Rattle.std.specs.Prelude.{slice_get, slice_index, Contains, MatchOption, ◌≢◌}
+use Rattle.std.specs.Prelude.{slice_index, Contains, MatchOption, ◌≢◌}
 use Rattle.std.proofs.lemmas.Bool.{cases_lt}
 use Rattle.std.proofs.lemmas.List.{get_or_default}
 use Rattle.guppy_search.specs.declared.ix.direction.DependencyDirection.TheVariants.{Forward}

@@ -1,5 +1,4 @@
-use Rattle.std.proofs.Common.{◌≡◌, ℕ, ◌<◌, length, arith}
-use Rattle.guppy_search.proofs.Repeats.{none_marked, marked_more, marked_again}
+use Rattle.guppy_search.proofs.Repeats.{none_marked}
 use Rattle.guppy_search.proofs.graph_core.build.first_again.Goals as goal
 
 pub loop-place-init : goal.loop-place-init
