@@ -10,23 +10,20 @@ use Rattle.std.proofs.lemmas.Option.{slice_get_cases, slice_get_within, get_or_f
 use Rattle.guppy_search.specs.declared.ix.direction.DependencyDirection.TheVariants.{Forward}
 use Rattle.guppy_search.specs.declared.graph_core.link.Link.{Link}
 use Rattle.guppy_search.specs.Links.{links_at, near_end, EndsBelow, SamePair}
+use Rattle.guppy_search.specs.Stored.{far_at, far_ends_at}
 use Rattle.guppy_search.specs.Pairs.{to_at, LeadApart, IsFirstAgain, SinglesBelow, IsFirstRepeat}
 use Rattle.guppy_search.proofs.Numbers.{numbers_ascend}
 use Rattle.guppy_search.proofs.Rows.{row_links, row_has}
 
--- the first i places that the row leads to, and no others, have the mark
-pub record IsMarked {E : Type 0} (links : List (Link E)) (row : List ℕ) (mark : ℕ) (marks : List ℕ) (i : ℕ) : Type 0 where
-  pub apart : LeadApart links row i
-  pub marked : (j : ℕ) → j < i → slice_index marks (to_at links (slice_index row j)) ≡ mark
-  pub led_to : (t : ℕ) → t < length marks → slice_index marks t ≡ mark → (j : ℕ) × (j < i) × (to_at links (slice_index row j) ≡ t)
+-- the first i far ends, and no other positions, have the mark
+pub record IsMarked (far : List ℕ) (mark : ℕ) (marks : List ℕ) (i : ℕ) : Type 0 where
+  pub apart : LeadApart far i
+  pub marked : (j : ℕ) → j < i → slice_index marks (slice_index far j) ≡ mark
+  pub led_to : (t : ℕ) → t < length marks → slice_index marks t ≡ mark → (j : ℕ) × (j < i) × (slice_index far j ≡ t)
   pub used : All (λ m. m < mark + 1) marks
 
--- the link that is read
-pub to_at-read : {E : Type 0} (links : List (Link E)) (n : ℕ) (l : Link E) → n < length links → (get_or links n l).to ≡ to_at links n
-to_at-read {E} links n l within = sym (get_or-map (λ (z : Link E). z.to) links n l 0 within)
-
-module _ {E : Type 0} (links : List (Link E)) (row : List ℕ) (mark : ℕ) (marks : List ℕ) where
-  pub none_marked : All (λ m. m < mark) marks → IsMarked links row mark marks 0
+module _ (far : List ℕ) (mark : ℕ) (marks : List ℕ) where
+  pub none_marked : All (λ m. m < mark) marks → IsMarked far mark marks 0
   none_marked unused = record {
     apart = λ j k up low. absurd (omega arith);
     marked = λ j low. absurd (omega arith);
@@ -34,17 +31,17 @@ module _ {E : Type 0} (links : List (Link E)) (row : List ℕ) (mark : ℕ) (mar
     used = All-weaker (λ m. m < mark) (λ m. m < mark + 1) (λ m h. omega arith) marks unused;
   }
 
-  -- the next link leads where none did
-  pub marked_more : (i to : ℕ) → IsMarked links row mark marks i → to ≡ to_at links (slice_index row i) → to < length marks → slice_index marks to ≢ mark → IsMarked links row mark (set marks to mark) (i + 1)
+  -- the next far end is none of them
+  pub marked_more : (i to : ℕ) → IsMarked far mark marks i → to ≡ slice_index far i → to < length marks → slice_index marks to ≢ mark → IsMarked far mark (set marks to mark) (i + 1)
   marked_more i to m to_is within fresh =
-      let not_there : (j : ℕ) → j < i → to_at links (slice_index row j) ≢ to = λ j low e. fresh (subst (λ t. slice_index marks t ≡ mark) e (m.marked j low)) in
+      let not_there : (j : ℕ) → j < i → slice_index far j ≢ to = λ j low e. fresh (subst (λ t. slice_index marks t ≡ mark) e (m.marked j low)) in
       record {
         apart = λ j k up low. ⊎_elim
             (λ b. m.apart j k up b)
-            (λ b. let at : k ≡ i = omega arith in let below : j < i = omega arith in λ e. not_there j below (e ∙ ap (λ z. to_at links (slice_index row z)) at ∙ sym to_is))
+            (λ b. let at : k ≡ i = omega arith in let below : j < i = omega arith in λ e. not_there j below (e ∙ ap (λ z. slice_index far z) at ∙ sym to_is))
             (cases_lt k i);
         marked = λ j low. ⊎_elim
-            (λ b. get_or-set_other marks to (to_at links (slice_index row j)) mark 0 (not_there j b) ∙ m.marked j b)
+            (λ b. get_or-set_other marks to (slice_index far j) mark 0 (not_there j b) ∙ m.marked j b)
             (λ b. let at : j ≡ i = omega arith in rw (at, ← to_is) (get_or-set_same marks to mark 0 within))
             (cases_lt j i);
         led_to = λ t inside same. ⊎_elim
@@ -58,9 +55,9 @@ module _ {E : Type 0} (links : List (Link E)) (row : List ℕ) (mark : ℕ) (mar
         used = All-set (λ z. z < mark + 1) marks to mark (omega arith) m.used;
       }
 
-  -- it leads where an earlier one did
-  pub marked_again : (i to : ℕ) → IsMarked links row mark marks i → i < length row → to ≡ to_at links (slice_index row i) → to < length marks → slice_index marks to ≡ mark → IsFirstAgain links row (slice_index row i)
-  marked_again i to m inside to_is within same =
+  -- it is one of them
+  pub marked_again : (row : List ℕ) (i to : ℕ) → IsMarked far mark marks i → i < length row → to ≡ slice_index far i → to < length marks → slice_index marks to ≡ mark → IsFirstAgain row far (slice_index row i)
+  marked_again row i to m inside to_is within same =
       let was = m.led_to to within same in
       record {
         earlier = was.0;
@@ -113,6 +110,10 @@ module _ {E : Type 0} (links : List (Link E)) where
   row_up : (p j k : ℕ) → j < k → k < length (links_at Forward links p) → slice_index (links_at Forward links p) j < slice_index (links_at Forward links p) k
   row_up p j k up within = numbers_ascend (λ l. near_end Forward l == p) 0 links j k up within
 
+  -- the far end beside the number of a link
+  far_to : (p k : ℕ) → k < length (links_at Forward links p) → slice_index (far_ends_at Forward links p) k ≡ to_at links (slice_index (links_at Forward links p) k)
+  far_to p k h = get_or-map (far_at Forward links) (links_at Forward links p) k 0 0 h
+
   -- the places of a repeated link and of the earlier one in their row
   record Places (p n : ℕ) : Type 0 where
     first : ℕ
@@ -120,7 +121,7 @@ module _ {E : Type 0} (links : List (Link E)) where
     in_order : first < second
     within : second < length (links_at Forward links p)
     at : slice_index (links_at Forward links p) second ≡ n
-    same : to_at links (slice_index (links_at Forward links p) first) ≡ to_at links (slice_index (links_at Forward links p) second)
+    same : slice_index (far_ends_at Forward links p) first ≡ slice_index (far_ends_at Forward links p) second
 
   places_of : (p n : ℕ) → IsRepeat links n → from_at links n ≡ p → Places p n
   places_of p n r from =
@@ -141,11 +142,11 @@ module _ {E : Type 0} (links : List (Link E)) where
             (cases_order a.0 b.0);
         within = b.1;
         at = b.2;
-        same = ap (to_at links) a.2 ∙ r.same_to ∙ sym (ap (to_at links) b.2);
+        same = far_to p a.0 a.1 ∙ ap (to_at links) a.2 ∙ r.same_to ∙ sym (ap (to_at links) b.2) ∙ sym (far_to p b.0 b.1);
       }
 
   -- what leads where an earlier link of its row does is a repeat
-  again_repeats : (p k : ℕ) → IsFirstAgain links (links_at Forward links p) k → IsRepeat links k
+  again_repeats : (p k : ℕ) → IsFirstAgain (links_at Forward links p) (far_ends_at Forward links p) k → IsRepeat links k
   again_repeats p k f =
       let at = f.at in
       let inside = f.within in
@@ -159,11 +160,11 @@ module _ {E : Type 0} (links : List (Link E)) where
         is_earlier = omega arith;
         within = omega arith;
         same_from = first.1 ∙ sym second.1 ∙ ap (from_at links) at;
-        same_to = f.same ∙ ap (to_at links) at;
+        same_to = sym (far_to p f.earlier (omega arith)) ∙ f.same ∙ far_to p f.place f.within ∙ ap (to_at links) at;
       }
 
   -- and the lowest of its row
-  again_lowest : (p k n : ℕ) → IsFirstAgain links (links_at Forward links p) k → IsRepeat links n → from_at links n ≡ p → k ≤ n
+  again_lowest : (p k n : ℕ) → IsFirstAgain (links_at Forward links p) (far_ends_at Forward links p) k → IsRepeat links n → from_at links n ≡ p → k ≤ n
   again_lowest p k n f r from =
       let s = places_of p n r from in
       let at = f.at in
@@ -177,7 +178,7 @@ module _ {E : Type 0} (links : List (Link E)) where
       (cases_order f.place s.second)
 
   -- a row that leads to different positions has no repeat
-  apart_none : (p n : ℕ) → LeadApart links (links_at Forward links p) (length (links_at Forward links p)) → IsRepeat links n → from_at links n ≡ p → ⊥
+  apart_none : (p n : ℕ) → LeadApart (far_ends_at Forward links p) (length (links_at Forward links p)) → IsRepeat links n → from_at links n ≡ p → ⊥
   apart_none p n apart r from = let s = places_of p n r from in apart s.first s.second s.in_order s.within s.same
 
   -- lowest is the lowest repeat of the first rows, if they have one, and no mark is above the next row's
@@ -195,7 +196,7 @@ module _ {E : Type 0} (links : List (Link E)) where
 
   module _ (p lowest : ℕ) (marks after : List ℕ) (was : IsScanned p lowest marks) (used : All (λ m. m < p + 1 + 1) after) where
     -- the next row has no repeat
-    pub scanned_apart : LeadApart links (links_at Forward links p) (length (links_at Forward links p)) → IsScanned (p + 1) lowest after
+    pub scanned_apart : LeadApart (far_ends_at Forward links p) (length (links_at Forward links p)) → IsScanned (p + 1) lowest after
     scanned_apart apart = record {
       repeats = was.repeats;
       none_below = λ n r low. ⊎_elim (λ b. was.none_below n r b) (λ ge. absurd (apart_none p n apart r (omega arith))) (cases_lt (from_at links n) p);
@@ -203,7 +204,7 @@ module _ {E : Type 0} (links : List (Link E)) where
     }
 
     -- the next row has one
-    pub scanned_again : (k : ℕ) → IsFirstAgain links (links_at Forward links p) k → IsScanned (p + 1) (min lowest k) after
+    pub scanned_again : (k : ℕ) → IsFirstAgain (links_at Forward links p) (far_ends_at Forward links p) k → IsScanned (p + 1) (min lowest k) after
     scanned_again k f = record {
       repeats = λ h. ⊎_elim
           (λ b. let e : min lowest k ≡ lowest = omega arith in let low : lowest < length links = omega arith in rw e (was.repeats low))

@@ -4,40 +4,35 @@ use Rattle.std.specs.Prelude.{take, map, true, All, ◌≡◌, ◌≢◌, ℕ, �
 use Rattle.guppy_search.specs.declared.graph_core.link.Link.{Link}
 use Rattle.guppy_search.specs.Links.{SamePair, EndsBelow, is_unknown}
 
--- the first i links of the row lead elsewhere
-abbrev pub NoneTo : {E : Type 0} → List (Link E) → ℕ → List ℕ → ℕ → Type 0
-NoneTo {E} links to row i =
-    (k : ℕ) (l : Link E) → k < i → slice_get links (slice_index row k) ≡ Some l → l.to ≢ to
-
--- the link n is the first of the row that leads there
-pub record IsFirstTo {E : Type 0} (links : List (Link E)) (to : ℕ) (row : List ℕ)
-    (n : ℕ) : Type 0 where
-  pub place : ℕ
-  pub within : place < length row
-  pub at : slice_index row place ≡ n
-  pub link : Link E
-  pub found : slice_get links n ≡ Some link
-  pub leads : link.to ≡ to
-  pub none_before : NoneTo links to row place
-
 -- the position that the link n leads to
 abbrev pub to_at : {E : Type 0} → List (Link E) → ℕ → ℕ
 to_at {E} links n = slice_index (map (λ (l : Link E). l.to) links) n
 
--- the first i links of the row lead to different positions
-abbrev pub LeadApart : {E : Type 0} → List (Link E) → List ℕ → ℕ → Type 0
-LeadApart links row i =
-    (j k : ℕ) → j < k → k < i → to_at links (slice_index row j) ≢ to_at links (slice_index row k)
+-- the first i far ends are others
+abbrev pub NoneTo : List ℕ → ℕ → ℕ → Type 0
+NoneTo far to i = (k : ℕ) → k < i → slice_index far k ≢ to
 
--- the link n is the first of the row that leads where an earlier one of the row does
-pub record IsFirstAgain {E : Type 0} (links : List (Link E)) (row : List ℕ) (n : ℕ) : Type 0 where
+-- the number n stands beside the first of the far ends that is the position
+pub record IsFirstTo (row far : List ℕ) (to n : ℕ) : Type 0 where
+  pub place : ℕ
+  pub within : place < length row
+  pub at : slice_index row place ≡ n
+  pub leads : slice_index far place ≡ to
+  pub none_before : NoneTo far to place
+
+-- the first i far ends differ
+abbrev pub LeadApart : List ℕ → ℕ → Type 0
+LeadApart far i = (j k : ℕ) → j < k → k < i → slice_index far j ≢ slice_index far k
+
+-- the number n stands beside the first of the far ends that an earlier one is
+pub record IsFirstAgain (row far : List ℕ) (n : ℕ) : Type 0 where
   pub earlier : ℕ
   pub place : ℕ
   pub is_earlier : earlier < place
   pub within : place < length row
   pub at : slice_index row place ≡ n
-  pub same : to_at links (slice_index row earlier) ≡ to_at links (slice_index row place)
-  pub apart : LeadApart links row place
+  pub same : slice_index far earlier ≡ slice_index far place
+  pub apart : LeadApart far place
 
 -- the links with numbers below k have different pairs
 abbrev pub SinglesBelow : {E : Type 0} → List (Link E) → ℕ → Type 0

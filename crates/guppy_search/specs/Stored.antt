@@ -1,12 +1,20 @@
 -- How a graph is stored.
-use Rattle.std.specs.Prelude.{◌≡◌, ℕ, ◌+◌, ◌<◌, ◌≤◌, nat_lt, List, length, take, slice_index}
+use Rattle.std.specs.Prelude.{◌≡◌, ℕ, ◌+◌, ◌<◌, ◌≤◌, nat_lt, List, length, map, take, slice_index}
 use Rattle.std.specs.List.{slice_range}
 use Rattle.guppy_search.specs.declared.ix.direction.DependencyDirection.{DependencyDirection}
 use Rattle.guppy_search.specs.declared.ix.direction.DependencyDirection.TheVariants.{Forward, Reverse}
 use Rattle.guppy_search.specs.declared.graph_core.link.Link.{Link}
 use Rattle.guppy_search.specs.declared.graph_core.lists.LinkLists.{LinkLists}
-use Rattle.guppy_search.specs.Links.{near_end, numbers_where, links_at}
+use Rattle.guppy_search.specs.Links.{near_end, far_end, numbers_where, links_at}
 use Rattle.guppy_search.specs.Graph.{GraphValue, IsGraph}
+
+-- the position that the link n leads to in the direction
+abbrev pub far_at : {E : Type 0} → DependencyDirection → List (Link E) → ℕ → ℕ
+far_at {E} d links n = slice_index (map (λ (l : Link E). far_end d l) links) n
+
+-- the far ends of the links that leave the position, in the order of their numbers
+abbrev pub far_ends_at : {E : Type 0} → DependencyDirection → List (Link E) → ℕ → List ℕ
+far_ends_at d links p = map (far_at d links) (links_at d links p)
 
 -- how many links leave positions below p
 abbrev pub leaving_below : {E : Type 0} → DependencyDirection → List (Link E) → ℕ → ℕ
@@ -20,17 +28,23 @@ pub record AreBegun {E : Type 0} (d : DependencyDirection) (count : ℕ) (links 
   pub next : (p : ℕ) → p < count
       → slice_index bounds (p + 1) ≡ leaving_below d links p + length (links_at d (take i links) p)
 
--- the numbers from the bound of each position to the next one are the list of its links
+-- the numbers from the bound of each position to the next one are the list of its links, and beside
+-- them stand their far ends
 pub record ListsAre {E : Type 0} (d : DependencyDirection) (count : ℕ) (links : List (Link E))
-    (bounds numbers : List ℕ) : Type 0 where
+    (bounds numbers far : List ℕ) : Type 0 where
   pub count_is : length bounds ≡ count + 1
   pub climb : (p : ℕ) → p < count → (slice_index bounds p ≤ slice_index bounds (p + 1))
       × (slice_index bounds (p + 1) ≤ length numbers)
   pub list_is : (p : ℕ) → p < count
       → slice_range numbers (slice_index bounds p) (slice_index bounds (p + 1)) ≡ links_at d links p
+  pub beside : length far ≡ length numbers
+  pub far_is : (p : ℕ) → p < count
+      → slice_range far (slice_index bounds p) (slice_index bounds (p + 1)) ≡ far_ends_at d links p
 
 pub record IsStored {N E : Type 0} (nodes : List N) (links : List (Link E))
     (forward reverse : LinkLists) : Type 0 where
   pub graph : IsGraph (let g : GraphValue N E = record { nodes = nodes; links = links } in g)
   pub forward_is : ListsAre Forward (length nodes) links forward.bounds.items forward.numbers.items
+      forward.far.items
   pub reverse_is : ListsAre Reverse (length nodes) links reverse.bounds.items reverse.numbers.items
+      reverse.far.items

@@ -126,12 +126,13 @@ fn show_links<G: GraphSpec, V: LinkVisitor>(
         ≡ length waiting.old.items + member_count set.new }
     ensures capacity { vec_capacity waiting.new ≡ vec_capacity waiting.old }
 {
-    'links: for number in graph.links_at(position, direction) {
+    let row = graph.links_at(position, direction);
+    let far_ends = graph.far_ends_at(position, direction);
+    'links: for (place, number) in row.iter().enumerate() {
         if !visitor.visit(*number) {
             continue;
         }
-        let far_end = graph.link(*number).far_end(direction);
-        include(set, waiting, far_end);
+        include(set, waiting, far_ends[place] as usize);
     }
 }
 

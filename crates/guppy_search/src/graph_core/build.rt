@@ -21,40 +21,35 @@ pub(crate) fn first_unknown<E>(links: &[Link<E>], count: usize) -> Option<usize>
     None
 }
 
-/// The first link of the row that leads to the position.
-pub(crate) fn number_to<E>(links: &[Link<E>], row: &[usize], to: usize) -> Option<usize>
-    requires { All (λ n. n < length links.now) row.now }
-    ensures { MatchOption result (NoneTo links.now to row.now (length row.now))
-        (λ n. IsFirstTo links.now to row.now n) }
+/// The number beside the first of the far ends that is the position.
+pub(crate) fn number_to(row: &[usize], far_ends: &[u32], to: usize) -> Option<usize>
+    requires { length far_ends.now ≡ length row.now }
+    ensures { MatchOption result (NoneTo far_ends.now to (length row.now))
+        (IsFirstTo row.now far_ends.now to) }
 {
-    for number in row {
-        if links[*number].to == to {
-            return Some(*number);
+    for (place, far_end) in far_ends.iter().enumerate() {
+        if *far_end as usize == to {
+            return Some(row[place]);
         }
     }
     None
 }
 
-/// The first link of the row that leads where an earlier one of the row does. The positions that
-/// the row leads to, up to there, get the mark.
-fn first_again<E>(
-    links: &[Link<E>],
-    row: &[usize],
-    mark: usize,
-    marks: &mut [usize],
-) -> Option<usize>
-    requires numbers { All (λ n. n < length links.now) row.now }
-    requires ends { All (EndsBelow (length marks.old)) links.now }
+/// The number beside the first of the far ends that an earlier one is. The far ends up to there get
+/// the mark.
+fn first_again(row: &[usize], far_ends: &[u32], mark: usize, marks: &mut [usize]) -> Option<usize>
+    requires beside { length far_ends.now ≡ length row.now }
+    requires ends { All (λ p. p < length marks.old) far_ends.now }
     requires unused { All (λ m. m < mark) marks.old }
-    ensures again { MatchOption result (LeadApart links.now row.now (length row.now))
-        (IsFirstAgain links.now row.now) }
+    ensures again { MatchOption result (LeadApart far_ends.now (length row.now))
+        (IsFirstAgain row.now far_ends.now) }
     ensures used { All (λ m. m < mark + 1) marks.new }
     ensures len { length marks.new ≡ length marks.old }
 {
-    for number in row {
-        let to = links[*number].to;
+    for (place, far_end) in far_ends.iter().enumerate() {
+        let to = *far_end as usize;
         if marks[to] == mark {
-            return Some(*number);
+            return Some(row[place]);
         }
         marks[to] = mark;
     }
@@ -69,7 +64,7 @@ pub(crate) fn first_repeat<E>(
     forward: &LinkLists,
 ) -> Result<Option<usize>, AllocError>
     requires lists { ListsAre DependencyDirection.Forward count links.now forward.now.bounds.items
-        forward.now.numbers.items }
+        forward.now.numbers.items forward.now.far.items }
     requires ends { All (EndsBelow count) links.now }
     ensures { IfOk result (λ r. MatchOption r (SinglesBelow links.now (length links.now))
         (IsFirstRepeat links.now)) }
@@ -78,7 +73,8 @@ pub(crate) fn first_repeat<E>(
     let mut lowest = links.len();
     for position in 0..count {
         let row = forward.at(position);
-        if let Some(number) = first_again(links, row, position + 1, marks.as_mut_slice()) {
+        let far_ends = forward.far_at(position);
+        if let Some(number) = first_again(row, far_ends, position + 1, marks.as_mut_slice()) {
             lowest = lowest.min(number);
         }
     }

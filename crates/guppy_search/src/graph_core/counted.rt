@@ -122,8 +122,9 @@ impl<'a, G: GraphSpec> CountedGraph<'a, G> {
         ensures graph { IsGraph self.new.graph }
     {
         let number = self.graph.links_at(position, direction)[k];
+        let far_end = self.graph.far_ends_at(position, direction)[k];
         let link = self.graph.link(number);
         self.looks += 1;
-        (number, link.far_end(direction), &link.edge)
+        (number, far_end as usize, &link.edge)
     }
 }

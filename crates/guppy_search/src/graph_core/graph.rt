@@ -60,12 +60,13 @@ impl<G: GraphSpec> Graph<G> {
     ghost use Rattle.guppy_search.specs.Graph.{IsGraph, NoLink, LinkIs};
     ghost use Rattle.guppy_search.specs.Fault.{IsFault};
     ghost use Rattle.guppy_search.specs.Links.{links_at};
+    ghost use Rattle.guppy_search.specs.Stored.{far_ends_at};
 
     /// The graph of these nodes and links, where each link's ends are positions of nodes and no
     /// ordered pair has two links. Otherwise the first fault: in the order of `GraphFault`, then
     /// the lowest link number. `OutOfMemory` comes where a growth was refused.
     ///
-    /// Time grows with nodes and links. Takes memory for two numbers a link and three a node, beside
+    /// Time grows with nodes and links. Takes memory for 24 bytes a link and three numbers a node, beside
     /// the parts themselves.
     pub fn from_parts(nodes: Vec<G::Node>, links: Vec<Link<G::Edge>>) -> Result<Self, GraphFault>
         ensures nodes { IfOk result (λ g. g.nodes ≡ nodes.items) }
@@ -168,6 +169,18 @@ impl<G: GraphSpec> Graph<G> {
         }
     }
 
+    /// The far ends of the links that `links_at` gives, in its order.
+    pub(crate) fn far_ends_at(&self, position: usize, direction: DependencyDirection) -> &[u32]
+        requires { position < length self.now.nodes }
+        ensures ends { result.now ≡ far_ends_at direction self.now.links position }
+        ensures graph { IsGraph self.now }
+    {
+        match direction {
+            DependencyDirection::Forward => self.forward.far_at(position),
+            DependencyDirection::Reverse => self.reverse.far_at(position),
+        }
+    }
+
     /// The number of the link that leads from one position to the other, if there is one; there is
     /// at most one. `from` is below the node count.
     ///
@@ -177,8 +190,10 @@ impl<G: GraphSpec> Graph<G> {
         ensures { MatchOption result (NoLink self.now.links (G.Ix.index_of from) (G.Ix.index_of to))
             (LinkIs self.now.links (G.Ix.index_of from) (G.Ix.index_of to)) }
     {
-        let row = self.links_at(from.index(), DependencyDirection::Forward);
-        number_to(self.links.as_slice(), row, to.index())
+        let from = from.index();
+        let row = self.links_at(from, DependencyDirection::Forward);
+        let far_ends = self.far_ends_at(from, DependencyDirection::Forward);
+        number_to(row, far_ends, to.index())
     }
 
     /// The allocator that the graph's memory comes from.

@@ -8,7 +8,7 @@ use Rattle.guppy_search.specs.Links.{far_end}
 use Rattle.guppy_search.specs.IxSet.{has}
 use Rattle.guppy_search.proofs.Lists.{Contains-first, drop_next}
 use Rattle.guppy_search.proofs.Members.{member_count-lt-length}
-use Rattle.guppy_search.proofs.Rows.{row_within}
+use Rattle.guppy_search.proofs.Ends.{link_beside}
 use Rattle.guppy_search.proofs.Searching.{Shows-none, Shows-refused, Shows-known, Shows-new, balance-added, far_end_below}
 use Rattle.guppy_search.proofs.dfs.search.show_links.Goals as goal
 
@@ -23,20 +23,20 @@ links-init g c = record {
 
 pub visit-requires : goal.visit-requires
 visit-requires g c =
-    let row = c.links_at-number-items in
+    let row = c.links_at-row in
     let s = c.links.invariant in
     let ready = rw (← row.ensures.links) at c.requires.ready in
     let numbers = row.result.now in
-    let n = get_or numbers c.links.number-index 0 in
-    let left : Contains (drop c.links.number-index numbers) n = rw (drop_next numbers c.links.number-index c.links-test.true) (Contains-first n _) in
+    let n = get_or numbers c.links.place 0 in
+    let left : Contains (drop c.links.place numbers) n = rw (drop_next numbers c.links.place c.links-test.true) (Contains-first n _) in
     ready.at s.shown.0 _ _ _ _ _ s.shown.2 left s.shown.1
 
 pub links-preserved-then-not-visit : goal.links-preserved-then-not-visit
 links-preserved-then-not-visit g c =
     let s = c.links.invariant in
-    let row = c.links_at-number-items.result.now in
-    let n = get_or row c.links.number-index 0 in
-    let e = drop_next row c.links.number-index c.links-test.true in
+    let row = c.links_at-row.result.now in
+    let n = get_or row c.links.place 0 in
+    let e = drop_next row c.links.place c.links-test.true in
     record {
       size = s.size;
       same_place = c.if-not-visit.ensures.same_place ∙ s.same_place;
@@ -49,43 +49,43 @@ links-preserved-then-not-visit g c =
       );
     }
 
-pub link-requires : goal.link-requires
-link-requires g c =
-    let row = c.links_at-number-items in
-    row_within _ _ _ row.result.now row.ensures.links c.links.number-index 0 c.links-test.true
-
 pub include-requires-clause-in_range : goal.include-requires-clause-in_range
 include-requires-clause-in_range g c =
-    rw (c.far_end-far_end.ensures, c.links.invariant.size) (far_end_below c.args.direction c.args.graph.now.links _ _ c.link.result.now c.link.ensures.link c.link.ensures.graph.ends)
+    let at = link_beside c.args.graph.now.links c.args.direction c.args.position c.links.place c.links_at-row.result.now c.far_ends_at-far_ends.result.now c.links_at-row.ensures.links c.far_ends_at-far_ends.ensures.ends c.links-test.true in
+    rw (at.far_is, c.links.invariant.size) (far_end_below c.args.direction c.args.graph.now.links _ _ at.link at.found c.far_ends_at-far_ends.ensures.graph.ends)
 
 pub include-requires-clause-small : goal.include-requires-clause-small
 include-requires-clause-small g c =
-    let few = c.link.ensures.graph.few_nodes in
-    let below = far_end_below c.args.direction c.args.graph.now.links _ _ c.link.result.now c.link.ensures.link c.link.ensures.graph.ends in
-    rw c.far_end-far_end.ensures (omega arith)
+    let at = link_beside c.args.graph.now.links c.args.direction c.args.position c.links.place c.links_at-row.result.now c.far_ends_at-far_ends.result.now c.links_at-row.ensures.links c.far_ends_at-far_ends.ensures.ends c.links-test.true in
+    let few = c.far_ends_at-far_ends.ensures.graph.few_nodes in
+    let below = far_end_below c.args.direction c.args.graph.now.links _ _ at.link at.found c.far_ends_at-far_ends.ensures.graph.ends in
+    rw at.far_is (omega arith)
 
 pub include-requires-clause-room : goal.include-requires-clause-room
 include-requires-clause-room g c = λ new.
+    let at = link_beside c.args.graph.now.links c.args.direction c.args.position c.links.place c.links_at-row.result.now c.far_ends_at-far_ends.result.now c.links_at-row.ensures.links c.far_ends_at-far_ends.ensures.ends c.links-test.true in
+    let far = get_or c.far_ends_at-far_ends.result.now c.links.place 0 in
     let s = c.links.invariant in
     let size = s.size in
     let count = c.requires.count in
     let capacity = s.capacity in
     let balance = s.balance in
     let room = c.requires.room in
-    let below : c.far_end-far_end.result < length c.links.set = rw (c.far_end-far_end.ensures, s.size) (far_end_below c.args.direction c.args.graph.now.links _ _ c.link.result.now c.link.ensures.link c.link.ensures.graph.ends) in
-    let lacks = member_count-lt-length c.links.set c.far_end-far_end.result below (false_from_ne_true (has c.links.set c.far_end-far_end.result) new) in
+    let below : far < length c.links.set = rw (at.far_is, s.size) (far_end_below c.args.direction c.args.graph.now.links _ _ at.link at.found c.far_ends_at-far_ends.ensures.graph.ends) in
+    let lacks = member_count-lt-length c.links.set far below (false_from_ne_true (has c.links.set far) new) in
     omega (arith, c.links.waiting.ok.0)
 
 pub links-preserved : goal.links-preserved
 links-preserved g c =
+    let at = link_beside c.args.graph.now.links c.args.direction c.args.position c.links.place c.links_at-row.result.now c.far_ends_at-far_ends.result.now c.links_at-row.ensures.links c.far_ends_at-far_ends.ensures.ends c.links-test.true in
     let s = c.links.invariant in
-    let row = c.links_at-number-items.result.now in
-    let n = get_or row c.links.number-index 0 in
-    let link = c.link.result.now in
+    let row = c.links_at-row.result.now in
+    let n = get_or row c.links.place 0 in
+    let link = at.link in
     let far = far_end c.args.direction link in
-    let e = drop_next row c.links.number-index c.links-test.true in
+    let e = drop_next row c.links.place c.links-test.true in
     let shows = rw e at s.shown.2 in
-    let k = rw c.far_end-far_end.ensures at c.include.ensures.cases in
+    let k = rw at.far_is at c.include.ensures.cases in
     let same_place = c.if-not-visit.ensures.same_place ∙ s.same_place in
     let capacity = c.include.ensures.capacity ∙ s.capacity in
     let steps = FoldsTo-push _ _ s.shown.0 _ (n, true) _ s.shown.1 c.if-not-visit.ensures.visits in
@@ -95,24 +95,24 @@ links-preserved g c =
         same_place = same_place;
         balance = rw (q.1, q.2) s.balance;
         capacity = capacity;
-        shown = (s.shown.0 ++ (n, true) ∷ [], steps, rw (q.1, q.2) (Shows-known _ _ s.shown.0 _ _ _ _ _ _ n link c.link.ensures.link q.0 shows));
+        shown = (s.shown.0 ++ (n, true) ∷ [], steps, rw (q.1, q.2) (Shows-known _ _ s.shown.0 _ _ _ _ _ _ n link at.found q.0 shows));
       }
       | inr q ↦
-          let below : far < length c.links.set = rw s.size (far_end_below c.args.direction c.args.graph.now.links _ _ link c.link.ensures.link c.link.ensures.graph.ends) in
+          let below : far < length c.links.set = rw s.size (far_end_below c.args.direction c.args.graph.now.links _ _ at.link at.found c.far_ends_at-far_ends.ensures.graph.ends) in
           record {
             size = rw q.1 (length-set c.links.set far true ∙ s.size);
             same_place = same_place;
             balance = rw (q.1, q.2) (balance-added c.links.set c.links.waiting.items far _ _ below q.0 s.balance);
             capacity = capacity;
-            shown = (s.shown.0 ++ (n, true) ∷ [], steps, rw (q.1, q.2) (Shows-new _ _ s.shown.0 _ _ _ _ _ _ n link c.link.ensures.link below q.0 shows));
+            shown = (s.shown.0 ++ (n, true) ∷ [], steps, rw (q.1, q.2) (Shows-new _ _ s.shown.0 _ _ _ _ _ _ n link at.found below q.0 shows));
           }
     ]
 
 pub returns : goal.returns
 returns g c =
     let s = c.links.invariant in
-    let row = c.links_at-number-items in
-    let e = drop_all c.links.number-index row.result.now c.links-test.false in
+    let row = c.links_at-row in
+    let e = drop_all c.links.place row.result.now c.links-test.false in
     record {
       count = s.size;
       same_place = s.same_place;

@@ -11,5 +11,5 @@ invariant-links g l = record {
   balance : length l.waiting.items + member_count l.fn.set ≡ length l.fn.waiting.items + member_count l.set;
   capacity : vec_capacity l.waiting ≡ vec_capacity l.fn.waiting;
   shown : (shown : List (ℕ × Bool)) × Visits g.V.LinkVisitor.visits l.fn.visitor shown l.visitor
-      × Shows l.direction l.graph.links shown l.fn.set l.fn.waiting.items l.number-items l.set l.waiting.items (drop l.number-index l.number-items);
+      × Shows l.fn.direction l.graph.links shown l.fn.set l.fn.waiting.items l.row l.set l.waiting.items (drop l.place l.row);
 }
