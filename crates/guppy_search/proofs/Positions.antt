@@ -1,8 +1,8 @@
 -- The positions in a set, from one on.
-use Rattle.std.proofs.Common.{◌≡◌, ℕ, zero, suc, ◌+◌, ◌<◌, ◌≤◌, inl, inr, Bool, true, false, cond, List, [], ◌∷◌, length, drop, refl, ap, ◌∙◌, arith}
+use Rattle.std.proofs.Common.{◌≡◌, ℕ, zero, suc, ◌+◌, ◌≤◌, inl, inr, Bool, true, false, List, [], ◌∷◌, length, drop, refl, arith}
 use Rattle.std.specs.Prelude.{Contains}
-use Rattle.std.proofs.lemmas.List.{at_drop_more, at_drop_all}
-use Rattle.guppy_search.specs.IxSet.{has, IsIn, member_count, positions_from}
+use Rattle.std.proofs.lemmas.List.{at_drop_all}
+use Rattle.guppy_search.specs.IxSet.{IsIn, member_count, positions_from}
 use Rattle.guppy_search.proofs.Lists.{nothing_in, Contains-later, Contains-cons_cases}
 
 -- there are as many as the set has members
@@ -10,14 +10,6 @@ pub length-positions_from : (i : ℕ) (s : List Bool) → length (positions_from
 length-positions_from i [] = refl
 length-positions_from i (true ∷ s) = omega (arith, length-positions_from (i + 1) s)
 length-positions_from i (false ∷ s) = length-positions_from (i + 1) s
-
--- at a member, it comes first
-pub positions_from-member : (s : List Bool) (p : ℕ) → p < length s → IsIn s p → positions_from p (drop p s) ≡ p ∷ positions_from (p + 1) (drop (p + 1) s)
-positions_from-member s p h is = at_drop_more (positions_from p) s p false h ∙ ap (λ b. cond b (p ∷ positions_from (p + 1) (drop (p + 1) s)) (positions_from (p + 1) (drop (p + 1) s))) is
-
--- one that is none is passed over
-pub positions_from-other : (s : List Bool) (p : ℕ) → p < length s → has s p ≡ false → positions_from p (drop p s) ≡ positions_from (p + 1) (drop (p + 1) s)
-positions_from-other s p h is = at_drop_more (positions_from p) s p false h ∙ ap (λ b. cond b (p ∷ positions_from (p + 1) (drop (p + 1) s)) (positions_from (p + 1) (drop (p + 1) s))) is
 
 -- past the last position there is none
 pub positions_from-end : (s : List Bool) (p : ℕ) → length s ≤ p → positions_from p (drop p s) ≡ []
