@@ -1,13 +1,36 @@
-use Rattle.std.proofs.Common.{◌≡◌, ◌+◌, ◌<◌, [], length, refl, sym, ◌∙◌, arith}
+use Rattle.std.proofs.Common.{◌≡◌, ◌+◌, ◌<◌, ◌≤◌, Bool, [], length, refl, sym, ◌∙◌, arith}
 use Rattle.std.proofs.lemmas.Bool.{not-true, not-false}
 use Rattle.std.proofs.lemmas.List.{append-nil}
 use Rattle.guppy_search.proofs.Exits.{if_ok}
+use Rattle.guppy_core.specs.Noted.{note}
 use Rattle.guppy_core.proofs.Costs.{degree, fits_below}
-use Rattle.guppy_core.proofs.Finishing.{looked_noted, looked_below, looks_paid, finishing_first, start_old, start_new, finishing_below, look_paid, finishing_done, link_skipped, link_old, link_new, finishing_all, finishing_positions, inserted_old, smaller_done, smaller_step, smaller_new}
+use Rattle.guppy_core.proofs.Finishing.{Looked, looked_noted, looked_below, looks_paid, finishing_first, start_old, start_new, finishing_below, look_paid, finishing_done, link_skipped, link_old, link_new, finishing_all, finishing_positions, inserted_old, smaller_done, smaller_step, smaller_new}
 use Rattle.guppy_search.specs.declared.ix.direction.DependencyDirection.TheVariants.{Forward}
 use Rattle.guppy_search.proofs.Lists.{no_items}
-use Rattle.guppy_core.proofs.topo.finish.finish_order.Goals.{then-insert_position+in_ok-push, else-insert_position, else-is_kept-via-then-is_kept+else-insert_position-2, else-is_kept-via-else-is_kept}
+use Rattle.guppy_core.proofs.topo.finish.finish_order.Given.{Over}
+use Rattle.guppy_core.proofs.topo.finish.finish_order.Goals.{After-push-then-frame-leaving_at, then-insert_position+in_ok-push, else-insert_position, else-is_kept-via-then-is_kept+else-insert_position-2, else-is_kept-via-else-is_kept}
 use Rattle.guppy_core.proofs.topo.finish.finish_order.Goals as goal
+
+-- the popped frame has a link left
+more : (g : Over) (c : After-push-then-frame-leaving_at g) → c.in-Some.frame.next < degree {E = g.row.G-Edge.Denot} Forward c.args.graph.now.graph.links c.in-Some.frame.position
+more g c =
+    let len : c.leaving_at.result ≡ degree {E = g.row.G-Edge.Denot} Forward c.args.graph.now.graph.links c.in-Some.frame.position = rw (← c.loop-frame.invariant.graph) c.leaving_at.ensures.count in
+    rw (← len) c.if-frame-leaving_at.true
+
+-- the look at it is paid for
+paid : (g : Over) (c : After-push-then-frame-leaving_at g) → c.loop-frame.graph.looks + 1 ≤ c.args.graph.now.looks + length c.args.graph.now.graph.links
+paid g c =
+    let graph = c.args.graph.now.graph in
+    let s = rw c.in-Some.ensures.items at c.loop-frame.invariant.search in
+    look_paid Forward g.kept graph c.args.starts.now (c.loop-start.start-index + 1) (c.args.graph.now.looks + length graph.links) _ _ _ _ _ s (more g c)
+
+-- what it shows
+looked : (g : Over) (c : After-push-then-frame-leaving_at g) (b : Bool) → b ≡ note c.args.notes.now c.look_at-number.result.0 → Looked Forward g.kept c.args.graph.now.graph.links c.in-Some.frame.position c.in-Some.frame.next c.look_at-number.result.1 b
+looked g c b is = looked_noted {N = g.row.G-Node.Denot} {E = g.row.G-Edge.Denot} Forward g.kept c.args.graph.now.graph c.loop-frame.graph.graph c.loop-frame.invariant.graph c.args.notes.now c.requires.1.1.1.1.1.1 c.in-Some.frame.position c.in-Some.frame.next c.look_at-number.result.0 c.look_at-number.result.1 c.look_at-number.result.2.now b (more g c) c.look_at-number.ensures.number c.look_at-number.ensures.link is
+
+-- where it leads
+led_below : (g : Over) (c : After-push-then-frame-leaving_at g) (b : Bool) → Looked Forward g.kept c.args.graph.now.graph.links c.in-Some.frame.position c.in-Some.frame.next c.look_at-number.result.1 b → c.look_at-number.result.1 < length c.args.graph.now.graph.nodes
+led_below g c b l = looked_below Forward g.kept c.args.graph.now.graph c.node_count.ensures.graph _ _ _ _ l
 
 pub loop-start-init : goal.loop-start-init
 loop-start-init g c =
@@ -65,50 +88,33 @@ look_at-number-requires-clause-room g c =
 
 pub insert_position-requires-then-is_kept : goal.insert_position-requires-then-is_kept
 insert_position-requires-then-is_kept g c =
-    let K = g.kept in
-    let graph = c.args.graph.now.graph in
-    let len : c.leaving_at.result ≡ degree {E = g.row.G-Edge.Denot} Forward graph.links c.in-Some.frame.position = rw (← c.loop-frame.invariant.graph) c.leaving_at.ensures.count in
-    let more : c.in-Some.frame.next < degree {E = g.row.G-Edge.Denot} Forward graph.links c.in-Some.frame.position = rw (← len) c.if-frame-leaving_at.true in
-    let l = looked_noted {N = g.row.G-Node.Denot} {E = g.row.G-Edge.Denot} Forward K graph c.loop-frame.graph.graph c.loop-frame.invariant.graph c.args.notes.now c.requires.1.1.1.1.1.1 c.in-Some.frame.position c.in-Some.frame.next c.look_at-number.result.0 c.look_at-number.result.1 c.look_at-number.result.2.now c.is_kept.result more c.look_at-number.ensures.number c.look_at-number.ensures.link c.is_kept.ensures in
-    let is_graph = rw c.loop-frame.invariant.graph at c.leaving_at.ensures.graph in
-    let below : c.look_at-number.result.1 < length graph.nodes = looked_below Forward K graph is_graph _ _ _ _ l in
+    let l = looked g (goal.at.insert_position-requires-then-is_kept g c).After-push-then-frame-leaving_at c.is_kept.result c.is_kept.ensures in
+    let below = led_below g (goal.at.insert_position-requires-then-is_kept g c).After-push-then-frame-leaving_at c.is_kept.result l in
     let same = c.loop-frame.invariant.search.state.limit_is in
-    let few = is_graph.few_nodes in
+    let few = c.node_count.ensures.graph.few_nodes in
     record { in_range = rw same below; small = omega arith }
 
 pub returns-in_err-push-3-clause-looks : goal.returns-in_err-push-3-clause-looks
 returns-in_err-push-3-clause-looks g c =
-    let K = g.kept in
-    let graph = c.args.graph.now.graph in
-    let s = rw c.in-Some.ensures.items at c.loop-frame.invariant.search in
-    let len : c.leaving_at.result ≡ degree {E = g.row.G-Edge.Denot} Forward graph.links c.in-Some.frame.position = rw (← c.loop-frame.invariant.graph) c.leaving_at.ensures.count in
-    let more : c.in-Some.frame.next < degree {E = g.row.G-Edge.Denot} Forward graph.links c.in-Some.frame.position = rw (← len) c.if-frame-leaving_at.true in
-    rw c.look_at-number.ensures.counted (look_paid Forward K graph c.args.starts.now (c.loop-start.start-index + 1) (c.args.graph.now.looks + length graph.links) _ _ _ _ _ s more)
+    rw c.look_at-number.ensures.counted (paid g (goal.at.returns-in_err-push-3-clause-looks g c).After-push-then-frame-leaving_at)
 
 pub loop-frame-smaller-then-insert_position-2 : goal.loop-frame-smaller-then-insert_position-2
 loop-frame-smaller-then-insert_position-2 g c =
-    let K = g.kept in
     let graph = c.args.graph.now.graph in
-    let len : c.leaving_at.result ≡ degree {E = g.row.G-Edge.Denot} Forward graph.links c.in-Some.frame.position = rw (← c.loop-frame.invariant.graph) c.leaving_at.ensures.count in
-    let more : c.in-Some.frame.next < degree {E = g.row.G-Edge.Denot} Forward graph.links c.in-Some.frame.position = rw (← len) c.if-frame-leaving_at.true in
-    let l = looked_noted {N = g.row.G-Node.Denot} {E = g.row.G-Edge.Denot} Forward K graph c.loop-frame.graph.graph c.loop-frame.invariant.graph c.args.notes.now c.requires.1.1.1.1.1.1 c.in-Some.frame.position c.in-Some.frame.next c.look_at-number.result.0 c.look_at-number.result.1 c.look_at-number.result.2.now c.is_kept.result more c.look_at-number.ensures.number c.look_at-number.ensures.link c.is_kept.ensures in
-    let is_graph = rw c.loop-frame.invariant.graph at c.leaving_at.ensures.graph in
-    let below : c.look_at-number.result.1 < length graph.nodes = looked_below Forward K graph is_graph _ _ _ _ l in
+    let l = looked g (goal.at.loop-frame-smaller-then-insert_position-2 g c).After-push-then-frame-leaving_at c.is_kept.result c.is_kept.ensures in
+    let below = led_below g (goal.at.loop-frame-smaller-then-insert_position-2 g c).After-push-then-frame-leaving_at c.is_kept.result l in
     let same = c.loop-frame.invariant.search.state.limit_is in
     let within : c.look_at-number.result.1 < length c.loop-frame.seen = rw same below in
     let lacks = not-true _ (sym c.insert_position-then-is_kept.ensures.is_new ∙ c.if-insert_position-2.true) in
-    rw c.insert_position-then-is_kept.ensures.after (smaller_new (degree {E = g.row.G-Edge.Denot} Forward graph.links) c.loop-frame.seen c.loop-frame.frames.items c.pop.new.self.items c.push-then-frame-leaving_at.new.self.items c.in-Some.frame c.in-Some.ensures.items more c.in_ok-push-2.ensures.items c.look_at-number.result.1 c.push-then-insert_position-2.new.self.items lacks within c.in_ok-push-3.ensures.items)
+    rw c.insert_position-then-is_kept.ensures.after (smaller_new (degree {E = g.row.G-Edge.Denot} Forward graph.links) c.loop-frame.seen c.loop-frame.frames.items c.pop.new.self.items c.push-then-frame-leaving_at.new.self.items c.in-Some.frame c.in-Some.ensures.items (more g (goal.at.loop-frame-smaller-then-insert_position-2 g c).After-push-then-frame-leaving_at) c.in_ok-push-2.ensures.items c.look_at-number.result.1 c.push-then-insert_position-2.new.self.items lacks within c.in_ok-push-3.ensures.items)
 
 pub loop-frame-preserved-then-insert_position-2 : goal.loop-frame-preserved-then-insert_position-2
 loop-frame-preserved-then-insert_position-2 g c =
     let K = g.kept in
     let graph = c.args.graph.now.graph in
     let s = rw c.in-Some.ensures.items at c.loop-frame.invariant.search in
-    let len : c.leaving_at.result ≡ degree {E = g.row.G-Edge.Denot} Forward graph.links c.in-Some.frame.position = rw (← c.loop-frame.invariant.graph) c.leaving_at.ensures.count in
-    let more : c.in-Some.frame.next < degree {E = g.row.G-Edge.Denot} Forward graph.links c.in-Some.frame.position = rw (← len) c.if-frame-leaving_at.true in
-    let l = looked_noted {N = g.row.G-Node.Denot} {E = g.row.G-Edge.Denot} Forward K graph c.loop-frame.graph.graph c.loop-frame.invariant.graph c.args.notes.now c.requires.1.1.1.1.1.1 c.in-Some.frame.position c.in-Some.frame.next c.look_at-number.result.0 c.look_at-number.result.1 c.look_at-number.result.2.now c.is_kept.result more c.look_at-number.ensures.number c.look_at-number.ensures.link c.is_kept.ensures in
-    let is_graph = rw c.loop-frame.invariant.graph at c.leaving_at.ensures.graph in
-    let below : c.look_at-number.result.1 < length graph.nodes = looked_below Forward K graph is_graph _ _ _ _ l in
+    let l = looked g (goal.at.loop-frame-preserved-then-insert_position-2 g c).After-push-then-frame-leaving_at c.is_kept.result c.is_kept.ensures in
+    let below = led_below g (goal.at.loop-frame-preserved-then-insert_position-2 g c).After-push-then-frame-leaving_at c.is_kept.result l in
     let lacks = not-true _ (sym c.insert_position-then-is_kept.ensures.is_new ∙ c.if-insert_position-2.true) in
     rw (c.look_at-number.ensures.counted, c.insert_position-then-is_kept.ensures.after, c.in_ok-push-3.ensures.items, c.in_ok-push-2.ensures.items) (record {
       search = link_new Forward K graph c.args.starts.now (c.loop-start.start-index + 1) (c.args.graph.now.looks + length graph.links) _ _ _ _ _ s c.look_at-number.result.1 c.is_kept.result l c.if-is_kept.true lacks below;
@@ -118,22 +124,18 @@ loop-frame-preserved-then-insert_position-2 g c =
 pub loop-frame-smaller-else-is_kept : goal.loop-frame-smaller-else-is_kept
 loop-frame-smaller-else-is_kept g c =
     let graph = c.args.graph.now.graph in
-    let len : c.leaving_at.result ≡ degree {E = g.row.G-Edge.Denot} Forward graph.links c.in-Some.frame.position = rw (← c.loop-frame.invariant.graph) c.leaving_at.ensures.count in
-    let more : c.in-Some.frame.next < degree {E = g.row.G-Edge.Denot} Forward graph.links c.in-Some.frame.position = rw (← len) c.if-frame-leaving_at.true in
     let same : c.else-is_kept.seen ≡ c.loop-frame.seen = elim c.else-is_kept.branch [
       | else-is_kept-via-then-is_kept+else-insert_position-2 w ↦ w.seen-is ∙ inserted_old _ _ _ _ w.insert_position-then-is_kept.ensures.is_new w.insert_position-then-is_kept.ensures.after w.if-insert_position-2.false
       | else-is_kept-via-else-is_kept w ↦ w.seen-is
     ] in
-    rw same (smaller_step (degree {E = g.row.G-Edge.Denot} Forward graph.links) c.loop-frame.seen c.loop-frame.frames.items c.pop.new.self.items c.push-then-frame-leaving_at.new.self.items c.in-Some.frame c.in-Some.ensures.items more c.in_ok-push-2.ensures.items)
+    rw same (smaller_step (degree {E = g.row.G-Edge.Denot} Forward graph.links) c.loop-frame.seen c.loop-frame.frames.items c.pop.new.self.items c.push-then-frame-leaving_at.new.self.items c.in-Some.frame c.in-Some.ensures.items (more g (goal.at.loop-frame-smaller-else-is_kept g c).After-push-then-frame-leaving_at) c.in_ok-push-2.ensures.items)
 
 pub loop-frame-preserved-else-is_kept : goal.loop-frame-preserved-else-is_kept
 loop-frame-preserved-else-is_kept g c =
     let K = g.kept in
     let graph = c.args.graph.now.graph in
     let s = rw c.in-Some.ensures.items at c.loop-frame.invariant.search in
-    let len : c.leaving_at.result ≡ degree {E = g.row.G-Edge.Denot} Forward graph.links c.in-Some.frame.position = rw (← c.loop-frame.invariant.graph) c.leaving_at.ensures.count in
-    let more : c.in-Some.frame.next < degree {E = g.row.G-Edge.Denot} Forward graph.links c.in-Some.frame.position = rw (← len) c.if-frame-leaving_at.true in
-    let l = looked_noted {N = g.row.G-Node.Denot} {E = g.row.G-Edge.Denot} Forward K graph c.loop-frame.graph.graph c.loop-frame.invariant.graph c.args.notes.now c.requires.1.1.1.1.1.1 c.in-Some.frame.position c.in-Some.frame.next c.look_at-number.result.0 c.look_at-number.result.1 c.look_at-number.result.2.now c.is_kept.result more c.look_at-number.ensures.number c.look_at-number.ensures.link c.is_kept.ensures in
+    let l = looked g (goal.at.loop-frame-preserved-else-is_kept g c).After-push-then-frame-leaving_at c.is_kept.result c.is_kept.ensures in
     elim c.else-is_kept.branch [
       | else-is_kept-via-then-is_kept+else-insert_position-2 w ↦
           let old = not-false _ (sym w.insert_position-then-is_kept.ensures.is_new ∙ w.if-insert_position-2.false) in
@@ -212,12 +214,7 @@ returns-in_err-push-clause-graph g c = c.loop-start.invariant.graph
 
 pub returns-in_err-push-2-clause-looks : goal.returns-in_err-push-2-clause-looks
 returns-in_err-push-2-clause-looks g c =
-    let K = g.kept in
-    let graph = c.args.graph.now.graph in
-    let s = rw c.in-Some.ensures.items at c.loop-frame.invariant.search in
-    let len : c.leaving_at.result ≡ degree {E = g.row.G-Edge.Denot} Forward graph.links c.in-Some.frame.position = rw (← c.loop-frame.invariant.graph) c.leaving_at.ensures.count in
-    let more : c.in-Some.frame.next < degree {E = g.row.G-Edge.Denot} Forward graph.links c.in-Some.frame.position = rw (← len) c.if-frame-leaving_at.true in
-    rw c.look_at-number.ensures.counted (look_paid Forward K graph c.args.starts.now (c.loop-start.start-index + 1) (c.args.graph.now.looks + length graph.links) _ _ _ _ _ s more)
+    rw c.look_at-number.ensures.counted (paid g (goal.at.returns-in_err-push-2-clause-looks g c).After-push-then-frame-leaving_at)
 
 pub returns-in_err-push-2-clause-graph : goal.returns-in_err-push-2-clause-graph
 returns-in_err-push-2-clause-graph g c = rw c.look_at-number.ensures.counted c.loop-frame.invariant.graph
