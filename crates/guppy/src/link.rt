@@ -5,6 +5,7 @@
 ghost use Rattle.std.specs.Prelude.{◌≡◌, ◌<◌, length, Some, slice_get};
 ghost use Rattle.std.specs.Option.{option_copied, option_map};
 ghost use Rattle.std.specs.String.{string_bytes};
+ghost use Rattle.guppy_core.specs.Links.{seen_link};
 ghost use Rattle.guppy_data.specs.DependencyReq.{seen_req};
 ghost use Rattle.guppy_data.specs.Utf8Path.{path_text};
 ghost use Rattle.guppy_graph.specs.DevOnly.{is_dev_only};
@@ -29,11 +30,11 @@ impl<'g> PackageLink<'g> {
     ghost use Rattle.guppy.specs.Views.{graph_of, package_position, link_graph, link_number, OfLink};
 
     // The link between positions, with its record.
-    fn link(self) -> &'g Link<LinkRecord>
+    fn link(self) -> Link<&'g LinkRecord>
         ensures at { slice_get (link_graph self.entry).now.links (link_number self.entry)
-            ≡ Some result.now }
-        ensures from { result.now.from < length (link_graph self.entry).now.packages }
-        ensures to { result.now.to < length (link_graph self.entry).now.packages }
+            ≡ Some (seen_link result) }
+        ensures from { result.from < length (link_graph self.entry).now.packages }
+        ensures to { result.to < length (link_graph self.entry).now.packages }
     {
         self.graph.link_at(self.number)
     }
@@ -150,6 +151,6 @@ impl<'g> PackageLink<'g> {
     pub fn dev_only(self) -> bool
         ensures { OfLink self.entry (λ l. result ≡ is_dev_only l.edge) }
     {
-        is_dev_only(&self.link().edge)
+        is_dev_only(self.link().edge)
     }
 }

@@ -167,7 +167,7 @@ fn small_graph_holds(rt: &impl Abort, graph: &Graph<Letters>)
     assert!(rt; graph.link_count() == 4);
     assert!(rt; *graph.node(last) == 300);
     assert!(rt; graph.nodes() == [100, 200, 300].as_slice());
-    assert!(rt; graph.link(2).edge == 'c');
+    assert!(rt; *graph.link(2).edge == 'c');
     assert!(rt; graph.links_of(first, forward) == [0, 2].as_slice());
     assert!(rt; graph.links_of(last, forward) == [3].as_slice());
     assert!(rt; graph.links_of(last, reverse) == [1, 2, 3].as_slice());

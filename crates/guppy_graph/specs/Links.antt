@@ -1,7 +1,7 @@
 -- The records of links, and the ends that they name.
 use Rattle.std.specs.Prelude.{◌≡◌, ℕ, List, length, slice_get, IsSomeAnd, All, map}
-use Rattle.std.specs.List.{zip}
 use Rattle.guppy_search.specs.declared.graph_core.link.Link.{Link}
+use Rattle.guppy_core.specs.Links.{links_between}
 use Rattle.guppy_data.specs.declared.records.PackageRecord.{PackageRecord}
 use Rattle.guppy_data.specs.declared.records.LinkRecord.{LinkRecord}
 use Rattle.guppy_graph.specs.Keys.{DifferBelow, IsFirstRepeat}
@@ -21,19 +21,11 @@ pub record AreLinksOf (packages : List PackageRecord) (records : List LinkRecord
   pub records_are : map (λ l. l.edge) links ≡ records
   pub ends : All (AreEndsNamed packages) links
 
--- the positions of the ends that the record names
-abbrev pub AreEndsAt : List PackageRecord → LinkRecord × (ℕ × ℕ) → Type 0
-AreEndsAt packages p = HasId packages p.0.from p.1.0 × HasId packages p.0.to p.1.1
-
--- the pairs are the positions of the records' ends
+-- the ends are the positions of those that the records name
 pub record AreEndsOf (packages : List PackageRecord) (records : List LinkRecord)
-    (ends : List (ℕ × ℕ)) : Type 0 where
+    (ends : List (Link (Unit {0}))) : Type 0 where
   pub count : length ends ≡ length records
-  pub named : All (AreEndsAt packages) (zip records ends)
-
--- the link of the record between the two positions
-abbrev pub link_of : LinkRecord × (ℕ × ℕ) → Link LinkRecord
-link_of p = record { from = p.1.0; to = p.1.1; edge = p.0 }
+  pub named : All (AreEndsNamed packages) (links_between ends records)
 
 -- the record of the number has these ends
 abbrev pub HasEnds : List LinkRecord → List ℕ × List ℕ → ℕ → Type 0

@@ -1,6 +1,5 @@
 //! The parts of a package graph, made of records.
-ghost use Rattle.std.specs.Prelude.{◌≡◌, ℕ, ◌<◌, List, IfOk, IfErr, OnOk, MatchOption, IsTrue, All, length, map, ◌↔◌};
-ghost use Rattle.std.specs.List.{zip};
+ghost use Rattle.std.specs.Prelude.{◌≡◌, ℕ, ◌<◌, List, IfOk, IfErr, OnOk, MatchOption, IsTrue, All, length, ◌↔◌};
 ghost use Rattle.guppy_data.specs.declared.records.LinkRecord.{LinkRecord};
 ghost use Rattle.guppy_graph.specs.First.{IsFirstWithout};
 ghost use Rattle.guppy_graph.specs.Keys.{NoneBelow, DifferBelow, IsFirstRepeat};
@@ -9,7 +8,7 @@ ghost use Rattle.guppy_graph.specs.Members.{HasPath, HasName};
 ghost use Rattle.guppy_graph.specs.Indexes.{IsIdIndex, IsPathIndex, IsNameIndex, AreTargetIndexes, AreIndexes};
 ghost use Rattle.guppy_graph.specs.Targets.{AreTargetsDistinct, AreTargetsNamed, IsNamed, IsFirstRepeatedTarget, IsFirstUnnamedTarget};
 ghost use Rattle.guppy_graph.specs.Accepted.{ArePackagesAccepted};
-ghost use Rattle.guppy_graph.specs.Links.{AreEndsKnown, AreEndsOf, link_of};
+ghost use Rattle.guppy_graph.specs.Links.{AreEndsKnown, AreEndsOf};
 ghost use Rattle.guppy_graph.specs.Refused.{TellsFault, IsRefusal};
 
 use crate::hints::Hints;
@@ -274,7 +273,7 @@ pub(crate) fn ends_of(
     packages: &[PackageRecord],
     indexes: &Indexes,
     records: &[LinkRecord],
-) -> Result<Vec<(usize, usize)>, Error>
+) -> Result<Vec<Link<()>>, Error>
     requires { IsIdIndex packages.now indexes.now.by_id.items }
     ensures ok { IfOk result (λ ends. AreEndsOf packages.now records.now ends.items) }
     ensures err { IfErr result (TellsFault (λ fault. (link : ℕ)
@@ -289,7 +288,7 @@ pub(crate) fn ends_of(
         let Some(to) = indexes.position_of_id(packages, &entry.to) else {
             return Err(unknown_end(number));
         };
-        ends.push((from, to))?;
+        ends.push(Link { from, to, edge: () })?;
     }
     Ok(ends)
 }
@@ -298,19 +297,4 @@ fn unknown_end(link: usize) -> Error
     ensures { result ≡ Error.PackageGraphConstructError (ConstructFault.UnknownLinkEnd link) }
 {
     Error::PackageGraphConstructError(ConstructFault::UnknownLinkEnd { link })
-}
-
-/// The links of the records between these positions.
-pub(crate) fn links_of(
-    alloc: Global,
-    records: Vec<LinkRecord>,
-    ends: Vec<(usize, usize)>,
-) -> Result<Vec<Link<LinkRecord>>, AllocError>
-    ensures { IfOk result (λ links. links.items ≡ map link_of (zip records.items ends.items)) }
-{
-    records
-        .into_iter()
-        .zip(ends)
-        .map(|(edge, (from, to))| Link { from, to, edge })
-        .collect(alloc)
 }

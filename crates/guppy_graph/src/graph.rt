@@ -3,7 +3,7 @@ ghost use Rattle.guppy_graph.specs.Accepted.{IsAccepted};
 ghost use Rattle.guppy_graph.specs.Refused.{IsRefusal, error_of};
 ghost use Rattle.guppy_graph.specs.Parts.{AreParts};
 
-use crate::build::{Indexes, LIMIT, ends_of, indexes_of, links_of};
+use crate::build::{Indexes, LIMIT, ends_of, indexes_of};
 use crate::keys::{position_of_name, position_of_path};
 use crate::order::{Order, order_of};
 use guppy_core::{
@@ -98,8 +98,7 @@ fn parts_of(
         return Err(ConstructFault::TooManyLinks.into());
     }
     let ends = ends_of(alloc, packages.as_slice(), &indexes, links.as_slice())?;
-    let linked = links_of(alloc, links, ends)?;
-    match Graph::from_parts(packages, linked) {
+    match Graph::from_ends(packages, links, ends) {
         Ok(graph) => Ok((graph, indexes)),
         Err(fault) => Err(construct_error(fault)),
     }
@@ -113,6 +112,7 @@ impl RecordGraph {
     ghost use Rattle.guppy_graph.specs.Targets.{HasTarget, IsNamed};
     ghost use Rattle.guppy_graph.specs.Depends.{DependsOn, DirectlyDependsOn};
     ghost use Rattle.guppy_graph.specs.Cycles.{HaveCycle};
+    ghost use Rattle.guppy_core.specs.Links.{seen_link};
     ghost use Rattle.guppy_core.specs.Reach.{LinkStep};
     ghost use Rattle.guppy_graph.specs.Refused.{IsFirstUnknown, NamesId};
     ghost use Rattle.guppy_data.specs.Utf8Path.{path_text};
@@ -137,7 +137,7 @@ impl RecordGraph {
     ///
     /// Time grows with packages, build targets and links, times the logarithm of the packages or of
     /// a package's targets. Takes memory for some numbers a package, target and link; the records
-    /// are kept as they are.
+    /// stay as and where they are.
     pub fn from_records(
         packages: Vec<PackageRecord>,
         links: Vec<LinkRecord>,
@@ -292,11 +292,11 @@ impl RecordGraph {
     }
 
     /// The link of the number, between positions of packages.
-    pub fn link_at(&self, number: usize) -> &Link<LinkRecord>
+    pub fn link_at(&self, number: usize) -> Link<&LinkRecord>
         requires { number < length self.now.links }
-        ensures at { slice_get self.now.links number ≡ Some result.now }
-        ensures from { result.now.from < length self.now.packages }
-        ensures to { result.now.to < length self.now.packages }
+        ensures at { slice_get self.now.links number ≡ Some (seen_link result) }
+        ensures from { result.from < length self.now.packages }
+        ensures to { result.to < length self.now.packages }
     {
         self.graph.link(number)
     }

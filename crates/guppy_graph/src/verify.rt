@@ -96,7 +96,7 @@ impl RecordGraph {
         if !accepts(&link.edge.version_req, &self.package_at(link.to).version) {
             return Some(VerifyFault::Version { link: number });
         }
-        if !has_section(&link.edge) {
+        if !has_section(link.edge) {
             return Some(VerifyFault::NoSection { link: number });
         }
         None

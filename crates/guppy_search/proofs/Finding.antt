@@ -1,7 +1,6 @@
 -- A link between two positions, found in a row.
-use Rattle.std.proofs.Common.{◌≡◌, ℕ, ◌+◌, List, length, get_or, sym, ap, ◌∙◌, arith, ⊎_elim, Option, None, Some}
-use Rattle.std.specs.Prelude.{slice_index, Contains, MatchOption, ◌≢◌}
-use Rattle.std.proofs.lemmas.Bool.{cases_lt}
+use Rattle.std.proofs.Common.{◌≡◌, ℕ, List, length, get_or, sym, ◌∙◌, Option, None, Some}
+use Rattle.std.specs.Prelude.{Contains, MatchOption}
 use Rattle.std.proofs.lemmas.List.{get_or_default}
 use Rattle.guppy_search.specs.declared.ix.direction.DependencyDirection.TheVariants.{Forward}
 use Rattle.guppy_search.specs.declared.graph_core.link.Link.{Link}
@@ -11,16 +10,6 @@ use Rattle.guppy_search.specs.Stored.{far_ends_at}
 use Rattle.guppy_search.specs.Pairs.{NoneTo, IsFirstTo}
 use Rattle.guppy_search.proofs.Rows.{row_links, row_has}
 use Rattle.guppy_search.proofs.Ends.{far_beside}
-
--- one more far end is another one
-pub none_more : (far : List ℕ) (to i : ℕ) → NoneTo far to i → slice_index far i ≢ to → NoneTo far to (i + 1)
-none_more far to i none differs k within leads =
-    ⊎_elim
-    (λ b. none k b leads)
-    (λ b.
-    let e : k ≡ i = omega arith in
-    differs (sym (ap (slice_index far) e) ∙ leads))
-    (cases_lt k i)
 
 -- what the row tells of the links
 pub found_link : {E : Type 0} (links : List (Link E)) (from to : ℕ) (r : Option ℕ) → MatchOption r (NoneTo (far_ends_at Forward links from) to (length (links_at Forward links from))) (IsFirstTo (links_at Forward links from) (far_ends_at Forward links from) to) → MatchOption r (NoLink links from to) (LinkIs links from to)

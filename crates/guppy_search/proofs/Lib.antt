@@ -8,6 +8,7 @@ pub mod Positions
 pub mod Along
 pub mod Numbers
 pub mod Rows
+pub mod Between
 pub mod Laying
 pub mod Walks
 pub mod Finding

@@ -1,5 +1,6 @@
 -- Links between positions, and their ends in a direction.
 use Rattle.std.specs.Prelude.{◌||◌, nat_le, ◌≡◌, ◌==◌, ℕ, ◌+◌, ◌<◌, Bool, if◌then◌else◌, List, [], ◌∷◌, Some, slice_get, Contains}
+use Rattle.std.specs.Borrow.{Bor}
 use Rattle.guppy_search.specs.declared.ix.direction.DependencyDirection.{DependencyDirection}
 use Rattle.guppy_search.specs.declared.ix.direction.DependencyDirection.TheVariants.{Forward, Reverse}
 use Rattle.guppy_search.specs.declared.graph_core.link.Link.{Link}
@@ -45,3 +46,17 @@ SamePair a b = (a.from ≡ b.from) × (a.to ≡ b.to)
 -- whether an end is no position below n
 abbrev pub is_unknown : {E : Type 0} → ℕ → Link E → Bool
 is_unknown n l = nat_le n l.from || nat_le n l.to
+
+-- the link without its data: its ends alone
+abbrev pub bare : {E : Type 0} → Link E → Link (Unit {0})
+bare l = record { from = l.from; to = l.to; edge = tt }
+
+-- the links with these ends and these data, taken by number
+abbrev pub links_between : {E : Type 0} → List (Link (Unit {0})) → List E → List (Link E)
+links_between (l ∷ ends) (edge ∷ edges) =
+    record { from = l.from; to = l.to; edge = edge } ∷ links_between ends edges
+links_between ends edges = []
+
+-- the link as its data are behind the reference
+abbrev pub seen_link : {E : Type 0} → Link (Bor E) → Link E
+seen_link l = record { from = l.from; to = l.to; edge = l.edge.now }

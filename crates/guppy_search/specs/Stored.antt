@@ -5,7 +5,7 @@ use Rattle.guppy_search.specs.declared.ix.direction.DependencyDirection.{Depende
 use Rattle.guppy_search.specs.declared.ix.direction.DependencyDirection.TheVariants.{Forward, Reverse}
 use Rattle.guppy_search.specs.declared.graph_core.link.Link.{Link}
 use Rattle.guppy_search.specs.declared.graph_core.lists.LinkLists.{LinkLists}
-use Rattle.guppy_search.specs.Links.{near_end, far_end, numbers_where, links_at}
+use Rattle.guppy_search.specs.Links.{near_end, far_end, numbers_where, links_at, links_between}
 use Rattle.guppy_search.specs.Graph.{GraphValue, IsGraph}
 
 -- the position that the link n leads to in the direction
@@ -41,10 +41,13 @@ pub record ListsAre {E : Type 0} (d : DependencyDirection) (count : ℕ) (links 
   pub far_is : (p : ℕ) → p < count
       → slice_range far (slice_index bounds p) (slice_index bounds (p + 1)) ≡ far_ends_at d links p
 
-pub record IsStored {N E : Type 0} (nodes : List N) (links : List (Link E))
-    (forward reverse : LinkLists) : Type 0 where
-  pub graph : IsGraph (let g : GraphValue N E = record { nodes = nodes; links = links } in g)
-  pub forward_is : ListsAre Forward (length nodes) links forward.bounds.items forward.numbers.items
-      forward.far.items
-  pub reverse_is : ListsAre Reverse (length nodes) links reverse.bounds.items reverse.numbers.items
-      reverse.far.items
+-- each edge has its ends, and the lists are those of the links that these make
+pub record IsStored {N E : Type 0} (nodes : List N) (edges : List E)
+    (ends : List (Link (Unit {0}))) (forward reverse : LinkLists) : Type 0 where
+  pub paired : length ends ≡ length edges
+  pub graph : IsGraph (let g : GraphValue N E = record
+      { nodes = nodes; links = links_between ends edges } in g)
+  pub forward_is : ListsAre Forward (length nodes) (links_between ends edges)
+      forward.bounds.items forward.numbers.items forward.far.items
+  pub reverse_is : ListsAre Reverse (length nodes) (links_between ends edges)
+      reverse.bounds.items reverse.numbers.items reverse.far.items

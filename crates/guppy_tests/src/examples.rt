@@ -10,10 +10,11 @@
 //!
 //! An answer is words and numbers, an error is its text, and no text is `nothing`. Where more than one
 //! answer is right, ` or ` stands between them. A question's first word tells the module that answers it:
-//! `package` and `workspace` go to `views`, `resolve` to `queries`, `looks` and `in-turn` to `lists`, `beside`
-//! to `sets`, all others to `graphs`.
+//! `package` and `workspace` go to `views`, `resolve` to `queries`, `looks`, `in-turn`,
+//! `everything` and `shown` to `large`, `beside` to `sets`, all others to `graphs`.
 use crate::graphs::{self, ask_graph};
-use crate::lists::{self, ask_looks};
+use crate::large::{self, ask_large};
+use crate::lists;
 use crate::queries::{self, ask_query};
 use crate::records::{graph_of, ids};
 use crate::sets::{self, beside, other_graph};
@@ -117,7 +118,9 @@ fn tell(
     let graph = graph_of(rt, alloc, graph)?;
     let ids = ids(rt, alloc, words);
     match words {
-        ["looks" | "in-turn", ..] => ask_looks(rt, &graph, words, out),
+        ["looks" | "in-turn" | "everything" | "shown", ..] => {
+            ask_large(rt, &graph, words, &ids, out)
+        }
         ["beside", ..] => tell_beside(rt, &graph, words, &ids, out),
         _ => ask(&graph, words, &ids, out),
     }
@@ -172,12 +175,11 @@ fn assert_examples(rt: &impl Abort, alloc: Global, table: &str) {
     }
 }
 
-const TABLES: [&str; 12] = [
+const TABLES: [&str; 11] = [
     graphs::GRAPHS,
     graphs::BROKEN_RULES,
     graphs::VERIFIED,
     lists::LISTS,
-    lists::LARGE,
     queries::QUERIES,
     sets::SETS,
     sets::PARTS,
@@ -193,4 +195,9 @@ fn examples(rt: HostRuntime) {
     for table in TABLES {
         assert_examples(&rt, rt.alloc(), table);
     }
+}
+
+#[test]
+fn large_graphs(rt: HostRuntime) {
+    assert_examples(&rt, rt.alloc(), large::LARGE);
 }

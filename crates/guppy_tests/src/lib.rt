@@ -6,15 +6,25 @@
 #![tactic(auto)]
 
 #[cfg(test)]
+mod boxed;
+#[cfg(test)]
+mod drawn;
+#[cfg(test)]
 mod examples;
 #[cfg(test)]
 mod filled;
 #[cfg(test)]
 mod graphs;
 #[cfg(test)]
+mod judge;
+#[cfg(test)]
+mod large;
+#[cfg(test)]
 mod lists;
 #[cfg(test)]
 mod queries;
+#[cfg(test)]
+mod reach;
 #[cfg(test)]
 mod records;
 #[cfg(test)]

@@ -1,9 +1,8 @@
 //! Lists of sets, cycles, and the looks for the order.
-ghost use Rattle.std.specs.Iterator.{IsFinite};
 
 use crate::examples::Answer;
-use crate::records::{numbered_name, shape_of};
-use guppy::graph::{DependencyDirection, PackageIx};
+use crate::records::shape_of;
+use guppy::graph::PackageIx;
 use guppy::positions::{CountedGraph, Graph, GraphSpec, Link, Sccs, TopoWithCycles};
 use guppy::{CycleIds, Error, PackageGraph, PackageId};
 use std::alloc::{AllocError, Global};
@@ -78,46 +77,17 @@ dev_link_orders | y x: x~y
 no_cycle | a b c d: a>b
     cycles = nothing
     cyclic z a = unknown package ID: z
+
+chain_with_self_links | a b c: a>b b>c a>a b>b c>c
+    list forward of all = a b c
+    list reverse of all = c b a
+    roots forward of all = a 1 a 0
+    roots reverse of all = c 1 c 0
+    cycles = 1 a, 1 b, 1 c
 ";
 
-// How many IDs there are where they are p0, p1 and so on, and 0 where they aren't.
-fn counts_up<'g, I: Iterator<Item = &'g PackageId> + Drop>(
-    rt: &impl Abort,
-    alloc: Global,
-    ids: I,
-) -> usize
-    requires can { I.can_next ids }
-    requires ends { IsFinite (I.remaining ids) }
-{
-    let mut position = 0;
-    for id in ids {
-        if id.repr() != numbered_name(rt, alloc, position).as_str() {
-            return 0;
-        }
-        position = position.saturating_add(1);
-    }
-    position
-}
-
-// How many packages the graph has and how many each cycle has, where all are p0, p1 and so on.
-fn put_in_turn(
-    rt: &impl Abort,
-    alloc: Global,
-    graph: &PackageGraph,
-    out: &mut Answer,
-) -> Result<(), Error> {
-    let all = graph.resolve_all()?;
-    let ids = all.package_ids(DependencyDirection::Forward);
-    out.put_number(counts_up(rt, alloc, ids));
-    for cycle in graph.cycles().all_cycles() {
-        out.put_number(cycle.len());
-        out.put_number(counts_up(rt, alloc, cycle));
-    }
-    Ok(())
-}
-
 /// A graph whose links say whether they are dev-only.
-enum DevLinks {}
+pub(super) enum DevLinks {}
 
 impl GraphSpec for DevLinks {
     type Node = ();
@@ -144,13 +114,13 @@ fn counted_looks(graph: &Graph<DevLinks>) -> Result<u64, AllocError> {
     Ok(counted.looks())
 }
 
-// The looks for index and components of the nodes and links alone, and none where these make no graph.
-fn looks_of(
+/// The graph of so many positions and these links.
+pub(super) fn positions_graph(
     rt: &impl Abort,
     alloc: Global,
     count: usize,
     ends: &[(usize, usize, bool)],
-) -> Result<u64, AllocError> {
+) -> Graph<DevLinks> {
     let mut links = Vec::new(alloc);
     for (from, to, is_dev_only) in ends {
         let link = Link {
@@ -160,22 +130,19 @@ fn looks_of(
         };
         links.push(link).expect(rt, "a link");
     }
-    let nodes = vec![in alloc; (); count]?;
-    match Graph::from_parts(nodes, links) {
-        Ok(graph) => counted_looks(&graph),
-        Err(_) => Ok(0),
-    }
+    let nodes = vec![in alloc; (); count].expect(rt, "nodes");
+    Graph::from_parts(nodes, links).expect(rt, "a graph")
 }
 
 // Whether the graph's looks are those for index and components of its links alone.
 fn put_sum(rt: &impl Abort, graph: &PackageGraph, ends: &[(usize, usize, bool)], out: &mut Answer) {
-    let looks = looks_of(rt, graph.alloc(), graph.package_count(), ends);
-    let looks = looks.expect(rt, "looks");
-    out.put_truth(0 < looks && graph.order_looks() == looks);
+    let by_position = positions_graph(rt, graph.alloc(), graph.package_count(), ends);
+    let looks = counted_looks(&by_position).expect(rt, "looks");
+    out.put_truth(graph.order_looks() == looks);
 }
 
-// Whether there were at most so many looks, or those of links alone.
-fn put_looks(rt: &impl Abort, graph: &PackageGraph, words: &[&str], out: &mut Answer) {
+/// Answers whether the order took at most so many looks, or those of links alone.
+pub(super) fn put_looks(rt: &impl Abort, graph: &PackageGraph, words: &[&str], out: &mut Answer) {
     match words {
         ["sum", "backs"] => put_sum(rt, graph, &BACKS, out),
         ["sum", shape] => {
@@ -186,42 +153,3 @@ fn put_looks(rt: &impl Abort, graph: &PackageGraph, words: &[&str], out: &mut An
         _ => {}
     }
 }
-
-/// Answers how many looks the order took, and before that, where it is asked, whether lists and cycles are
-/// in turn.
-pub(super) fn ask_looks(
-    rt: &impl Abort,
-    graph: &PackageGraph,
-    words: &[&str],
-    out: &mut Answer,
-) -> Result<(), Error> {
-    if let ["in-turn", words @ ..] = words {
-        put_in_turn(rt, graph.alloc(), graph, out)?;
-        put_looks(rt, graph, words, out);
-    } else if let ["looks", words @ ..] = words {
-        put_looks(rt, graph, words, out);
-    }
-    Ok(())
-}
-
-// Recursion over the graph would run out of the call stack in the two with 200000 packages.
-pub(super) const LARGE: &str = "
-ring_1000 | ring*1000
-    in-turn = 1000 1000 1000
-    looks 4000 = yes
-
-chain_200000 | chain*200000
-    in-turn 799996 = 200000 yes
-
-ring_200000 | ring*200000
-    in-turn 800000 = 200000 200000 200000 yes
-
-looks_are_the_sum | d c b a: a>b b~a b>c c>d d~c
-    looks sum backs = yes
-    looks 20 = yes
-
-complete_300 | complete*300
-    in-turn = 300 300 300
-    looks 360000 = yes
-    looks sum complete = yes
-";

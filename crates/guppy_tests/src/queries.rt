@@ -3,56 +3,26 @@
 //! A resolve is written as `resolve`, its visitor, a direction, and where it starts. The answer is the
 //! set's letters and how many they are, and then each link that was shown, with `+` where it was accepted
 //! and `-` where it was refused, or how often the visitor was called.
-ghost use Rattle.std.specs.Prelude.{ℕ, ◌<◌, length};
-ghost use Rattle.guppy.specs.Visitors.{MayVisitAt};
+ghost use Rattle.std.specs.Prelude.{◌≡◌, ◌==◌, ℕ, ◌+◌, ◌%◌, ◌^◌, ◌<◌, IsTrue, length};
+ghost use Rattle.guppy.specs.Visitors.{MayVisitAt, StartsFromInitial};
 
 use crate::examples::Answer;
 use crate::sets::{direction_of, put_letters};
-use crate::visitors::RefusesOnce;
+use crate::visitors::{First, Odd, RefusesOnce};
 use guppy::{
     Error, PackageGraph, PackageId, PackageLink, PackageLinkContext, PackageLinkVisitor,
     PackageQuery, PackageSet,
 };
 
-// Accepts its first calls, so many.
-#[derive(Drop)]
-struct First(usize);
-
-impl PackageLinkVisitor for First {
-    ghost visits = { λ _ _ _ _ _. Unit {0} };
-
-    fn visit_link(&mut self, _cx: &PackageLinkContext<'_>, _link: PackageLink<'_>) -> bool {
-        if self.0 == 0 {
-            return false;
-        }
-        self.0 -= 1;
-        true
-    }
-}
-
-// Accepts its odd calls, and counts them all.
-#[derive(Drop)]
-struct Odd {
-    calls: usize,
-}
-
-impl PackageLinkVisitor for Odd {
-    ghost visits = { λ _ _ _ _ _. Unit {0} };
-
-    fn visit_link(&mut self, _cx: &PackageLinkContext<'_>, _link: PackageLink<'_>) -> bool {
-        self.calls = self.calls.wrapping_add(1);
-        self.calls % 2 == 1
-    }
-}
-
-// The same, which counts in a number that it is lent: it can be read after the visitor was handed over.
+// As `Odd`, but it counts in a number that it is lent: it can be read after the visitor was handed over.
 #[derive(Drop)]
 struct OddIn<'c> {
     calls: &'c mut usize,
 }
 
 impl PackageLinkVisitor for OddIn<'_> {
-    ghost visits = { λ _ _ _ _ _. Unit {0} };
+    ghost visits = { λ s _ _ answer t. (t.calls.now ≡ (s.calls.now + 1) % 2 ^ 64)
+        × (answer ≡ (t.calls.now % 2 == 1)) };
 
     fn visit_link(&mut self, _cx: &PackageLinkContext<'_>, _link: PackageLink<'_>) -> bool {
         *self.calls = self.calls.wrapping_add(1);
@@ -65,7 +35,7 @@ impl PackageLinkVisitor for OddIn<'_> {
 struct FromInitials;
 
 impl PackageLinkVisitor for FromInitials {
-    ghost visits = { λ _ _ _ _ _. Unit {0} };
+    ghost visits = { λ _ query link answer _. IsTrue answer → StartsFromInitial query link };
 
     fn visit_link(&mut self, cx: &PackageLinkContext<'_>, link: PackageLink<'_>) -> bool {
         match cx.clone() {
@@ -96,7 +66,7 @@ fn ask_first(
     accepted: usize,
     out: &mut Answer,
 ) -> Result<(), Error> {
-    let (set, recorder) = query.resolve_recorded(First(accepted))?;
+    let (set, recorder) = query.resolve_recorded(First { left: accepted })?;
     put_recorded(graph, &set, recorder.entries.as_slice(), out)
 }
 

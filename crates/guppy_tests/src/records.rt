@@ -15,6 +15,7 @@
 //! | `!a` | a default member |
 //! | `chain*9` | p0 to p8, with a link from each to the next |
 //! | `ring*9` | the same, and a link from the last to the first |
+//! | `backwards*9` | p0 to p8, with a link from each to the one before it |
 //! | `complete*9` | p0 to p8, with a link from each to each |
 //!
 //! A link `a>b` has a normal section, `a~b` one for development, `a+b` those for building and
@@ -227,7 +228,8 @@ fn add_link_word(rt: &impl Abort, alloc: Global, links: &mut Vec<LinkRecord>, wo
     add_link(rt, alloc, links, ends_of(ends), requirement);
 }
 
-/// The links of this shape between so many positions: from, to, and whether it is dev-only.
+/// The links of this shape between so many positions: from, to, and whether it is dev-only. A chain that is
+/// listed backwards begins at the last position.
 pub(super) fn shape_of(
     rt: &impl Abort,
     alloc: Global,
@@ -240,6 +242,10 @@ pub(super) fn shape_of(
             for to in 0..count {
                 ends.push((from, to, false)).expect(rt, shape);
             }
+        }
+    } else if shape == "backwards" {
+        for from in 1..count {
+            ends.push((from, from - 1, false)).expect(rt, shape);
         }
     } else {
         for to in 1..count {
@@ -256,6 +262,16 @@ pub(super) fn shape_of(
 pub(super) fn numbered_name(rt: &impl Abort, alloc: Global, position: usize) -> String {
     let name: Result<String, AllocError> = format!(in alloc; "p{position}");
     name.expect(rt, "a name")
+}
+
+/// The IDs of p0 and so on, so many.
+pub(super) fn numbered_ids(rt: &impl Abort, alloc: Global, count: usize) -> Vec<PackageId> {
+    let mut ids = Vec::new(alloc);
+    for position in 0..count {
+        let id = PackageId::new(numbered_name(rt, alloc, position));
+        ids.push(id).expect(rt, "IDs");
+    }
+    ids
 }
 
 fn add_numbered(
@@ -283,11 +299,18 @@ fn add_numbered_link(
 }
 
 impl Records {
-    fn add_shape(&mut self, rt: &impl Abort, alloc: Global, shape: &str, count: usize) {
+    // p0 and so on, so many, and links with these ends.
+    fn add_between(
+        &mut self,
+        rt: &impl Abort,
+        alloc: Global,
+        count: usize,
+        links: &[(usize, usize, bool)],
+    ) {
         for position in 0..count {
             add_numbered(rt, alloc, &mut self.packages, position);
         }
-        for ends in &shape_of(rt, alloc, shape, count) {
+        for ends in links {
             add_numbered_link(rt, alloc, &mut self.links, *ends);
         }
     }
@@ -297,7 +320,8 @@ impl Records {
             let member = id(rt, alloc, member);
             self.workspace.default_members.push(member).expect(rt, word);
         } else if let Some((shape, count)) = word.split_once('*') {
-            self.add_shape(rt, alloc, shape, count.parse().unwrap_or(0));
+            let count = count.parse().unwrap_or(0);
+            self.add_between(rt, alloc, count, &shape_of(rt, alloc, shape, count));
         } else {
             add_package_word(rt, alloc, &mut self.packages, word);
         }
@@ -318,19 +342,30 @@ impl Records {
     }
 }
 
-// The records that the line says.
-fn records_of(rt: &impl Abort, alloc: Global, line: &str) -> Records {
-    let mut records = Records {
+fn no_records(alloc: Global) -> Records {
+    Records {
         packages: Vec::new(alloc),
         links: Vec::new(alloc),
         workspace: WorkspaceRecord::new(alloc, no_path(alloc), no_path(alloc)),
-    };
-    records.add(rt, alloc, line);
-    records
+    }
 }
 
 /// The graph that the line says.
 pub(super) fn graph_of(rt: &impl Abort, alloc: Global, line: &str) -> Result<PackageGraph, Error> {
-    let records = records_of(rt, alloc, line);
+    let mut records = no_records(alloc);
+    records.add(rt, alloc, line);
     PackageGraph::from_records(records.packages, records.links, records.workspace)
+}
+
+/// The graph of p0 and so on, so many, with links between these positions.
+pub(super) fn numbered_graph(
+    rt: &impl Abort,
+    alloc: Global,
+    count: usize,
+    links: &[(usize, usize, bool)],
+) -> PackageGraph {
+    let mut records = no_records(alloc);
+    records.add_between(rt, alloc, count, links);
+    let graph = PackageGraph::from_records(records.packages, records.links, records.workspace);
+    graph.expect(rt, "a graph")
 }

@@ -5,9 +5,13 @@
 //! makes its set or its query. What is asked of it stands before an `of`: its
 //! letters and how many they are, where nothing does. `make` makes a set of the first two packages and the
 //! next two.
+ghost use Rattle.std.specs.Iterator.{IsFinite};
+
 use crate::examples::Answer;
 use guppy::graph::{DependencyDirection, IndexType};
 use guppy::{Error, PackageGraph, PackageId, PackageMetadata, PackageSet};
+use std::alloc::Global;
+use std::process::Abort;
 
 const LETTERS: [&str; 4] = ["a", "b", "c", "d"];
 
@@ -77,6 +81,24 @@ pub(super) fn put_letters(
         out.put("empty");
     }
     Ok(())
+}
+
+/// The positions of the packages.
+pub(super) fn positions_of<'g, I: Iterator<Item = PackageMetadata<'g>> + Drop>(
+    rt: &impl Abort,
+    alloc: Global,
+    packages: I,
+) -> Vec<usize>
+    requires can { I.can_next packages }
+    requires ends { IsFinite (I.remaining packages) }
+{
+    let mut positions = Vec::new(alloc);
+    for package in packages {
+        positions
+            .push(package.package_ix().index())
+            .expect(rt, "positions");
+    }
+    positions
 }
 
 // How many packages the set has, and how many its list has.

@@ -1,7 +1,89 @@
-//! A visitor whose answers change.
-ghost use Rattle.std.specs.Prelude.{◌≡◌, true};
+//! Visitors, each with its meaning: what it answers at each state, and the state that it leaves.
+ghost use Rattle.std.specs.Prelude.{◌≡◌, ◌==◌, ◌||◌, ◌+◌, ◌-◌, ◌%◌, ◌^◌, true, false, not, max, nat_lt, slice_get, slice_index_or, IsSomeAnd};
+ghost use Rattle.guppy.specs.DevOnly.{is_dev_only};
 
 use guppy::{PackageLink, PackageLinkContext, PackageLinkVisitor};
+
+/// Accepts the links at whose numbers the list is true. None stands beyond its end.
+#[derive(Drop)]
+pub struct ByPattern<'p> {
+    pub pattern: &'p [bool],
+}
+
+impl PackageLinkVisitor for ByPattern<'_> {
+    ghost visits = { λ s _ link answer t. (answer ≡ slice_index_or s.pattern.now link.number false)
+        × (t.pattern ≡ s.pattern) };
+
+    fn visit_link(&mut self, _cx: &PackageLinkContext<'_>, link: PackageLink<'_>) -> bool {
+        match self.pattern.get(link.link_ix()) {
+            Some(is_open) => *is_open,
+            None => false,
+        }
+    }
+}
+
+/// Accepts its first calls, so many.
+#[derive(Drop)]
+pub struct First {
+    pub left: usize,
+}
+
+impl PackageLinkVisitor for First {
+    ghost visits = { λ s _ _ answer t. (answer ≡ nat_lt 0 s.left) × (t.left ≡ s.left - 1) };
+
+    fn visit_link(&mut self, _cx: &PackageLinkContext<'_>, _link: PackageLink<'_>) -> bool {
+        let answer = 0 < self.left;
+        self.left = self.left.saturating_sub(1);
+        answer
+    }
+}
+
+/// Accepts its odd calls, and counts them all.
+#[derive(Drop)]
+pub struct Odd {
+    pub calls: usize,
+}
+
+impl PackageLinkVisitor for Odd {
+    ghost visits = { λ s _ _ answer t. (t.calls ≡ (s.calls + 1) % 2 ^ 64)
+        × (answer ≡ (t.calls % 2 == 1)) };
+
+    fn visit_link(&mut self, _cx: &PackageLinkContext<'_>, _link: PackageLink<'_>) -> bool {
+        self.calls = self.calls.wrapping_add(1);
+        self.calls % 2 == 1
+    }
+}
+
+/// Accepts the links that are there for development alone.
+#[derive(Drop)]
+pub struct DevOnly;
+
+impl PackageLinkVisitor for DevOnly {
+    ghost visits = { λ _ _ link answer _. IsSomeAnd (slice_get link.graph.links link.number)
+        (λ l. answer ≡ is_dev_only l.edge) };
+
+    fn visit_link(&mut self, _cx: &PackageLinkContext<'_>, link: PackageLink<'_>) -> bool {
+        link.dev_only()
+    }
+}
+
+/// Accepts the links with a number above all those that it was shown before, and above the one that it
+/// has at first.
+#[derive(Drop)]
+pub struct Rising {
+    pub highest: usize,
+}
+
+impl PackageLinkVisitor for Rising {
+    ghost visits = { λ s _ link answer t. (answer ≡ nat_lt s.highest link.number)
+        × (t.highest ≡ max s.highest link.number) };
+
+    fn visit_link(&mut self, _cx: &PackageLinkContext<'_>, link: PackageLink<'_>) -> bool {
+        let answer = self.highest < link.link_ix();
+        self.highest = self.highest.max(link.link_ix());
+        answer
+    }
+}
 
 /// Refuses the first link to the package d, and no other.
 #[derive(Drop)]
@@ -10,8 +92,8 @@ pub struct RefusesOnce {
 }
 
 impl PackageLinkVisitor for RefusesOnce {
-    ghost visits = { λ s _ _ answer t. s.has_refused ≡ true → (answer ≡ true)
-        × (t.has_refused ≡ true) };
+    ghost visits = { λ s _ _ answer t. (s.has_refused ≡ true → answer ≡ true)
+        × (t.has_refused ≡ (s.has_refused || not answer)) };
 
     fn visit_link(&mut self, _cx: &PackageLinkContext<'_>, link: PackageLink<'_>) -> bool {
         if self.has_refused || link.to().name() != "d" {

@@ -60,7 +60,7 @@ impl PackageGraph {
     ///
     /// Time grows with packages, build targets and links, times the logarithm of the packages or of
     /// a package's targets. Takes memory for some numbers a package, target and link; the records
-    /// are kept as they are.
+    /// stay as and where they are.
     pub fn from_records(
         packages: Vec<PackageRecord>,
         links: Vec<LinkRecord>,

@@ -1,6 +1,7 @@
 //! The calls of a graph by position, which the modules of queries, sets and views share: each is that of
 //! the graph's records.
 ghost use Rattle.std.specs.Prelude.{◌≡◌, ◌↔◌, ◌<◌, [], ◌∷◌, IsTrue, IfOk, IfErr, IsOk, length, slice_get, Some, IsSomeAnd, MatchOption, All};
+ghost use Rattle.guppy_core.specs.Links.{seen_link};
 ghost use Rattle.guppy_core.specs.Reach.{LinkStep};
 ghost use Rattle.guppy_data.specs.Utf8Path.{path_text};
 ghost use Rattle.guppy_graph.specs.Keys.{DifferBelow};
@@ -86,11 +87,11 @@ impl PackageGraph {
     }
 
     /// The link of the number, between positions of packages.
-    pub(crate) fn link_at(&self, number: usize) -> &Link<LinkRecord>
+    pub(crate) fn link_at(&self, number: usize) -> Link<&LinkRecord>
         requires { number < length self.now.links }
-        ensures at { slice_get self.now.links number ≡ Some result.now }
-        ensures from { result.now.from < length self.now.packages }
-        ensures to { result.now.to < length self.now.packages }
+        ensures at { slice_get self.now.links number ≡ Some (seen_link result) }
+        ensures from { result.from < length self.now.packages }
+        ensures to { result.to < length self.now.packages }
     {
         self.records.link_at(number)
     }

@@ -1,5 +1,6 @@
-ghost use Rattle.std.specs.Prelude.{◌≡◌, ◌+◌, ◌<◌, length, IfOk, MatchOption, All};
-ghost use Rattle.guppy_search.specs.Links.{EndsBelow};
+ghost use Rattle.std.specs.Prelude.{◌≡◌, ◌+◌, ◌<◌, length, map, IfOk, MatchOption, All};
+ghost use Rattle.guppy_search.specs.Links.{EndsBelow, bare};
+ghost use Rattle.guppy_search.specs.declared.graph_core.link.Link.{Link};
 ghost use Rattle.guppy_search.specs.Stored.{ListsAre};
 ghost use Rattle.guppy_search.specs.Pairs.{IsFirstTo, NoneTo, LeadApart, IsFirstAgain, SinglesBelow, IsFirstRepeat, IsFirstUnknown};
 
@@ -7,6 +8,27 @@ use crate::graph_core::link::Link;
 use crate::graph_core::lists::LinkLists;
 use crate::ix::DependencyDirection;
 use std::alloc::{AllocError, Global};
+
+/// The ends of the links alone.
+pub(crate) fn ends_alone<E>(alloc: Global, links: &[Link<E>]) -> Result<Vec<Link<()>>, AllocError>
+    ensures { IfOk result (λ ends. ends.items ≡ map bare links.now) }
+{
+    links
+        .iter()
+        .map(|link| Link {
+            from: link.from,
+            to: link.to,
+            edge: (),
+        })
+        .collect(alloc)
+}
+
+/// The data of the links alone.
+pub(crate) fn data_alone<E: Drop>(alloc: Global, links: Vec<Link<E>>) -> Result<Vec<E>, AllocError>
+    ensures { IfOk result (λ edges. edges.items ≡ map (λ (l : Link E). l.edge) links.items) }
+{
+    links.into_iter().map(|link| link.edge).collect(alloc)
+}
 
 /// The first link that has an end which is no position.
 pub(crate) fn first_unknown<E>(links: &[Link<E>], count: usize) -> Option<usize>

@@ -125,6 +125,6 @@ impl<'a, G: GraphSpec> CountedGraph<'a, G> {
         let far_end = self.graph.far_ends_at(position, direction)[k];
         let link = self.graph.link(number);
         self.looks += 1;
-        (number, far_end as usize, &link.edge)
+        (number, far_end as usize, link.edge)
     }
 }

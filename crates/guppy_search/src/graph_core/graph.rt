@@ -1,6 +1,6 @@
 ghost use Rattle.std.specs.Prelude.{◌≡◌, ◌<◌, length, All, Some, slice_get, IfOk, IfErr, MatchOption};
 
-use crate::graph_core::build::{first_repeat, first_unknown, number_to};
+use crate::graph_core::build::{data_alone, ends_alone, first_repeat, first_unknown, number_to};
 use crate::graph_core::link::Link;
 use crate::graph_core::lists::LinkLists;
 use crate::ix::{DependencyDirection, GraphSpec, IndexType};
@@ -39,7 +39,8 @@ const LIMIT: usize = 4_294_967_295;
 #[derive(Drop)]
 pub struct Graph<G: GraphSpec> {
     nodes: Vec<G::Node>,
-    links: Vec<Link<G::Edge>>,
+    edges: Vec<G::Edge>,
+    ends: Vec<Link<()>>,
     forward: LinkLists,
     reverse: LinkLists,
 }
@@ -49,25 +50,32 @@ impl<G: GraphSpec> Model for Graph<G> {
 
     ghost Value = { GraphValue G.Node G.Edge };
 
-    ghost view = { λ g. record { nodes = g.nodes.items; links = g.links.items } };
+    ghost use Rattle.guppy_search.specs.Links.{links_between};
+
+    ghost view = { λ g. record {
+      nodes = g.nodes.items;
+      links = links_between g.ends.items g.edges.items;
+    } };
 
     ghost use Rattle.guppy_search.specs.Stored.{IsStored};
 
-    ghost invariant = { λ g. IsStored g.nodes.items g.links.items g.forward g.reverse };
+    ghost invariant = { λ g. IsStored g.nodes.items g.edges.items g.ends.items g.forward
+        g.reverse };
 }
 
 impl<G: GraphSpec> Graph<G> {
     ghost use Rattle.guppy_search.specs.Graph.{IsGraph, NoLink, LinkIs};
     ghost use Rattle.guppy_search.specs.Fault.{IsFault};
-    ghost use Rattle.guppy_search.specs.Links.{links_at};
+    ghost use Rattle.guppy_search.specs.Links.{links_at, links_between, seen_link};
     ghost use Rattle.guppy_search.specs.Stored.{far_ends_at};
 
     /// The graph of these nodes and links, where each link's ends are positions of nodes and no
     /// ordered pair has two links. Otherwise the first fault: in the order of `GraphFault`, then
     /// the lowest link number. `OutOfMemory` comes where a growth was refused.
     ///
-    /// Time grows with nodes and links. Takes memory for 24 bytes a link and three numbers a node, beside
-    /// the parts themselves.
+    /// Time grows with nodes and links. Takes memory for 40 bytes a link and three numbers a node, and
+    /// for the links' data, which move into a list of their own: where these lie in one already,
+    /// [`from_ends`](Graph::from_ends) leaves them there.
     pub fn from_parts(nodes: Vec<G::Node>, links: Vec<Link<G::Edge>>) -> Result<Self, GraphFault>
         ensures nodes { IfOk result (λ g. g.nodes ≡ nodes.items) }
         ensures links { IfOk result (λ g. g.links ≡ links.items) }
@@ -75,33 +83,57 @@ impl<G: GraphSpec> Graph<G> {
         ensures fault { IfErr result (IsFault (length nodes.items) links.items) }
     {
         let alloc = *nodes.allocator();
+        let ends = ends_alone(alloc, links.as_slice())?;
+        let edges = data_alone(alloc, links)?;
+        Graph::from_ends(nodes, edges, ends)
+    }
+
+    /// [`from_parts`](Graph::from_parts), with the data of the links in one list and their ends in
+    /// another, each by number. Both lists are as long as each other.
+    ///
+    /// Neither nodes nor data move. Time grows with nodes and links. Takes memory for 24 bytes a link
+    /// and three numbers a node, beside the parts themselves.
+    pub fn from_ends(
+        nodes: Vec<G::Node>,
+        edges: Vec<G::Edge>,
+        ends: Vec<Link<()>>,
+    ) -> Result<Self, GraphFault>
+        requires { length ends.items ≡ length edges.items }
+        ensures nodes { IfOk result (λ g. g.nodes ≡ nodes.items) }
+        ensures links { IfOk result (λ g. g.links ≡ links_between ends.items edges.items) }
+        ensures graph { IfOk result (λ g. IsGraph g) }
+        ensures fault { IfErr result (IsFault (length nodes.items)
+            (links_between ends.items edges.items)) }
+    {
+        let alloc = *nodes.allocator();
         if nodes.len() > LIMIT {
             return Err(GraphFault::TooManyNodes);
         }
-        if links.len() > LIMIT {
+        if ends.len() > LIMIT {
             return Err(GraphFault::TooManyLinks);
         }
-        if let Some(number) = first_unknown(links.as_slice(), nodes.len()) {
+        if let Some(number) = first_unknown(ends.as_slice(), nodes.len()) {
             return Err(GraphFault::UnknownEnd(number));
         }
         let forward = LinkLists::new(
             alloc,
-            links.as_slice(),
+            ends.as_slice(),
             nodes.len(),
             DependencyDirection::Forward,
         )?;
-        if let Some(number) = first_repeat(alloc, links.as_slice(), nodes.len(), &forward)? {
+        if let Some(number) = first_repeat(alloc, ends.as_slice(), nodes.len(), &forward)? {
             return Err(GraphFault::RepeatedLink(number));
         }
         let reverse = LinkLists::new(
             alloc,
-            links.as_slice(),
+            ends.as_slice(),
             nodes.len(),
             DependencyDirection::Reverse,
         )?;
         Ok(Graph {
             nodes,
-            links,
+            edges,
+            ends,
             forward,
             reverse,
         })
@@ -119,7 +151,7 @@ impl<G: GraphSpec> Graph<G> {
     pub fn link_count(&self) -> usize
         ensures { result ≡ length self.now.links }
     {
-        self.links.len()
+        self.ends.len()
     }
 
     /// The node at the position, which is below the node count.
@@ -138,12 +170,17 @@ impl<G: GraphSpec> Graph<G> {
     }
 
     /// The link with the number, which is below the link count.
-    pub fn link(&self, number: usize) -> &Link<G::Edge>
+    pub fn link(&self, number: usize) -> Link<&G::Edge>
         requires { number < length self.now.links }
-        ensures link { slice_get self.now.links number ≡ Some result.now }
+        ensures link { slice_get self.now.links number ≡ Some (seen_link result) }
         ensures graph { IsGraph self.now }
     {
-        &self.links[number]
+        let ends = &self.ends[number];
+        Link {
+            from: ends.from,
+            to: ends.to,
+            edge: &self.edges[number],
+        }
     }
 
     /// The numbers of the links that leave the position in the direction, ascending. The position

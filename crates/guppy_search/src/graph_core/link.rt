@@ -13,6 +13,9 @@ pub struct Link<E> {
     pub edge: E,
 }
 
+// Of a link with nothing on it the ends alone take room.
+const _: () = prove!(size_of::<Link<()>>() == 2 * size_of::<usize>());
+
 impl<E> Link<E> {
     ghost use Rattle.guppy_search.specs.Links.{near_end, far_end, is_unknown};
 

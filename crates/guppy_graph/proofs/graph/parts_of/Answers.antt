@@ -1,11 +1,11 @@
-use Rattle.std.proofs.Common.{rules, ◌≡◌, refl, ◌<◌, ◌≤◌, length, All, map}
-use Rattle.std.specs.List.{zip}
+use Rattle.std.proofs.Common.{rules, ◌≡◌, refl, ◌<◌, ◌≤◌, length, All}
 use Rattle.std.proofs.lemmas.Result.{err_from_is_err_and}
 use Rattle.guppy_data.specs.declared.texts.fault.ConstructFault.TheVariants.{TooManyLinks}
 use Rattle.guppy_data.specs.declared.texts.error.Error.TheVariants.{PackageGraphConstructError}
+use Rattle.guppy_core.specs.Links.{links_between}
 use Rattle.guppy_graph.specs.Accepted.{distinct_ids, few_links, known_ends, ArePackagesAccepted}
 use Rattle.guppy_graph.specs.Indexes.{AreIndexes}
-use Rattle.guppy_graph.specs.Links.{AreLinksOf, AreEndsOf, AreEndsKnown, link_of}
+use Rattle.guppy_graph.specs.Links.{AreEndsOf, AreEndsKnown}
 use Rattle.guppy_graph.proofs.Ends.{links_made, all_known}
 use Rattle.guppy_graph.proofs.Rules.{packages_kept, after_link_count, all_kept, refused}
 use Rattle.guppy_graph.proofs.Accepting.{refusal_of, pairs_distinct}
@@ -38,6 +38,11 @@ returns-in_err-ends-clause-refused c =
     (after_link_count packages links workspace (packages_kept packages links workspace kept) few) _
     (rw (c.as_slice-2.ensures.value, c.as_slice-3.ensures.value) at c.in_err-ends.ensures.err))
 
+pub from_ends-requires : goal.from_ends-requires
+from_ends-requires c =
+    let ends : AreEndsOf c.args.packages.items c.args.links.items c.in_ok-ends.ends.items = rw (c.as_slice-2.ensures.value, c.as_slice-3.ensures.value) at c.in_ok-ends.ensures.ok in
+    ends.count
+
 pub returns-in-Ok-clause-made : goal.returns-in-Ok-clause-made
 returns-in-Ok-clause-made c =
     let packages = c.args.packages.items in
@@ -47,8 +52,7 @@ returns-in-Ok-clause-made c =
     let indexes : AreIndexes packages c.in_ok-indexes.indexes = rw c.as_slice.ensures.value at c.in_ok-indexes.ensures.made in
     let few : length links ≤ 4294967295 = search rules in
     let ends : AreEndsOf packages links c.in_ok-ends.ends.items = rw (c.as_slice-2.ensures.value, c.as_slice-3.ensures.value) at c.in_ok-ends.ensures.ok in
-    let linked : c.in_ok-linked.linked.items ≡ map link_of (zip links c.in_ok-ends.ends.items) = c.in_ok-linked.ensures in
-    let are : AreLinksOf packages links c.in_ok-linked.linked.items = rw linked (links_made packages links c.in_ok-ends.ends.items ends) in
+    let are = links_made packages links c.in_ok-ends.ends.items ends in
     let known : All (AreEndsKnown packages) links = all_known packages links c.in_ok-ends.ends.items ends.count ends.named in
     let made = c.in-Ok.ensures in
     record {
@@ -57,7 +61,7 @@ returns-in-Ok-clause-made c =
       graph = made.graph;
       indexes = indexes;
       accepted = all_kept packages links workspace (packages_kept packages links workspace kept) few known
-          (pairs_distinct packages links c.in_ok-linked.linked.items are (kept distinct_ids) c.in-Ok.graph made.graph made.links);
+          (pairs_distinct packages links (links_between c.in_ok-ends.ends.items links) are (kept distinct_ids) c.in-Ok.graph made.graph made.links);
     }
 
 pub returns-in-Err-clause-refused : goal.returns-in-Err-clause-refused
@@ -68,7 +72,6 @@ returns-in-Err-clause-refused c =
     let kept : ArePackagesAccepted packages workspace = rw c.as_slice.ensures.value at c.in_ok-indexes.ensures.accepted in
     let few : length links ≤ 4294967295 = search rules in
     let ends : AreEndsOf packages links c.in_ok-ends.ends.items = rw (c.as_slice-2.ensures.value, c.as_slice-3.ensures.value) at c.in_ok-ends.ensures.ok in
-    let linked : c.in_ok-linked.linked.items ≡ map link_of (zip links c.in_ok-ends.ends.items) = c.in_ok-linked.ensures in
-    let are : AreLinksOf packages links c.in_ok-linked.linked.items = rw linked (links_made packages links c.in_ok-ends.ends.items ends) in
+    let are = links_made packages links c.in_ok-ends.ends.items ends in
     let known : All (AreEndsKnown packages) links = all_known packages links c.in_ok-ends.ends.items ends.count ends.named in
-    rw c.construct_error.ensures (refusal_of packages links c.in_ok-linked.linked.items are (kept distinct_ids) workspace kept few known c.in-Err.fault c.in-Err.ensures.fault)
+    rw c.construct_error.ensures (refusal_of packages links (links_between c.in_ok-ends.ends.items links) are (kept distinct_ids) workspace kept few known c.in-Err.fault c.in-Err.ensures.fault)

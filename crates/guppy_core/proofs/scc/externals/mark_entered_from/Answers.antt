@@ -1,4 +1,6 @@
 use Rattle.std.proofs.Common.{◌≤◌, true, length, get_or, refl, sym, ◌∙◌, arith}
+use Rattle.guppy_search.specs.Links.{seen_link}
+use Rattle.guppy_search.proofs.Between.{far-seen}
 use Rattle.guppy_core.proofs.Costs.{degree}
 use Rattle.guppy_search.proofs.Rows.{row_within}
 use Rattle.guppy_search.proofs.Searching.{far_end_below}
@@ -16,9 +18,9 @@ link-requires g c = row_within c.args.direction c.args.graph.now.links c.args.po
 pub has_position-requires : goal.has_position-requires
 has_position-requires g c =
     let links = c.args.graph.now.links in
-    let below = far_end_below c.args.direction links (length c.args.graph.now.nodes) (get_or c.links_at-number-items.result.now c.loop-number.number-index 0) c.link.result.now c.link.ensures.link c.link.ensures.graph.ends in
+    let below = far_end_below c.args.direction links (length c.args.graph.now.nodes) (get_or c.links_at-number-items.result.now c.loop-number.number-index 0) (seen_link c.link.result) c.link.ensures.link c.link.ensures.graph.ends in
     let nodes = c.requires.nodes in
-    let far = c.far_end-far.ensures in
+    let far = (far-seen c.args.direction c.link.result _ c.far_end-far.ensures) in
     omega arith
 
 pub loop-number-preserved : goal.loop-number-preserved
@@ -34,13 +36,13 @@ loop-number-preserved g c =
     let far = c.far_end-far.result in
     let l : Looked {E = g.row.G-Edge.Denot} d (λ _. true) links near i far true = record {
       within = rw (← c.links_at-number-items.ensures.links) c.loop-number-test.true;
-      link = c.link.result.now;
+      link = (seen_link c.link.result);
       found = rw (← c.links_at-number-items.ensures.links) c.link.ensures.link;
-      far = sym c.far_end-far.ensures;
+      far = sym (far-seen c.args.direction c.link.result _ c.far_end-far.ensures);
       kept = refl;
     } in
-    let below = far_end_below d links (length c.args.graph.now.nodes) (get_or c.links_at-number-items.result.now i 0) c.link.result.now c.link.ensures.link c.link.ensures.graph.ends in
-    let is = c.far_end-far.ensures in
+    let below = far_end_below d links (length c.args.graph.now.nodes) (get_or c.links_at-number-items.result.now i 0) (seen_link c.link.result) c.link.ensures.link c.link.ensures.graph.ends in
+    let is = (far-seen c.args.direction c.link.result _ c.far_end-far.ensures) in
     let count = c.requires.numbers in
     let size = c.loop-number.invariant.size in
     let value = c.has_position.ensures.value in
@@ -71,25 +73,25 @@ bounds-number-items-number-index g c = c.loop-number-test.true
 pub bounds-numbers-far : goal.bounds-numbers-far
 bounds-numbers-far g c =
     let links = c.args.graph.now.links in
-    let below = far_end_below c.args.direction links (length c.args.graph.now.nodes) (get_or c.links_at-number-items.result.now c.loop-number.number-index 0) c.link.result.now c.link.ensures.link c.link.ensures.graph.ends in
+    let below = far_end_below c.args.direction links (length c.args.graph.now.nodes) (get_or c.links_at-number-items.result.now c.loop-number.number-index 0) (seen_link c.link.result) c.link.ensures.link c.link.ensures.graph.ends in
     let count = c.requires.numbers in
-    let far = c.far_end-far.ensures in
+    let far = (far-seen c.args.direction c.link.result _ c.far_end-far.ensures) in
     omega arith
 
 pub bounds-numbers-far-then-numbers-far : goal.bounds-numbers-far-then-numbers-far
 bounds-numbers-far-then-numbers-far g c =
     let links = c.args.graph.now.links in
-    let below = far_end_below c.args.direction links (length c.args.graph.now.nodes) (get_or c.links_at-number-items.result.now c.loop-number.number-index 0) c.link.result.now c.link.ensures.link c.link.ensures.graph.ends in
+    let below = far_end_below c.args.direction links (length c.args.graph.now.nodes) (get_or c.links_at-number-items.result.now c.loop-number.number-index 0) (seen_link c.link.result) c.link.ensures.link c.link.ensures.graph.ends in
     let count = c.requires.numbers in
-    let far = c.far_end-far.ensures in
+    let far = (far-seen c.args.direction c.link.result _ c.far_end-far.ensures) in
     omega arith
 
 pub index_mut-requires : goal.index_mut-requires
 index_mut-requires g c =
     let links = c.args.graph.now.links in
-    let below = far_end_below c.args.direction links (length c.args.graph.now.nodes) (get_or c.links_at-number-items.result.now c.loop-number.number-index 0) c.link.result.now c.link.ensures.link c.link.ensures.graph.ends in
+    let below = far_end_below c.args.direction links (length c.args.graph.now.nodes) (get_or c.links_at-number-items.result.now c.loop-number.number-index 0) (seen_link c.link.result) c.link.ensures.link c.link.ensures.graph.ends in
     let count = c.requires.numbers in
-    let far = c.far_end-far.ensures in
+    let far = (far-seen c.args.direction c.link.result _ c.far_end-far.ensures) in
     let number = c.requires.below c.far_end-far.result 0 (omega arith) in
     let size = c.loop-number.invariant.size in
     omega arith

@@ -2,22 +2,23 @@ use Rattle.std.proofs.Common.{◌≡◌, ◌+◌, ◌<◌, inl, inr, true, [], �
 use Rattle.std.proofs.Math.ListN.{length-set}
 use Rattle.std.proofs.lemmas.Bool.{false_from_ne_true}
 use Rattle.std.proofs.lemmas.List.{append-nil, take_all, take_more}
-use Rattle.guppy_search.specs.Links.{far_end}
+use Rattle.guppy_search.specs.Links.{far_end, seen_link}
 use Rattle.guppy_search.specs.IxSet.{has}
 use Rattle.guppy_search.proofs.Members.{member_count-lt-length}
+use Rattle.guppy_search.proofs.Between.{far-seen}
 use Rattle.guppy_search.proofs.Searching.{balance-added, far_end_below}
 use Rattle.guppy_search.proofs.Following.{Adds-none, Adds-known, Adds-new}
 use Rattle.guppy_search.proofs.dfs.buffered.follow_all.Goals as goal
 
 pub include-requires-clause-in_range : goal.include-requires-clause-in_range
 include-requires-clause-in_range g c =
-    rw (c.far_end-far_end.ensures, c.loop-number.invariant.size, c.requires.count) (far_end_below c.args.direction c.args.graph.now.links _ _ c.link.result.now c.link.ensures.link c.link.ensures.graph.ends)
+    rw ((far-seen c.args.direction c.link.result _ c.far_end-far_end.ensures), c.loop-number.invariant.size, c.requires.count) (far_end_below c.args.direction c.args.graph.now.links _ _ (seen_link c.link.result) c.link.ensures.link c.link.ensures.graph.ends)
 
 pub include-requires-clause-small : goal.include-requires-clause-small
 include-requires-clause-small g c =
     let few = c.link.ensures.graph.few_nodes in
-    let below = far_end_below c.args.direction c.args.graph.now.links _ _ c.link.result.now c.link.ensures.link c.link.ensures.graph.ends in
-    rw c.far_end-far_end.ensures (omega arith)
+    let below = far_end_below c.args.direction c.args.graph.now.links _ _ (seen_link c.link.result) c.link.ensures.link c.link.ensures.graph.ends in
+    rw (far-seen c.args.direction c.link.result _ c.far_end-far_end.ensures) (omega arith)
 
 pub include-requires-clause-room : goal.include-requires-clause-room
 include-requires-clause-room g c = λ new.
@@ -26,7 +27,7 @@ include-requires-clause-room g c = λ new.
     let capacity = s.capacity in
     let balance = s.balance in
     let room = c.requires.room in
-    let below : c.far_end-far_end.result < length c.loop-number.set = rw (c.far_end-far_end.ensures, s.size, c.requires.count) (far_end_below c.args.direction c.args.graph.now.links _ _ c.link.result.now c.link.ensures.link c.link.ensures.graph.ends) in
+    let below : c.far_end-far_end.result < length c.loop-number.set = rw ((far-seen c.args.direction c.link.result _ c.far_end-far_end.ensures), s.size, c.requires.count) (far_end_below c.args.direction c.args.graph.now.links _ _ (seen_link c.link.result) c.link.ensures.link c.link.ensures.graph.ends) in
     let lacks = member_count-lt-length c.loop-number.set c.far_end-far_end.result below (false_from_ne_true (has c.loop-number.set c.far_end-far_end.result) new) in
     omega (arith, c.loop-number.waiting.ok.0, c.args.waiting.now.ok.0)
 
@@ -38,10 +39,10 @@ loop-number-preserved g c =
     let s = c.loop-number.invariant in
     let items = c.deref-number-items.result.now in
     let n = get_or items c.loop-number.number-index 0 in
-    let link = c.link.result.now in
+    let link = seen_link c.link.result in
     let far = far_end c.args.direction link in
     let more : take (c.loop-number.number-index + 1) items ≡ take c.loop-number.number-index items ++ n ∷ [] = take_more items c.loop-number.number-index 0 c.loop-number-test.true in
-    let k = rw c.far_end-far_end.ensures at c.include.ensures.cases in
+    let k = rw (far-seen c.args.direction c.link.result _ c.far_end-far_end.ensures) at c.include.ensures.cases in
     elim k [
       | inl q ↦ record {
         size = rw q.1 s.size;

@@ -4,6 +4,7 @@ use Rattle.std.specs.Vec.Iter.{into_iter_items}
 use Rattle.std.proofs.lemmas.List.{length-map}
 use Rattle.std.proofs.lemmas.List.Elements.{All-rest}
 use Rattle.guppy_search.specs.declared.graph_core.link.Link.{Link}
+use Rattle.guppy_search.specs.Links.{seen_link}
 use Rattle.guppy_search.specs.Walked.{ends_at}
 use Rattle.guppy_search.specs.declared.ix.direction.DependencyDirection.TheVariants.{Forward, Reverse}
 use Rattle.guppy_search.proofs.Searching.{far_end_below}
@@ -18,7 +19,7 @@ pub returns-clause-steps : goal.returns-clause-steps
 returns-clause-steps g c =
     let links : List (Link g.row.G-Edge.Denot) = c.self.inside.graph.now.links in
     sym c.self.view_is ∙ (ap (map (ends_at links)) c.in_ok-number.ensures.items
-    ∙ rw (ends_at-found links c.in_ok-number.number c.link-link.result.now c.link-link.ensures.link, c.new.ensures, c.new-2.ensures))
+    ∙ rw (ends_at-found links c.in_ok-number.number (seen_link c.link-link.result) c.link-link.ensures.link, c.new.ensures, c.new-2.ensures))
 
 pub invariant_of-self : goal.invariant_of-self
 invariant_of-self g c = subst (λ l. All (λ n. n < length c.self.inside.graph.now.links) l) c.in_err-number.ensures.items c.self.invariant
@@ -28,13 +29,13 @@ link-link-requires g c = subst (λ l. All (λ n. n < length c.self.inside.graph.
 
 pub new-requires : goal.new-requires
 new-requires g c =
-    let below = far_end_below Reverse c.self.inside.graph.now.links (length c.self.inside.graph.now.nodes) c.in_ok-number.number c.link-link.result.now c.link-link.ensures.link c.link-link.ensures.graph.ends in
+    let below = far_end_below Reverse c.self.inside.graph.now.links (length c.self.inside.graph.now.nodes) c.in_ok-number.number (seen_link c.link-link.result) c.link-link.ensures.link c.link-link.ensures.graph.ends in
     let few = c.link-link.ensures.graph.few_nodes in
     omega arith
 
 pub new-requires-2 : goal.new-requires-2
 new-requires-2 g c =
-    let below = far_end_below Forward c.self.inside.graph.now.links (length c.self.inside.graph.now.nodes) c.in_ok-number.number c.link-link.result.now c.link-link.ensures.link c.link-link.ensures.graph.ends in
+    let below = far_end_below Forward c.self.inside.graph.now.links (length c.self.inside.graph.now.nodes) c.in_ok-number.number (seen_link c.link-link.result) c.link-link.ensures.link c.link-link.ensures.graph.ends in
     let few = c.link-link.ensures.graph.few_nodes in
     omega arith
 
