@@ -46,8 +46,8 @@ def layered(count):
 
 
 def dense(count):
-    """Ten links for each of the number, between so few packages that half of all pairs are linked."""
-    count = int((20 * count) ** 0.5)
+    """Five links for each of the number, between so few packages that half of all pairs are linked."""
+    count = int((10 * count) ** 0.5)
     return plain_ids(count), [(a, b, "normal") for a in range(count) for b in range(count) if a != b and (a ^ b) & 1]
 
 
