@@ -39,8 +39,8 @@ def layered(count):
     picks = random.Random(count)
     count //= 2
     ids = [f"registry+https://registry.example.invalid/index-of-crates#package-{i}@1.{i % 7}.0" for i in range(count)]
-    pairs = {(a, a + 1 + int(picks.expovariate(1 / 2000))) for a in range(count) for _ in range(4)}
-    links = [(a, b, "normal") for a, b in sorted(pairs) if b < count]
+    pairs = {(a, a + 1 + int(picks.expovariate(1 / 2000)) % (count - 1 - a)) for a in range(count - 1) for _ in range(4)}
+    links = [(a, b, "normal") for a, b in sorted(pairs)]
     back = {(picks.randrange(count // 2, count), picks.randrange(count // 2)) for _ in range(count // 50)}
     return ids, links + [(a, b, "dev") for a, b in sorted(back)]
 
