@@ -41,7 +41,7 @@ pub record Looked {E : Type 0} (d : DependencyDirection) (keep : E → Bool) (li
   pub kept : keep link.edge ≡ keeps
 
 module _ {E : Type 0} (d : DependencyDirection) (keep : E → Bool) (links : List (Link E)) where
-  step_at : (x k y : ℕ) → LinkTo d keep links x k y → Step d keep links x y
+  pub step_at : (x k y : ℕ) → LinkTo d keep links x k y → Step d keep links x y
   step_at x k y l =
       let at = row_links d links x k l.within in
       let same : at.link ≡ l.link = let f = at.found in let f' = l.found in cc in
@@ -66,8 +66,11 @@ module _ {E : Type 0} (d : DependencyDirection) (keep : E → Bool) (links : Lis
         let same : l.link ≡ t.link = let f = l.found in let f' = t.found in cc in
         sym t.far ∙ (ap (λ (z : Link E). far_end d z) (sym same) ∙ l.far)
 
-    pub looked_step : b ≡ true → Step d keep links x y
-    looked_step e = step_at x k y (record { within = l.within; link = l.link; found = l.found; far = l.far; kept = l.kept ∙ e })
+    pub looked_link : b ≡ true → LinkTo d keep links x k y
+    looked_link e = record { within = l.within; link = l.link; found = l.found; far = l.far; kept = l.kept ∙ e }
+
+    looked_step : b ≡ true → Step d keep links x y
+    looked_step e = step_at x k y (looked_link e)
 
 pub looked_from : {N E : Type 0} (d : DependencyDirection) (keep : E → Bool) (graph now : GraphValue N E) → now ≡ graph → (x k n y : ℕ) (e : E) (b : Bool) → k < degree d graph.links x → n ≡ get_or (links_at d now.links x) k 0 → (l : Link E) × (slice_get now.links n ≡ Some l) × (near_end d l ≡ x) × (far_end d l ≡ y) × (l.edge ≡ e) → b ≡ keep e → Looked d keep graph.links x k y b
 looked_from {N} {E} d keep graph now same x k n y e b within number l is = record {

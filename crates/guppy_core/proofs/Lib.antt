@@ -10,6 +10,7 @@ pub mod Listings
 pub mod Starting
 pub mod Included
 pub mod Lengths
+pub mod Gathering
 pub mod Entering
 pub mod Noting
 pub mod Indexing

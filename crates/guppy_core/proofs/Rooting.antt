@@ -2,9 +2,8 @@
 use Rattle.std.proofs.Common.{◌≡◌, ◌⊎◌, ◌↔◌, ℕ, ◌+◌, ◌<◌, ◌≤◌, Bool, true, false, not, ◌||◌, List, ◌∷◌, [], ◌++◌, length, map, get_or, replicate, refl, sym, ◌∙◌, subst, arith, inl, inr, ⊎_elim}
 use Rattle.std.specs.Prelude.{Result, Ok, Err, IfOk}
 use Rattle.std.specs.List.{range_with_len}
-use Rattle.std.proofs.Math.ListN.{set, length-set, length-replicate}
-use Rattle.std.proofs.lemmas.Bool.{cases_lt, cases_Bool, eqb-true, eq-eqb}
-use Rattle.std.proofs.lemmas.List.{get_or-set_same, get_or_default}
+use Rattle.std.proofs.lemmas.Bool.{cases_Bool, eqb-true, eq-eqb}
+use Rattle.std.proofs.lemmas.List.{get_or_default}
 use Rattle.std.proofs.lemmas.List.FromFn.{get_or-map-range_with_len}
 use Rattle.guppy_search.specs.declared.graph_core.link.Link.{Link}
 use Rattle.guppy_search.specs.declared.ix.direction.DependencyDirection.{DependencyDirection}
@@ -13,120 +12,55 @@ use Rattle.guppy_search.specs.IxSet.{has, IsIn}
 use Rattle.guppy_core.specs.Listing.{Stands, Ascends, IsAbsence}
 use Rattle.guppy_core.specs.Sccs.{AreNumbered, InOneBlock}
 use Rattle.guppy_core.specs.Roots.{EntersFrom, IsEntered, AreRoots, HasNumber}
-use Rattle.guppy_core.proofs.Inserted.{has-set_kept, has-set_cases}
-use Rattle.guppy_search.proofs.Members.{has-replicate, IsIn-below}
+use Rattle.guppy_search.proofs.Members.{IsIn-below}
 use Rattle.guppy_core.proofs.Listings.{absence_skipped, absence_more}
 use Rattle.guppy_core.proofs.Costs.{degree}
-use Rattle.guppy_core.proofs.Finishing.{LinkTo, Looked, step_place, looked_step, looked_only}
+use Rattle.guppy_core.proofs.Finishing.{LinkTo, Looked, step_at, step_place, looked_link, looked_only}
+use Rattle.guppy_core.proofs.Gathering.{Gathered, IsNamed, gathered_whole}
 use Rattle.guppy_core.proofs.Blocks.{same_block}
 
--- the table, with the numbers that the first i links of the position enter
-pub record MarkingFrom {E : Type 0} (d : DependencyDirection) (links : List (Link E)) (numbers : List ℕ) (members : List Bool) (near : ℕ) (old : List Bool) (i : ℕ) (table : List Bool) : Type 0 where
-  pub size : length table ≡ length old
-  pub grows : (c : ℕ) → IsIn old c → IsIn table c
-  pub sound : (c : ℕ) → IsIn table c → IsIn old c ⊎ EntersFrom (LinkStep d links) (HasNumber numbers) members near c
-  pub complete : (k far : ℕ) → k < i → LinkTo d (λ _. true) links near k far → IsIn members far → (get_or numbers far 0 ≡ get_or numbers near 0 → ⊥) → IsIn table (get_or numbers far 0)
+-- what place k of the links that leave x names: the number that one enters
+abbrev pub EntersFromAt : {E : Type 0} → DependencyDirection → List (Link E) → List ℕ → List Bool → ℕ → ℕ → ℕ → Type 0
+EntersFromAt d links numbers members x k = EntersFrom (λ a. LinkTo d (λ _. true) links a k) (HasNumber numbers) members x
 
-module _ {E : Type 0} (d : DependencyDirection) (links : List (Link E)) (numbers : List ℕ) (members : List Bool) (near : ℕ) (old : List Bool) where
-  -- no link was taken
-  pub from_none : MarkingFrom d links numbers members near old 0 old
-  from_none = record {
-    size = refl;
-    grows = λ c h. h;
-    sound = λ c h. inl h;
-    complete = λ k far l t m apart. absurd (omega arith);
-  }
+module _ {E : Type 0} (d : DependencyDirection) (links : List (Link E)) (numbers : List ℕ) (members : List Bool) (x : ℕ) where
+  module _ (k far : ℕ) (l : Looked d (λ _. true) links x k far true) where
+    pub enters_one : IsIn members far → (get_or numbers far 0 ≡ get_or numbers x 0 → ⊥) → (c : ℕ) → EntersFromAt d links numbers members x k c ↔ (c ≡ get_or numbers far 0)
+    enters_one inside apart c = (
+      λ t. subst (λ z. c ≡ get_or numbers z 0) (looked_only d (λ _. true) links x k far true l t.0 t.1) (sym t.3),
+      λ e. (far, looked_link d (λ _. true) links x k far true l refl, inside, sym e, λ own. apart (sym e ∙ sym own)),
+    )
 
-  module _ (i : ℕ) (table : List Bool) (m : MarkingFrom d links numbers members near old i table) (far : ℕ) (l : Looked d (λ _. true) links near i far true) where
-    -- the next link leads out of the set, or to the same number
-    pub from_skipped : (IsIn members far → get_or numbers far 0 ≡ get_or numbers near 0) → MarkingFrom d links numbers members near old (i + 1) table
-    from_skipped none = record {
-      size = m.size;
-      grows = m.grows;
-      sound = m.sound;
-      complete = λ k y low t inside apart. ⊎_elim
-          (λ less. m.complete k y less t inside apart)
-          (λ ge.
-          let e : k ≡ i = omega arith in
-          let same : y ≡ far = looked_only d (λ _. true) links near i far true l y (subst (λ z. LinkTo d (λ _. true) links near z y) e t) in
-          absurd (apart (subst (λ z. get_or numbers z 0 ≡ get_or numbers near 0) (sym same) (none (subst (IsIn members) same inside)))))
-          (cases_lt k i);
-    }
+    -- it leads out of the set, or to the same number
+    pub enters_none : (IsIn members far → get_or numbers far 0 ≡ get_or numbers x 0) → (c : ℕ) → EntersFromAt d links numbers members x k c → ⊥
+    enters_none same c t =
+        let is = looked_only d (λ _. true) links x k far true l t.0 t.1 in
+        t.4 (sym (same (subst (IsIn members) is t.2)) ∙ subst (λ z. get_or numbers z 0 ≡ c) is t.3)
 
-    -- the next link enters another number of the set
-    pub from_more : IsIn members far → (get_or numbers far 0 ≡ get_or numbers near 0 → ⊥) → get_or numbers far 0 < length table → MarkingFrom d links numbers members near old (i + 1) (set table (get_or numbers far 0) true)
-    from_more inside apart below = record {
-      size = length-set table (get_or numbers far 0) true ∙ m.size;
-      grows = λ c h. has-set_kept table (get_or numbers far 0) c (m.grows c h);
-      sound = λ c h. ⊎_elim
-          (λ e. inr (far, looked_step d (λ _. true) links near i far true l refl, inside, sym e, λ own. apart (sym e ∙ sym own)))
-          (λ o. m.sound c o)
-          (has-set_cases table (get_or numbers far 0) c h);
-      complete = λ k y low t inside' apart'. ⊎_elim
-          (λ less. has-set_kept table (get_or numbers far 0) (get_or numbers y 0) (m.complete k y less t inside' apart'))
-          (λ ge.
-          let e : k ≡ i = omega arith in
-          let same : y ≡ far = looked_only d (λ _. true) links near i far true l y (subst (λ z. LinkTo d (λ _. true) links near z y) e t) in
-          subst (λ z. IsIn (set table (get_or numbers far 0) true) (get_or numbers z 0)) (sym same) (get_or-set_same table (get_or numbers far 0) true false below))
-          (cases_lt k i);
-    }
-
-  -- all its links were taken
-  pub from_all : (i : ℕ) (table : List Bool) → MarkingFrom d links numbers members near old i table → degree d links near ≤ i → (c : ℕ) → IsIn table c ↔ (IsIn old c ⊎ EntersFrom (LinkStep d links) (HasNumber numbers) members near c)
-  from_all i table m all c = (
-    m.sound c,
-    λ o. ⊎_elim
-        (m.grows c)
-        (λ t.
-        let at = step_place d (λ _. true) links near t.0 t.1 in
-        subst (IsIn table) t.3 (m.complete at.0 t.0 (let l = at.1 in omega arith) at.2 t.2 (λ e. t.4 (sym e ∙ t.3))))
-        o,
+  -- all places together name the numbers that links enter
+  pub enters_all : (i : ℕ) → degree d links x ≤ i → (c : ℕ) → EntersFrom (LinkStep d links) (HasNumber numbers) members x c ↔ IsNamed (EntersFromAt d links numbers members x) i c
+  enters_all i all c = (
+    λ t. let at = step_place d (λ _. true) links x t.0 t.1 in (at.0, (let l = at.1 in omega arith), (t.0, at.2, t.2, t.3, t.4)),
+    λ t. let e = t.2 in (e.0, step_at d (λ _. true) links x t.0 e.0 e.1, e.2, e.3, e.4),
   )
 
--- the table of the numbers that links from positions of the set below i enter
-pub record Marking (Step Same : ℕ → ℕ → Type 0) (members : List Bool) (count i : ℕ) (table : List Bool) : Type 0 where
-  pub size : length table ≡ count
-  pub sound : (c : ℕ) → IsIn table c → IsEntered Step Same members c
-  pub complete : (near c : ℕ) → near < i → IsIn members near → EntersFrom Step Same members near c → IsIn table c
+-- what a position names: the numbers that links from it enter, where it is in the set
+abbrev pub EntersInside : (ℕ → ℕ → Type 0) → (ℕ → ℕ → Type 0) → List Bool → ℕ → ℕ → Type 0
+EntersInside Step Same members x c = IsIn members x × EntersFrom Step Same members x c
 
-module _ (Step Same : ℕ → ℕ → Type 0) (members : List Bool) (count : ℕ) where
-  -- no position was taken
-  pub marking_none : Marking Step Same members count 0 (replicate count false)
-  marking_none = record {
-    size = length-replicate count false;
-    sound = λ c h. absurd (let f = has-replicate count c in cc);
-    complete = λ near c l inside t. absurd (omega arith);
-  }
+module _ (Step Same : ℕ → ℕ → Type 0) (members : List Bool) (i : ℕ) (table : List Bool) where
+  -- of a position of the set
+  pub inside_also : (table' : List Bool) → IsIn members i → ((c : ℕ) → IsIn table' c ↔ (IsIn table c ⊎ EntersFrom Step Same members i c)) → (c : ℕ) → IsIn table' c ↔ (IsIn table c ⊎ EntersInside Step Same members i c)
+  inside_also table' inside adds c = (
+    λ h. ⊎_elim inl (λ t. inr (inside, t)) ((adds c).0 h),
+    λ o. (adds c).1 (⊎_elim inl (λ t. inr t.1) o),
+  )
 
-  module _ (i : ℕ) (table : List Bool) (m : Marking Step Same members count i table) where
-    -- the next position is not in the set
-    pub marking_skipped : has members i ≡ false → Marking Step Same members count (i + 1) table
-    marking_skipped lacks = record {
-      size = m.size;
-      sound = m.sound;
-      complete = λ near c l inside t. ⊎_elim
-          (λ less. m.complete near c less inside t)
-          (λ ge. absurd (let e : near ≡ i = omega arith in let f = subst (IsIn members) e inside in cc))
-          (cases_lt near i);
-    }
-
-    -- the next position is in the set, and the links from it were taken
-    pub marking_more : (table' : List Bool) → IsIn members i → length table' ≡ length table → ((c : ℕ) → IsIn table' c ↔ (IsIn table c ⊎ EntersFrom Step Same members i c)) → Marking Step Same members count (i + 1) table'
-    marking_more table' inside e adds = record {
-      size = e ∙ m.size;
-      sound = λ c h. ⊎_elim (m.sound c) (λ t. (i, inside, t)) ((adds c).0 h);
-      complete = λ near c l inside' t. ⊎_elim
-          (λ less. (adds c).1 (inl (m.complete near c less inside' t)))
-          (λ ge. let e : near ≡ i = omega arith in (adds c).1 (inr (subst (λ z. EntersFrom Step Same members z c) e t)))
-          (cases_lt near i);
-    }
-
-    -- all positions were taken
-    pub marking_all : length members ≤ i → (c : ℕ) → IsIn table c ↔ IsEntered Step Same members c
-    marking_all all c = (
-      m.sound c,
-      λ t. m.complete t.0 c (let l = IsIn-below members t.0 t.1 in omega arith) t.1 t.2,
-    )
+  -- all positions were taken
+  pub entered_all : (n : ℕ) → Gathered (EntersInside Step Same members) (replicate n false) i table → length members ≤ i → (c : ℕ) → IsIn table c ↔ IsEntered Step Same members c
+  entered_all n m all c =
+      let both = gathered_whole (EntersInside Step Same members) n i table m (λ x c' t. let l = IsIn-below members x t.0 in omega arith) c in
+      (λ h. let t = both.0 h in (t.0, t.1.0, t.1.1), λ t. both.1 (t.0, (t.1, t.2)))
 
 -- the positions of the set whose number is not marked
 

@@ -60,8 +60,8 @@ pub struct IoSource<R: Read> {
 impl<R: Read> IoSource<R> {
     /// The source that reads from `reader`, and has not failed.
     pub fn new(reader: R) -> Self
-        ensures reader { result.reader ≡ reader }
-        ensures works { result.failed ≡ false }
+        ensures left { ⟦<IoSource<R> as Source>⟧.left result ≡ R.remaining reader }
+        ensures works { ⟦<IoSource<R> as Source>⟧.has_failed result ≡ false }
     {
         IoSource {
             reader,
@@ -101,8 +101,8 @@ pub struct IoSink<W: Write> {
 impl<W: Write> IoSink<W> {
     /// The sink that writes to `writer`, and has not failed.
     pub fn new(writer: W) -> Self
-        ensures writer { result.writer ≡ writer }
-        ensures works { result.failed ≡ false }
+        ensures written { ⟦<IoSink<W> as Sink>⟧.written result ≡ W.contents writer }
+        ensures works { ⟦<IoSink<W> as Sink>⟧.has_failed result ≡ false }
     {
         IoSink {
             writer,

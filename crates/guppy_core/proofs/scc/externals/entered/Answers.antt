@@ -1,14 +1,16 @@
-use Rattle.std.proofs.Common.{◌≤◌, length, sym, ◌∙◌, arith}
+use Rattle.std.proofs.Common.{◌≤◌, false, length, replicate, sym, ◌∙◌, arith}
+use Rattle.std.proofs.Math.ListN.{length-replicate}
 use Rattle.guppy_search.specs.Reach.{LinkStep}
 use Rattle.guppy_core.specs.Roots.{HasNumber}
-use Rattle.guppy_core.proofs.Rooting.{marking_none, marking_skipped, marking_more, marking_all}
+use Rattle.guppy_core.proofs.Gathering.{gathered_none, gathered_skipped, gathered_more}
+use Rattle.guppy_core.proofs.Rooting.{inside_also, entered_all}
 use Rattle.guppy_core.proofs.scc.externals.entered.Goals.{then-has_position, else-has_position}
 use Rattle.guppy_core.proofs.scc.externals.entered.Goals as goal
 
 pub loop-position-init : goal.loop-position-init
 loop-position-init g c =
     let clear = c.in_ok-entered.ensures.items_if_clones_equal (λ y h. h) in
-    rw clear (marking_none (LinkStep {E = g.row.G-Edge.Denot} c.args.direction c.args.graph.now.links) (HasNumber c.args.numbers.now) c.args.set.now c.args.count)
+    rw clear (gathered_none _ (replicate c.args.count false))
 
 pub loop-position-preserved : goal.loop-position-preserved
 loop-position-preserved g c =
@@ -18,11 +20,16 @@ loop-position-preserved g c =
     let table = c.loop-position.entered.items in
     let value = c.has_position.ensures.value in
     elim c.if-has_position.branch [
-      | then-has_position w ↦ rw w.entered-is (marking_more Step Same c.args.set.now c.args.count i table c.loop-position.invariant w.mark_entered_from.new.entered.items (sym value ∙ w.if-has_position.true) w.mark_entered_from.ensures.count w.mark_entered_from.ensures.marked)
-      | else-has_position w ↦ rw w.entered-is (marking_skipped Step Same c.args.set.now c.args.count i table c.loop-position.invariant (sym value ∙ w.if-has_position.false))
+      | then-has_position w ↦
+          let table' = w.mark_entered_from.new.entered.items in
+          rw w.entered-is (gathered_more i table c.loop-position.invariant table' w.mark_entered_from.ensures.count (inside_also Step Same c.args.set.now i table table' (sym value ∙ w.if-has_position.true) w.mark_entered_from.ensures.marked))
+      | else-has_position w ↦ rw w.entered-is (gathered_skipped i table c.loop-position.invariant (λ p t. let no = sym value ∙ w.if-has_position.false in let inside = t.0 in absurd (cc)))
     ]
+
+pub returns-clause-count : goal.returns-clause-count
+returns-clause-count g c = c.loop-position.invariant.size ∙ length-replicate c.args.count false
 
 pub returns-clause-marked : goal.returns-clause-marked
 returns-clause-marked g c =
     let all : length c.args.set.now ≤ c.loop-position.position = let test = c.loop-position-test.false in let count = c.node_count-position-end.ensures in omega arith in
-    marking_all (LinkStep {E = g.row.G-Edge.Denot} c.args.direction c.args.graph.now.links) (HasNumber c.args.numbers.now) c.args.set.now c.args.count c.loop-position.position c.loop-position.entered.items c.loop-position.invariant all
+    entered_all (LinkStep {E = g.row.G-Edge.Denot} c.args.direction c.args.graph.now.links) (HasNumber c.args.numbers.now) c.args.set.now c.loop-position.position c.loop-position.entered.items c.args.count c.loop-position.invariant all

@@ -1,5 +1,6 @@
-use Rattle.guppy_core.proofs.Rooting.{MarkingFrom}
+use Rattle.guppy_core.proofs.Gathering.{Gathered}
+use Rattle.guppy_core.proofs.Rooting.{EntersFromAt}
 use Rattle.guppy_core.proofs.scc.externals.mark_entered_from.Given as goal
 
 abbrev pub invariant-loop-number : goal.invariant-loop-number
-invariant-loop-number g l = MarkingFrom l.direction l.graph.links l.numbers l.set l.position l.fn.entered.items l.number-index l.entered.items
+invariant-loop-number g l = Gathered (EntersFromAt l.direction l.graph.links l.numbers l.set l.position) l.fn.entered.items l.number-index l.entered.items
