@@ -1,5 +1,5 @@
 //! A source and a sink in memory, and a reader and a writer of std, which fail when they are told to.
-ghost use Rattle.std.specs.Prelude.{◌≡◌, false, Some};
+ghost use Rattle.std.specs.Prelude.{◌≡◌, false, [], Some};
 
 use guppy_input::device::{DeviceFault, Sink, Source};
 use std::alloc::Global;
@@ -17,7 +17,8 @@ pub struct Feed<'a> {
 impl<'a> Feed<'a> {
     /// The source of these bytes, of which so many reads succeed.
     pub fn new(bytes: &'a [u8], piece: usize, reads: usize) -> Self
-        ensures works { result.failed ≡ false }
+        ensures left { ⟦<Feed<'a> as Source>⟧.left result ≡ Some bytes.now }
+        ensures works { ⟦<Feed<'a> as Source>⟧.has_failed result ≡ false }
     {
         Feed {
             bytes,
@@ -63,7 +64,8 @@ pub struct Paper {
 impl Paper {
     /// An empty sink, of which so many writes succeed.
     pub fn new(alloc: Global, piece: usize, writes: usize) -> Self
-        ensures works { result.failed ≡ false }
+        ensures written { ⟦<Paper as Sink>⟧.written result ≡ Some [] }
+        ensures works { ⟦<Paper as Sink>⟧.has_failed result ≡ false }
     {
         Paper {
             bytes: Vec::new(alloc),
@@ -75,7 +77,7 @@ impl Paper {
 
     /// What was written.
     pub fn bytes(&self) -> &[u8]
-        ensures { result.now ≡ self.now.bytes.items }
+        ensures { ⟦<Paper as Sink>⟧.written self.now ≡ Some result.now }
     {
         self.bytes.as_slice()
     }
