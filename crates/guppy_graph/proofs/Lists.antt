@@ -2,7 +2,7 @@
 use Rattle.std.proofs.Common.{◌≡◌, ◌∙◌, sym, refl, ap, subst, arith, ℕ, zero, suc, ◌<◌, ◌+◌, List, [], ◌∷◌, ◌++◌, get_or, length, map, take, All, Option, Some, None, slice_get, true, false}
 use Rattle.std.specs.Prelude.{MatchOption, IsSomeAnd, is_some}
 use Rattle.std.specs.List.{AllZip, Contains}
-use Rattle.std.proofs.lemmas.List.{take_more}
+use Rattle.std.proofs.lemmas.List.{take_more, map_push}
 use Rattle.std.proofs.lemmas.Option.{slice_get_within, get_or_from_slice_get}
 use Rattle.std.proofs.lemmas.List.Elements.{All-push}
 use Rattle.guppy_graph.specs.First.{IsFirstWithout}
@@ -98,3 +98,9 @@ in_some o P x is h = rw is at h
 -- where one item lacks it, not all have it
 pub not_all : {A : Type 0} (P : A → Type 0) (items : List A) (k : ℕ) → IsFirstWithout P items k → All P items → ⊥
 not_all P items k first all = first.lacks (All-slice_get P items k first.item all first.found)
+
+-- lists with the same images, and one more of each
+pub map-take_more : {A B C : Type 0} (f : A → C) (g : B → C) (xs : List A) (ys : List B) (k : ℕ) (x : A) (y : B) → k < length ys → get_or ys k y ≡ y → map f xs ≡ map g (take k ys) → f x ≡ g y → map f (xs ++ x ∷ []) ≡ map g (take (k + 1) ys)
+map-take_more f g xs ys k x y within at same is =
+    let more : take (k + 1) ys ≡ take k ys ++ y ∷ [] = take_more ys k y within ∙ ap (λ e. take k ys ++ e ∷ []) at in
+    rw (more, map_push f xs x, map_push g (take k ys) y, same, is) refl

@@ -1,5 +1,5 @@
 //! The parts of a package graph, made of records.
-ghost use Rattle.std.specs.Prelude.{◌≡◌, ℕ, ◌<◌, List, IfOk, IfErr, OnOk, MatchOption, IsTrue, All, length, ◌↔◌};
+ghost use Rattle.std.specs.Prelude.{◌≡◌, ℕ, ◌<◌, ◌≤◌, List, IfOk, IfErr, OnOk, MatchOption, IsTrue, All, length, ◌↔◌};
 ghost use Rattle.guppy_data.specs.declared.records.LinkRecord.{LinkRecord};
 ghost use Rattle.guppy_graph.specs.First.{IsFirstWithout};
 ghost use Rattle.guppy_graph.specs.Keys.{NoneBelow, DifferBelow, IsFirstRepeat};
@@ -15,7 +15,7 @@ use crate::hints::Hints;
 use crate::keyed::{first_repeat, index_from, index_of};
 use crate::keys::{
     Ids, Names, Paths, TargetIds, first_repeated_id, first_repeated_name, first_repeated_target,
-    position_of_id,
+    id_texts, position_of_id,
 };
 use guppy_core::Link;
 use guppy_data::{
@@ -24,7 +24,7 @@ use guppy_data::{
 };
 use std::alloc::{AllocError, Global};
 
-pub(crate) const LIMIT: usize = 4_294_967_295;
+const LIMIT: usize = 4_294_967_295;
 
 /// Positions in the order of what they are looked up by.
 #[derive(Drop)]
@@ -49,7 +49,8 @@ impl Indexes {
         ensures { MatchOption result (NoneBelow (HasId packages.now) id.now (length packages.now))
             (HasId packages.now id.now) }
     {
-        self.hints.find(packages, self.by_id.as_slice(), id)
+        self.hints
+            .find(&Ids::new(packages), self.by_id.as_slice(), id)
     }
 }
 
@@ -119,17 +120,13 @@ fn first_with_unnamed_target(packages: &[PackageRecord]) -> Option<(usize, usize
 }
 
 // The first default member that is no package.
-fn first_unknown_member(
-    packages: &[PackageRecord],
-    by_id: &[usize],
-    members: &[PackageId],
-) -> Option<usize>
-    requires { IsIdIndex packages.now by_id.now }
-    ensures { MatchOption result (All (IsKnown packages.now) members.now)
-        (IsFirstWithout (IsKnown packages.now) members.now) }
+fn first_unknown_member(ids: &Ids<'_>, by_id: &[usize], members: &[PackageId]) -> Option<usize>
+    requires { IsIdIndex ids.now.packages.now by_id.now }
+    ensures { MatchOption result (All (IsKnown ids.now.packages.now) members.now)
+        (IsFirstWithout (IsKnown ids.now.packages.now) members.now) }
 {
     for (index, id) in members.iter().enumerate() {
-        if position_of_id(packages, by_id, id).is_none() {
+        if position_of_id(ids, by_id, id).is_none() {
             return Some(index);
         }
     }
@@ -137,14 +134,16 @@ fn first_unknown_member(
 }
 
 // The packages by ID, where no two have one ID.
-fn index_by_id(alloc: Global, packages: &[PackageRecord]) -> Result<Vec<usize>, Error>
-    ensures made { IfOk result (λ index. IsIdIndex packages.now index.items) }
-    ensures accepted { OnOk result (DifferBelow (HasId packages.now) (length packages.now)) }
+fn index_by_id(alloc: Global, ids: &Ids<'_>) -> Result<Vec<usize>, Error>
+    ensures made { IfOk result (λ index. IsIdIndex ids.now.packages.now index.items) }
+    ensures accepted { OnOk result (DifferBelow (HasId ids.now.packages.now)
+        (length ids.now.packages.now)) }
     ensures refused { IfErr result (TellsFault (λ fault. (p : ℕ)
-        × (fault ≡ ConstructFault.RepeatedPackageId p) × IsFirstRepeat (HasId packages.now) p)) }
+        × (fault ≡ ConstructFault.RepeatedPackageId p)
+        × IsFirstRepeat (HasId ids.now.packages.now) p)) }
 {
-    let by_id = index_of(alloc, &Ids(packages))?;
-    if let Some(package) = first_repeated_id(packages, by_id.as_slice()) {
+    let by_id = index_of(alloc, ids)?;
+    if let Some(package) = first_repeated_id(ids, by_id.as_slice()) {
         return Err(ConstructFault::RepeatedPackageId { package }.into());
     }
     Ok(by_id)
@@ -219,45 +218,36 @@ fn index_by_name(
 }
 
 // Checks that each default member is a package.
-fn check_members(
-    packages: &[PackageRecord],
-    by_id: &[usize],
-    members: &[PackageId],
-) -> Result<(), Error>
-    requires { IsIdIndex packages.now by_id.now }
-    ensures accepted { OnOk result (All (IsKnown packages.now) members.now) }
+fn check_members(ids: &Ids<'_>, by_id: &[usize], members: &[PackageId]) -> Result<(), Error>
+    requires { IsIdIndex ids.now.packages.now by_id.now }
+    ensures accepted { OnOk result (All (IsKnown ids.now.packages.now) members.now) }
     ensures refused { IfErr result (TellsFault (λ fault. (i : ℕ)
         × (fault ≡ ConstructFault.UnknownDefaultMember i)
-        × IsFirstWithout (IsKnown packages.now) members.now i)) }
+        × IsFirstWithout (IsKnown ids.now.packages.now) members.now i)) }
 {
-    if let Some(index) = first_unknown_member(packages, by_id, members) {
+    if let Some(index) = first_unknown_member(ids, by_id, members) {
         return Err(ConstructFault::UnknownDefaultMember { index }.into());
     }
     Ok(())
 }
 
-/// The indexes of packages that break no rule. Otherwise the first broken rule is told.
-pub(crate) fn indexes_of(
-    alloc: Global,
-    packages: &[PackageRecord],
-    workspace: &WorkspaceRecord,
-) -> Result<Indexes, Error>
-    ensures made { IfOk result (AreIndexes packages.now) }
-    ensures accepted { OnOk result (ArePackagesAccepted packages.now workspace.now) }
+// The indexes of packages, not too many, that break no rule. Otherwise the first broken rule is told.
+fn indexes_of(alloc: Global, ids: &Ids<'_>, workspace: &WorkspaceRecord) -> Result<Indexes, Error>
+    requires { length ids.now.packages.now ≤ 4294967295 }
+    ensures made { IfOk result (AreIndexes ids.now.packages.now) }
+    ensures accepted { OnOk result (ArePackagesAccepted ids.now.packages.now workspace.now) }
     ensures refused { IfErr result
-        (λ e. (links : List LinkRecord) → IsRefusal packages.now links workspace.now e) }
+        (λ e. (links : List LinkRecord) → IsRefusal ids.now.packages.now links workspace.now e) }
 {
-    if packages.len() > LIMIT {
-        return Err(ConstructFault::TooManyPackages.into());
-    }
-    let by_id = index_by_id(alloc, packages)?;
+    let packages = ids.packages;
+    let by_id = index_by_id(alloc, ids)?;
     let by_target = indexes_by_target(alloc, packages)?;
     check_target_names(packages)?;
     let by_path = index_by_path(alloc, packages, by_id.as_slice())?;
     let by_name = index_by_name(alloc, packages, by_id.as_slice())?;
     let members = workspace.default_members.as_slice();
-    check_members(packages, by_id.as_slice(), members)?;
-    let hints = Hints::new(alloc, packages)?;
+    check_members(ids, by_id.as_slice(), members)?;
+    let hints = Hints::new(alloc, ids)?;
     Ok(Indexes {
         by_id,
         by_path,
@@ -267,25 +257,26 @@ pub(crate) fn indexes_of(
     })
 }
 
-/// The positions of the ends of the records.
-pub(crate) fn ends_of(
+// The positions of the ends of the records.
+fn ends_of(
     alloc: Global,
-    packages: &[PackageRecord],
+    ids: &Ids<'_>,
     indexes: &Indexes,
     records: &[LinkRecord],
 ) -> Result<Vec<Link<()>>, Error>
-    requires { IsIdIndex packages.now indexes.now.by_id.items }
-    ensures ok { IfOk result (λ ends. AreEndsOf packages.now records.now ends.items) }
+    requires { IsIdIndex ids.now.packages.now indexes.now.by_id.items }
+    ensures ok { IfOk result (λ ends. AreEndsOf ids.now.packages.now records.now ends.items) }
     ensures err { IfErr result (TellsFault (λ fault. (link : ℕ)
         × (fault ≡ ConstructFault.UnknownLinkEnd link)
-        × IsFirstWithout (AreEndsKnown packages.now) records.now link)) }
+        × IsFirstWithout (AreEndsKnown ids.now.packages.now) records.now link)) }
 {
     let mut ends = Vec::with_capacity(alloc, records.len())?;
+    let by_id = indexes.by_id.as_slice();
     for (number, entry) in records.iter().enumerate() {
-        let Some(from) = indexes.position_of_id(packages, &entry.from) else {
+        let Some(from) = indexes.hints.find(ids, by_id, &entry.from) else {
             return Err(unknown_end(number));
         };
-        let Some(to) = indexes.position_of_id(packages, &entry.to) else {
+        let Some(to) = indexes.hints.find(ids, by_id, &entry.to) else {
             return Err(unknown_end(number));
         };
         ends.push(Link { from, to, edge: () })?;
@@ -297,4 +288,31 @@ fn unknown_end(link: usize) -> Error
     ensures { result ≡ Error.PackageGraphConstructError (ConstructFault.UnknownLinkEnd link) }
 {
     Error::PackageGraphConstructError(ConstructFault::UnknownLinkEnd { link })
+}
+
+/// The indexes of the packages, and the positions of the ends of the links, where the records break no rule
+/// but perhaps the last. Otherwise the first broken rule is told.
+pub(crate) fn indexes_and_ends(
+    alloc: Global,
+    packages: &[PackageRecord],
+    links: &[LinkRecord],
+    workspace: &WorkspaceRecord,
+) -> Result<(Indexes, Vec<Link<()>>), Error>
+    ensures indexes { IfOk result (λ made. AreIndexes packages.now made.0) }
+    ensures ends { IfOk result (λ made. AreEndsOf packages.now links.now made.1.items) }
+    ensures accepted { OnOk result (ArePackagesAccepted packages.now workspace.now) }
+    ensures few_links { OnOk result (length links.now ≤ 4294967295) }
+    ensures refused { IfErr result (IsRefusal packages.now links.now workspace.now) }
+{
+    if packages.len() > LIMIT {
+        return Err(ConstructFault::TooManyPackages.into());
+    }
+    let texts = id_texts(alloc, packages)?;
+    let ids = Ids::listed(packages, texts.as_slice());
+    let indexes = indexes_of(alloc, &ids, workspace)?;
+    if links.len() > LIMIT {
+        return Err(ConstructFault::TooManyLinks.into());
+    }
+    let ends = ends_of(alloc, &ids, &indexes, links)?;
+    Ok((indexes, ends))
 }

@@ -3,7 +3,7 @@ ghost use Rattle.guppy_graph.specs.Accepted.{IsAccepted};
 ghost use Rattle.guppy_graph.specs.Refused.{IsRefusal, error_of};
 ghost use Rattle.guppy_graph.specs.Parts.{AreParts};
 
-use crate::build::{Indexes, LIMIT, ends_of, indexes_of};
+use crate::build::{Indexes, indexes_and_ends};
 use crate::keys::{position_of_name, position_of_path};
 use crate::order::{Order, order_of};
 use guppy_core::{
@@ -93,11 +93,12 @@ fn parts_of(
     ensures refused { IfErr result (IsRefusal packages.items links.items workspace.now) }
 {
     let alloc = *packages.allocator();
-    let indexes = indexes_of(alloc, packages.as_slice(), workspace)?;
-    if links.len() > LIMIT {
-        return Err(ConstructFault::TooManyLinks.into());
-    }
-    let ends = ends_of(alloc, packages.as_slice(), &indexes, links.as_slice())?;
+    let (indexes, ends) = indexes_and_ends(
+        alloc,
+        packages.as_slice(),
+        links.as_slice(),
+        workspace,
+    )?;
     match Graph::from_ends(packages, links, ends) {
         Ok(graph) => Ok((graph, indexes)),
         Err(fault) => Err(construct_error(fault)),

@@ -1,8 +1,8 @@
 //! Hints at where the package with an ID is.
 ghost use Rattle.std.specs.Prelude.{◌<◌, length};
 
-use crate::keys::position_of_id;
-use guppy_data::{PackageId, PackageRecord};
+use crate::keys::{Ids, position_of_id};
+use guppy_data::PackageId;
 use std::alloc::{AllocError, Global};
 
 // How many places of the table are looked at for one ID.
@@ -45,27 +45,28 @@ impl Hints {
     ghost use Rattle.guppy_graph.specs.Indexes.{IsIdIndex};
 
     /// Hints for all packages but those whose places are taken.
-    pub(crate) fn new(alloc: Global, packages: &[PackageRecord]) -> Result<Hints, AllocError>
-        requires { length packages.now ≤ 4294967295 }
+    pub(crate) fn new(alloc: Global, ids: &Ids<'_>) -> Result<Hints, AllocError>
+        requires { length ids.now.packages.now ≤ 4294967295 }
     {
+        let count = ids.packages.len();
         let mut hints = Hints {
-            table: vec![in alloc; NO_HINT; 2 * packages.len() + TRIES + 1]?,
+            table: vec![in alloc; NO_HINT; 2 * count + TRIES + 1]?,
         };
-        for (position, record) in packages.iter().enumerate() {
-            hints.put(&record.id, position as u32);
+        for position in 0..count {
+            hints.put(ids.text_at(position), position as u32);
         }
         Ok(hints)
     }
 
     // The first of the places for the ID.
-    fn first_place(&self, id: &PackageId) -> usize
+    fn first_place(&self, id: &str) -> usize
         ensures { result + 8 < length self.now.table.items }
     {
-        hash_of(id.repr()) % (self.table.len() - TRIES)
+        hash_of(id) % (self.table.len() - TRIES)
     }
 
     // Puts the position at the first of the places for the ID that is free.
-    fn put(&mut self, id: &PackageId, position: u32) {
+    fn put(&mut self, id: &str, position: u32) {
         let first = self.first_place(id);
         for place in first..first + TRIES {
             if self.table[place] == NO_HINT {
@@ -76,15 +77,14 @@ impl Hints {
     }
 
     // The package with the ID, if there is a hint at it.
-    fn hinted(&self, packages: &[PackageRecord], id: &PackageId) -> Option<usize>
-        ensures { IfSome result (HasId packages.now id.now) }
+    fn hinted(&self, ids: &Ids<'_>, id: &str) -> Option<usize>
+        ensures { IfSome result (HasId ids.now.packages.now id.now) }
     {
         let first = self.first_place(id);
         for place in first..first + TRIES {
             let position = self.table[place] as usize;
-            match packages.get(position) {
-                Some(record) if record.id == *id => return Some(position),
-                _ => {}
+            if ids.has_id(position, id) {
+                return Some(position);
             }
         }
         None
@@ -92,19 +92,15 @@ impl Hints {
 
     /// A package with the ID. Takes at most eight comparisons, and where no hint holds a logarithm of the
     /// packages more.
-    pub(crate) fn find(
-        &self,
-        packages: &[PackageRecord],
-        by_id: &[usize],
-        id: &PackageId,
-    ) -> Option<usize>
-        requires { IsIdIndex packages.now by_id.now }
-        ensures { MatchOption result (NoneBelow (HasId packages.now) id.now (length packages.now))
-            (HasId packages.now id.now) }
+    pub(crate) fn find(&self, ids: &Ids<'_>, by_id: &[usize], id: &PackageId) -> Option<usize>
+        requires { IsIdIndex ids.now.packages.now by_id.now }
+        ensures { let packages = ids.now.packages.now in
+            MatchOption result (NoneBelow (HasId packages) id.now (length packages))
+            (HasId packages id.now) }
     {
-        match self.hinted(packages, id) {
+        match self.hinted(ids, id.repr()) {
             Some(position) => Some(position),
-            None => position_of_id(packages, by_id, id),
+            None => position_of_id(ids, by_id, id),
         }
     }
 }

@@ -1,8 +1,9 @@
 //! The keys of packages and build targets: IDs, paths and names of workspace members, target IDs.
-ghost use Rattle.std.specs.Prelude.{◌≡◌, length, is_some, MatchOption};
+ghost use Rattle.std.specs.Prelude.{◌≡◌, ◌↔◌, ℕ, length, map, slice_get, is_some, IsTrue, IfOk, MatchOption};
+ghost use Rattle.std.specs.Option.{ForSome};
 ghost use Rattle.guppy_data.specs.Utf8Path.{path_text};
 ghost use Rattle.guppy_graph.specs.Keys.{or_empty, NoneBelow, IsFirstWith, DifferBelow, IsFirstRepeat};
-ghost use Rattle.guppy_graph.specs.Ids.{id_at, HasId};
+ghost use Rattle.guppy_graph.specs.Ids.{ids_of, id_at, HasId};
 ghost use Rattle.guppy_graph.specs.Members.{path_at, name_at, HasPath, HasName, IsMemberPath, IsMemberName};
 ghost use Rattle.guppy_graph.specs.Targets.{HasTarget};
 ghost use Rattle.guppy_graph.specs.Indexes.{IsIdIndex, IsPathIndex, IsNameIndex, IsTargetIndex};
@@ -11,11 +12,18 @@ use crate::keyed::{Keyed, KeyedByText, first_repeat, position_of};
 use guppy_data::{
     BuildTargetId, BuildTargetRecord, PackageId, PackageRecord, PackageSourceRecord, Utf8Path,
 };
+use std::alloc::{AllocError, Global};
 use std::cmp::Ordering;
 
-/// Packages by their IDs.
+/// Packages by their IDs. The texts of the IDs may stand in a list, so that many comparisons read no
+/// records, which lie far apart.
 #[derive(Clone, Copy)]
-pub(crate) struct Ids<'a>(pub(crate) &'a [PackageRecord]);
+pub(crate) struct Ids<'a> {
+    pub(crate) packages: &'a [PackageRecord],
+    texts: &'a [&'a str],
+    ghost own: { (p : ℕ) → ForSome (slice_get texts.now p)
+        (λ text. text.now ≡ or_empty (id_at packages.now p)) },
+}
 
 /// Workspace members by their paths.
 #[derive(Clone, Copy)]
@@ -84,17 +92,62 @@ fn is_member_at(packages: &[PackageRecord], position: usize) -> bool
     }
 }
 
-/// The first package with the ID. Time grows with the logarithm of the packages.
-pub(crate) fn position_of_id(
-    packages: &[PackageRecord],
-    by_id: &[usize],
-    id: &PackageId,
-) -> Option<usize>
-    requires { IsIdIndex packages.now by_id.now }
-    ensures { MatchOption result (NoneBelow (HasId packages.now) id.now (length packages.now))
-        (IsFirstWith (HasId packages.now) id.now) }
+/// The texts of the packages' IDs.
+pub(crate) fn id_texts(alloc: Global, packages: &[PackageRecord]) -> Result<Vec<&str>, AllocError>
+    ensures { IfOk result (λ texts. map (λ text. text.now) texts.items ≡ ids_of packages.now) }
 {
-    position_of(&Ids(packages), by_id, id.repr())
+    let mut texts = Vec::with_capacity(alloc, packages.len())?;
+    for record in packages.iter() {
+        texts.push(record.id.repr())?;
+    }
+    Ok(texts)
+}
+
+impl<'a> Ids<'a> {
+    /// The packages alone.
+    pub(crate) fn new(packages: &'a [PackageRecord]) -> Ids<'a>
+        ensures { result.packages.now ≡ packages.entry.now }
+    {
+        Ids {
+            packages,
+            texts: &[],
+        }
+    }
+
+    /// The packages, and the texts of their IDs.
+    pub(crate) fn listed(packages: &'a [PackageRecord], texts: &'a [&'a str]) -> Ids<'a>
+        requires { map (λ text. text.now) texts.now ≡ ids_of packages.now }
+        ensures { result.packages.now ≡ packages.entry.now }
+    {
+        Ids { packages, texts }
+    }
+
+    /// The ID at the position, and the empty text past the end.
+    pub(crate) fn text_at(&self, position: usize) -> &str
+        ensures { result.now ≡ or_empty (id_at self.now.packages.now position) }
+    {
+        match self.texts.get(position) {
+            Some(text) => text,
+            None => id_at(self.packages, position),
+        }
+    }
+
+    /// Whether the package at the position has the ID.
+    pub(crate) fn has_id(&self, position: usize, id: &str) -> bool
+        ensures { IsTrue result ↔ HasId self.now.packages.now id.now position }
+    {
+        position < self.packages.len() && self.text_at(position) == id
+    }
+}
+
+/// The first package with the ID. Time grows with the logarithm of the packages.
+pub(crate) fn position_of_id(ids: &Ids<'_>, by_id: &[usize], id: &PackageId) -> Option<usize>
+    requires { IsIdIndex ids.now.packages.now by_id.now }
+    ensures { let packages = ids.now.packages.now in
+        MatchOption result (NoneBelow (HasId packages) id.now (length packages))
+        (IsFirstWith (HasId packages) id.now) }
+{
+    position_of(ids, by_id, id.repr())
 }
 
 /// The member with the path.
@@ -124,12 +177,13 @@ pub(crate) fn position_of_name(
 }
 
 /// The first package with the ID of an earlier one.
-pub(crate) fn first_repeated_id(packages: &[PackageRecord], by_id: &[usize]) -> Option<usize>
-    requires { IsIdIndex packages.now by_id.now }
-    ensures { MatchOption result (DifferBelow (HasId packages.now) (length packages.now))
-        (IsFirstRepeat (HasId packages.now)) }
+pub(crate) fn first_repeated_id(ids: &Ids<'_>, by_id: &[usize]) -> Option<usize>
+    requires { IsIdIndex ids.now.packages.now by_id.now }
+    ensures { let packages = ids.now.packages.now in
+        MatchOption result (DifferBelow (HasId packages) (length packages))
+        (IsFirstRepeat (HasId packages)) }
 {
-    first_repeat(&Ids(packages), by_id)
+    first_repeat(ids, by_id)
 }
 
 /// The first workspace member with the name of an earlier one.
@@ -157,30 +211,30 @@ impl Keyed for Ids<'_> {
     ghost use Rattle.std.proofs.lemmas.Cmp.{nat_list_cmp_total};
     ghost use Rattle.guppy_graph.specs.Ids.{id_at};
 
-    ghost count = { λ s. length s.0.now };
+    ghost count = { λ s. length s.packages.now };
 
-    ghost key_at = { λ s p. id_at s.0.now p };
+    ghost key_at = { λ s p. id_at s.packages.now p };
 
     ghost order = { slice_cmp nat_cmp };
 
     ghost total = { nat_list_cmp_total };
 
     fn position_count(&self) -> usize {
-        self.0.len()
+        self.packages.len()
     }
 
     fn has_key(&self, position: usize) -> bool {
-        self.0.get(position).is_some()
+        self.packages.get(position).is_some()
     }
 
     fn compare(&self, a: usize, b: usize) -> Ordering {
-        id_at(self.0, a).cmp(id_at(self.0, b))
+        self.text_at(a).cmp(self.text_at(b))
     }
 }
 
 impl KeyedByText for Ids<'_> {
     fn compare_to(&self, position: usize, text: &str) -> Ordering {
-        id_at(self.0, position).cmp(text)
+        self.text_at(position).cmp(text)
     }
 }
 

@@ -3,4 +3,4 @@ use Rattle.guppy_graph.specs.Links.{AreEndsOf}
 use Rattle.guppy_graph.proofs.build.ends_of.Given as goal
 
 abbrev pub invariant-loop-number : goal.invariant-loop-number
-invariant-loop-number l = AreEndsOf l.packages (take l.number l.records) l.ends.items
+invariant-loop-number l = AreEndsOf l.ids.packages.now (take l.number l.records) l.ends.items

@@ -13,14 +13,14 @@ pub returns-then-is_none : goal.returns-then-is_none
 returns-then-is_none c = record {
   item = c.index-members-index.result;
   found = slice_get_read c.args.members.now _ c.loop-index.index c.index-members-index.result refl c.loop-index-test.true c.index-members-index.is;
-  lacks = unknown_of c.args.packages.now c.index-members-index.result (none_is c.position_of_id.result _ _ c.if-is_none.ensures c.position_of_id.ensures);
+  lacks = unknown_of c.args.ids.now.packages.now c.index-members-index.result (none_is c.position_of_id.result _ _ c.if-is_none.ensures c.position_of_id.ensures);
   before = c.loop-index.invariant;
 }
 
 pub loop-index-preserved : goal.loop-index-preserved
 loop-index-preserved c =
     let known = some_is c.position_of_id.result _ _ c.if-is_none.ensures c.position_of_id.ensures in
-    All-take_more (IsKnown c.args.packages.now) c.args.members.now c.loop-index.index c.index-members-index.result c.loop-index-test.true (sym c.index-members-index.is) c.loop-index.invariant (known.0, known.1.0)
+    All-take_more (IsKnown c.args.ids.now.packages.now) c.args.members.now c.loop-index.index c.index-members-index.result c.loop-index-test.true (sym c.index-members-index.is) c.loop-index.invariant (known.0, known.1.0)
 
 pub returns : goal.returns
-returns c = subst (All (IsKnown c.args.packages.now)) (take_all c.loop-index.index c.args.members.now c.loop-index-test.false) c.loop-index.invariant
+returns c = subst (All (IsKnown c.args.ids.now.packages.now)) (take_all c.loop-index.index c.args.members.now c.loop-index-test.false) c.loop-index.invariant

@@ -10,7 +10,7 @@ use Rattle.guppy_graph.proofs.keys.first_repeated_id.Goals as goal
 
 pub returns : goal.returns
 returns c =
-    let packages = c.args.packages.now in
+    let packages = c.args.ids.now.packages.now in
     let Has = HasKey (slice_cmp nat_cmp) (id_at packages) in
     MatchOption-along _ _ _ _ _
     (DifferBelow-along Has (HasId packages) (id_there packages) (id_back packages) (length packages))
