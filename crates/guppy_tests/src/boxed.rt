@@ -1,18 +1,20 @@
 //! A visitor in a box, which is handed over by value and judged by what it noted.
-ghost use Rattle.std.specs.Prelude.{◌≡◌, ◌==◌, ◌+◌, ◌%◌, ◌^◌};
+ghost use Rattle.std.specs.Prelude.{◌≡◌, ◌==◌, ℕ, ◌+◌, ◌%◌, ◌^◌, ◌<◌, length};
+ghost use Rattle.guppy.specs.Visitors.{MayVisitAt};
 
-use crate::drawn::{Case, members_of, query_of};
+use crate::drawn::{Case, judge, query_of};
 use crate::judge::Given;
 use crate::records::{numbered_graph, numbered_ids};
 use crate::visitors::Odd;
 use guppy::graph::DependencyDirection;
-use guppy::{PackageLink, PackageLinkContext, PackageLinkVisitor, PackageSet};
-use std::cell::RefCell;
+use guppy::{PackageLink, PackageLinkContext, PackageLinkVisitor, PackageQuery, PackageSet};
+use std::alloc::Global;
+use std::cell::Cell;
 use std::process::Abort;
 use std::rc::Rc;
 
 // The links that were shown, each with the answer, where a test can read them too.
-type Notes = Rc<RefCell<Vec<(usize, bool)>>>;
+type Notes = Rc<Cell<Vec<(usize, bool)>>>;
 
 // Answers as the visitor inside, and notes what it was shown.
 #[derive(Drop)]
@@ -27,28 +29,59 @@ impl PackageLinkVisitor for Noting {
 
     fn visit_link(&mut self, cx: &PackageLinkContext<'_>, link: PackageLink<'_>) -> bool {
         let answer = self.inside.visit_link(cx, link);
-        if let Ok(mut notes) = self.notes.try_borrow_mut() {
-            let _noted = notes.push((link.link_ix(), answer));
-        }
+        let mut notes = self.notes.replace(Vec::new(cx.query().graph().alloc()));
+        let _noted = notes.push((link.link_ix(), answer));
+        self.notes.set(notes);
         answer
     }
 }
 
-// Resolves with a box of a visitor that notes what it is shown.
-fn resolved<'a>(rt: &impl Abort, case: Case<'a>, notes: Notes) -> PackageSet<'a> {
-    let noting = Noting {
-        inside: Odd { calls: 0 },
-        notes,
-    };
-    let visitor: Box<dyn PackageLinkVisitor + Drop> = Box::new(case.graph.alloc(), noting).expect(
-        rt, "a box",
-    );
-    query_of(rt, case)
-        .resolve_with(visitor)
-        .expect(rt, "a resolve")
+fn resolved<'a, V: PackageLinkVisitor + Drop>(
+    rt: &impl Abort,
+    query: PackageQuery<'a>,
+    visitor: V,
+) -> PackageSet<'a>
+    requires { (n : ℕ) → n < length query.graph.links → MayVisitAt V.can_visit query visitor n }
+{
+    query.resolve_with(visitor).expect(rt, "a resolve")
 }
 
-const LINKS: [(usize, usize, bool); 5] = [
+// Resolves with a box of a visitor that accepts its odd calls and notes them.
+fn resolved_in_a_box<'a>(
+    rt: &impl Abort,
+    alloc: Global,
+    query: PackageQuery<'a>,
+    notes: Notes,
+) -> PackageSet<'a> {
+    let inside = Odd { calls: 0 };
+    let noting = Box::new(alloc, Noting { inside, notes });
+    let visitor: Box<dyn PackageLinkVisitor + Drop> = noting.expect(rt, "a box");
+    resolved(rt, query, visitor)
+}
+
+// Judges that resolve, and tells how many links were shown.
+fn judge_boxed(rt: &impl Abort, case: Case<'_>) -> usize {
+    let alloc = case.graph.alloc();
+    let notes = Rc::new(alloc, Cell::new(Vec::new(alloc))).expect(rt, "notes");
+    let noted = notes.clone().expect(rt, "notes");
+    let set = resolved_in_a_box(rt, alloc, query_of(rt, case), noted);
+    let shown = notes.replace(Vec::new(alloc));
+    judge(rt, case, shown.as_slice(), &set);
+    shown.len()
+}
+
+// The same of a graph of four packages, from the first one.
+fn judge_boxed_on(rt: &impl Abort, alloc: Global, links: &[(usize, usize, bool)]) -> usize {
+    let graph = numbered_graph(rt, alloc, 4, links);
+    let ids = numbered_ids(rt, alloc, 4);
+    let starts = &[true, false, false, false];
+    let given = Given::new(links, DependencyDirection::Forward, starts);
+    judge_boxed(rt, Case::new(&graph, ids.as_slice(), given))
+}
+
+const CHAIN: [(usize, usize, bool); 3] = [(0, 1, false), (1, 2, false), (2, 3, false)];
+
+const DIAMOND: [(usize, usize, bool); 5] = [
     (0, 1, false),
     (0, 2, false),
     (1, 3, false),
@@ -58,16 +91,8 @@ const LINKS: [(usize, usize, bool); 5] = [
 
 #[test]
 fn boxed_recorder(rt: HostRuntime) {
-    let graph = numbered_graph(&rt, rt.alloc(), 4, &LINKS);
-    let ids = numbered_ids(&rt, rt.alloc(), 4);
-    let starts = &[true, false, false, false];
-    let given = Given::new(&LINKS, DependencyDirection::Forward, starts);
-    let case = Case::new(&graph, ids.as_slice(), given);
-    let notes = Rc::new(rt.alloc(), RefCell::new(Vec::new(rt.alloc()))).expect(&rt, "notes");
-    let set = resolved(&rt, case, notes.clone().expect(&rt, "notes"));
-    let members = members_of(&rt, case, &set);
-    let notes = notes.try_borrow().expect(&rt, "notes");
-    let broken = given.broken_rule(notes.as_slice(), members.as_slice());
-    assert!(rt; broken.is_none(), "{broken:?}");
-    assert!(rt; notes.len() >= 3);
+    let shown = judge_boxed_on(&rt, rt.alloc(), &CHAIN);
+    assert!(rt; shown == 2, "counting_visitor_in_a_box");
+    let shown = judge_boxed_on(&rt, rt.alloc(), &DIAMOND);
+    assert!(rt; shown >= 3, "boxed_recorder");
 }

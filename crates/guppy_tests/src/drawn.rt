@@ -1,5 +1,5 @@
 //! Graphs of up to eight packages that are drawn by numbers, and searches of them, each judged.
-ghost use Rattle.std.specs.Prelude.{ℕ, ◌≡◌, ◌<◌, length, All, IfOk};
+ghost use Rattle.std.specs.Prelude.{ℕ, ◌≡◌, ◌<◌, ◌++◌, ◌∷◌, length, map, All, IfOk};
 ghost use Rattle.guppy.specs.Visitors.{MayVisitAt};
 
 use crate::judge::{Event, Given, NOWHERE, has};
@@ -10,7 +10,7 @@ use crate::sets::positions_of;
 use crate::visitors::{ByPattern, DevOnly, First, Odd, Rising};
 use guppy::graph::{DependencyDirection, IndexType, PackageIx};
 use guppy::positions::{BufferedEdgeFilter, Graph, IxSet, reachable_buffered};
-use guppy::{PackageGraph, PackageId, PackageLinkVisitor, PackageQuery, PackageSet, Recorder};
+use guppy::{PackageGraph, PackageId, PackageLinkVisitor, PackageQuery, PackageSet};
 use std::alloc::{AllocError, Global};
 use std::process::Abort;
 
@@ -97,7 +97,18 @@ pub(super) fn members_of(rt: &impl Abort, case: Case<'_>, set: &PackageSet<'_>) 
     members
 }
 
-// Resolves the query with the visitor, and judges the resolve.
+/// Judges a resolve that showed these links, each with the answer, and included this set.
+pub(super) fn judge(
+    rt: &impl Abort,
+    case: Case<'_>,
+    shown: &[(usize, bool)],
+    set: &PackageSet<'_>,
+) {
+    let members = members_of(rt, case, set);
+    let broken = case.given.broken_rule(shown, members.as_slice());
+    assert!(rt; broken.is_none(), "{broken:?}");
+}
+
 fn judge_resolve<V: PackageLinkVisitor + Drop>(
     rt: &impl Abort,
     case: Case<'_>,
@@ -106,31 +117,28 @@ fn judge_resolve<V: PackageLinkVisitor + Drop>(
 )
     requires { (n : ℕ) → n < length query.graph.links → MayVisitAt V.can_visit query visitor n }
 {
-    let links = case.given.links.len();
-    let mut recorder = Recorder::new(case.graph.alloc(), visitor, links).expect(rt, "a recorder");
-    let set = query.resolve_with(&mut recorder).expect(rt, "a resolve");
-    let members = members_of(rt, case, &set);
-    let broken = case
-        .given
-        .broken_rule(recorder.entries.as_slice(), members.as_slice());
-    assert!(rt; broken.is_none(), "{broken:?}");
+    let (set, recorder) = query.resolve_recorded(visitor).expect(rt, "a resolve");
+    judge(rt, case, recorder.entries.as_slice(), &set);
 }
 
-fn judge_small_graph<'a>(
+fn judge_starts(rt: &impl Abort, case: Case<'_>) {
+    let all = First { left: usize::MAX };
+    judge_resolve(rt, case, query_of(rt, case), all);
+    judge_resolve(rt, case, query_of(rt, case), First { left: 0 });
+    judge_resolve(rt, case, query_of(rt, case), Odd { calls: 0 });
+}
+
+fn judge_small_graph(
     rt: &impl Abort,
-    graph: &'a PackageGraph,
-    ids: &'a [PackageId],
-    links: &'a [(usize, usize, bool)],
+    graph: &PackageGraph,
+    ids: &[PackageId],
+    links: &[(usize, usize, bool)],
 ) {
     for starts in 0..8 {
         let starts = bits_of(rt, graph.alloc(), 3, starts);
         for direction in DIRECTIONS {
             let given = Given::new(links, direction, starts.as_slice());
-            let case = Case::new(graph, ids, given);
-            let all = First { left: usize::MAX };
-            judge_resolve(rt, case, query_of(rt, case), all);
-            judge_resolve(rt, case, query_of(rt, case), First { left: 0 });
-            judge_resolve(rt, case, query_of(rt, case), Odd { calls: 0 });
+            judge_starts(rt, Case::new(graph, ids, given));
         }
     }
 }
@@ -178,17 +186,31 @@ fn links_inside(
     inside
 }
 
-// A walk over the links of a set is a search from its roots that follows each link inside, so the same
-// judge tells whether it is right.
-fn judge_links(rt: &impl Abort, set: &PackageSet<'_>, inside: Given<'_>, alloc: Global) {
+fn judge_roots(rt: &impl Abort, alloc: Global, inside: Given<'_>, set: &PackageSet<'_>) {
     let roots = set.root_packages(inside.direction).expect(rt, "roots");
     let roots = positions_of(rt, alloc, roots);
     let are_roots = is_kept(&ASCENDING, inside.starts, roots.as_slice());
     assert!(rt; are_roots, "roots");
+}
+
+// The links of the set, each as if it was accepted.
+fn walked(
+    rt: &impl Abort,
+    alloc: Global,
+    set: &PackageSet<'_>,
+    direction: DependencyDirection,
+) -> Vec<(usize, bool)> {
     let mut shown = Vec::new(alloc);
-    for link in set.links(inside.direction).expect(rt, "links") {
+    for link in set.links(direction).expect(rt, "links") {
         shown.push((link.link_ix(), true)).expect(rt, "links");
     }
+    shown
+}
+
+// A walk over the links of a set is a search from its roots that follows each link inside, so the same
+// judge tells whether it is right.
+fn judge_links(rt: &impl Abort, alloc: Global, inside: Given<'_>, set: &PackageSet<'_>) {
+    let shown = walked(rt, alloc, set, inside.direction);
     let mut reached = Vec::new(alloc);
     for position in 0..inside.starts.len() {
         let is_reached = inside.is_included(shown.as_slice(), position);
@@ -206,7 +228,8 @@ fn judge_walk(rt: &impl Abort, case: Case<'_>, led: Led<'_>, set: &PackageSet<'_
     let inside = Given::new(links.as_slice(), direction, members);
     let roots = led.roots_of(rt, alloc, inside, members);
     let inside = Given::new(links.as_slice(), direction, roots.as_slice());
-    judge_links(rt, set, inside, alloc);
+    judge_roots(rt, alloc, inside, set);
+    judge_links(rt, alloc, inside, set);
 }
 
 // The list of all packages is in order, and the set's lists are those of its members in that order, and
@@ -241,7 +264,7 @@ fn judge_visitors(rt: &impl Abort, case: Case<'_>, pattern: &[bool]) {
     judge_resolve(rt, case, query_of(rt, case), Rising { highest: 0 });
 }
 
-// Hands back links that look drawn, and keeps what happened.
+// Hands back links that look drawn, and notes each question and, behind it, what it handed back.
 #[derive(Drop)]
 struct Drawing {
     drawn: u64,
@@ -255,7 +278,9 @@ impl Drawing {
         link_count: usize,
         question: Event,
     ) -> Result<Vec<usize>, AllocError>
-        ensures { IfOk result (λ handed. All (λ n. n < link_count) handed.items) }
+        ensures below { IfOk result (λ handed. All (λ n. n < link_count) handed.items) }
+        ensures noted { IfOk result (λ handed. self.new.events.items
+            ≡ self.old.events.items ++ question ∷ map Event.HandBack handed.items) }
     {
         self.events.push(question)?;
         self.drawn = mixed(self.drawn);
@@ -272,11 +297,14 @@ impl Drawing {
 }
 
 impl BufferedEdgeFilter<DevLinks> for Drawing {
-    ghost use Rattle.std.specs.Prelude.{⊤};
+    ghost use Rattle.std.specs.Prelude.{◌≡◌, ◌++◌, ◌∷◌, map, IfSome};
+    ghost use Rattle.guppy_tests.specs.declared.judge.Event.TheVariants.{Discover, Filter, HandBack};
 
-    ghost filters = { λ _ _ _ _ _. ⊤ };
+    ghost filters = { λ _ s n answer t. IfSome answer (λ handed. t.events.items
+        ≡ s.events.items ++ Filter n ∷ map HandBack handed) };
 
-    ghost discovers = { λ _ _ _ _ _. ⊤ };
+    ghost discovers = { λ _ s p answer t. IfSome answer (λ handed. t.events.items
+        ≡ s.events.items ++ Discover p ∷ map HandBack handed) };
 
     fn filter(&mut self, graph: &Graph<DevLinks>, link: usize) -> Result<Vec<usize>, AllocError> {
         self.answer(graph.alloc(), graph.link_count(), Event::Filter(link))
@@ -304,20 +332,21 @@ fn set_of(rt: &impl Abort, graph: &Graph<DevLinks>, members: &[bool]) -> IxSet<D
     set
 }
 
+fn members_by_position(rt: &impl Abort, alloc: Global, set: &IxSet<DevLinks>) -> Vec<bool> {
+    let mut members = Vec::new(alloc);
+    for position in 0..set.node_count() {
+        let is_member = set.has_position(position);
+        members.push(is_member).expect(rt, "members");
+    }
+    members
+}
+
 fn judge_buffered(rt: &impl Abort, graph: &Graph<DevLinks>, given: Given<'_>, drawn: u64) {
     let starts = set_of(rt, graph, given.starts);
-    let mut filter = Drawing {
-        drawn,
-        events: Vec::new(graph.alloc()),
-    };
+    let events = Vec::new(graph.alloc());
+    let mut filter = Drawing { drawn, events };
     let set = reachable_buffered(graph, &starts, given.direction, &mut filter);
-    let set = set.expect(rt, "a buffered search");
-    let mut members = Vec::new(graph.alloc());
-    for position in 0..set.node_count() {
-        members
-            .push(set.has_position(position))
-            .expect(rt, "members");
-    }
+    let members = members_by_position(rt, graph.alloc(), &set.expect(rt, "a buffered search"));
     let broken = given.broken_buffered_rule(filter.events.as_slice(), members.as_slice());
     assert!(rt; broken.is_none(), "buffered: {broken:?}");
 }

@@ -1,20 +1,21 @@
 //! Examples, written as a text, and the run through them.
 //!
-//! A line with a bar has an example's name and its graph, as `records` writes one. Each line below has a
-//! question about this graph, and the answer that is wanted:
+//! A line with a bar has an example's name and its graph, as `records` writes one. Each line below has
+//! questions about this graph, and the answers that are wanted:
 //!
 //! ```text
 //! chain | a b c: a>b b>c
-//!     depends a c = yes
+//!     depends a c, depends c a = yes, no
 //! ```
 //!
 //! An answer is words and numbers, an error is its text, and no text is `nothing`. Where more than one
-//! answer is right, ` or ` stands between them. A question's first word tells the module that answers it:
-//! `package` and `workspace` go to `views`, `resolve` to `queries`, `looks`, `in-turn`,
-//! `everything` and `shown` to `large`, `beside` to `sets`, all others to `graphs`.
+//! answer is right, ` or ` stands between them. `0..=3` stands for 0 1 2 3, `p3..=p1` for p3 p2 p1, and
+//! `0+..=2+` for 0+ 1+ 2+; the answers of a line that begins with `sorted` may have their words in any order. A
+//! question's first word tells the module that answers it: `package` and `workspace` go to `views`,
+//! `resolve` to `queries`, `looks` to `lists`, `beside` to `sets`, all others to `graphs`.
 use crate::graphs::{self, ask_graph};
-use crate::large::{self, ask_large};
-use crate::lists;
+use crate::large;
+use crate::lists::{self, put_looks};
 use crate::queries::{self, ask_query};
 use crate::records::{graph_of, ids};
 use crate::sets::{self, beside, other_graph};
@@ -54,6 +55,10 @@ impl Answer {
 
     pub(super) fn put_number(&mut self, number: usize) {
         self.put("");
+        self.put_digits(number);
+    }
+
+    fn put_digits(&mut self, number: usize) {
         let taken = write!(self.text, "{number}");
         self.note(taken.is_err());
     }
@@ -62,9 +67,9 @@ impl Answer {
         self.put(if truth { "yes" } else { "no" });
     }
 
-    /// Adds a comma behind what is there.
+    /// Adds a comma behind what is there, where none is.
     pub(super) fn put_comma(&mut self) {
-        if !self.text.is_empty() {
+        if !self.text.is_empty() && !self.text.ends_with(',') {
             self.put_mark(",");
         }
     }
@@ -110,30 +115,52 @@ fn tell_beside(
 
 fn tell(
     rt: &impl Abort,
-    alloc: Global,
-    graph: &str,
+    graph: &PackageGraph,
     words: &[&str],
     out: &mut Answer,
 ) -> Result<(), Error> {
-    let graph = graph_of(rt, alloc, graph)?;
-    let ids = ids(rt, alloc, words);
+    let ids = ids(rt, graph.alloc(), words);
     match words {
-        ["looks" | "in-turn" | "everything" | "shown", ..] => {
-            ask_large(rt, &graph, words, &ids, out)
+        ["looks", words @ ..] => {
+            put_looks(rt, graph, words, out);
+            Ok(())
         }
-        ["beside", ..] => tell_beside(rt, &graph, words, &ids, out),
-        _ => ask(&graph, words, &ids, out),
+        ["beside", ..] => tell_beside(rt, graph, words, &ids, out),
+        _ => ask(graph, words, &ids, out),
     }
 }
 
-fn tell_all(rt: &impl Abort, alloc: Global, graph: &str, question: &str) -> Answer {
-    let mut out = Answer {
+fn words_of<'t>(rt: &impl Abort, alloc: Global, text: &'t str) -> Vec<&'t str> {
+    let words: Result<Vec<&str>, AllocError> = text.split_whitespace().collect(alloc);
+    words.expect(rt, "words")
+}
+
+// Adds the answer to each of the questions, with a comma between.
+fn tell_each(
+    rt: &impl Abort,
+    alloc: Global,
+    graph: &str,
+    questions: &str,
+    out: &mut Answer,
+) -> Result<(), Error> {
+    let graph = graph_of(rt, alloc, graph)?;
+    for question in questions.split(", ") {
+        out.put_comma();
+        tell(rt, &graph, &words_of(rt, alloc, question), out)?;
+    }
+    Ok(())
+}
+
+fn no_answer(alloc: Global) -> Answer {
+    Answer {
         text: String::new(alloc),
         is_cut: false,
-    };
-    let words: Result<Vec<&str>, AllocError> = question.split_whitespace().collect(alloc);
-    let words = words.expect(rt, question);
-    if let Err(error) = tell(rt, alloc, graph, &words, &mut out) {
+    }
+}
+
+fn tell_all(rt: &impl Abort, alloc: Global, graph: &str, questions: &str) -> Answer {
+    let mut out = no_answer(alloc);
+    if let Err(error) = tell_each(rt, alloc, graph, questions, &mut out) {
         out.put_error(&error);
     }
     if out.text.is_empty() {
@@ -142,9 +169,54 @@ fn tell_all(rt: &impl Abort, alloc: Global, graph: &str, question: &str) -> Answ
     out
 }
 
-fn is_wanted(answer: &str, wanted: &str) -> bool {
+// The number of a word like `p5` or `5+`.
+fn number_of(word: &str) -> usize {
+    let digits = word.trim_start_matches('p').trim_end_matches('+');
+    digits.parse().unwrap_or(0)
+}
+
+// Adds the words from the one to the other, which have the same marks about their numbers.
+fn put_range(first: &str, last: &str, out: &mut Answer) {
+    let (from, to) = (number_of(first), number_of(last));
+    for step in 0..=from.abs_diff(to) {
+        out.put(if first.starts_with('p') { "p" } else { "" });
+        out.put_digits(if from < to {
+            from.saturating_add(step)
+        } else {
+            from.saturating_sub(step)
+        });
+        out.put_mark(if first.ends_with('+') { "+" } else { "" });
+    }
+}
+
+// The wanted text with each range of words written out.
+fn written_out(alloc: Global, wanted: &str) -> Answer {
+    let mut out = no_answer(alloc);
+    for part in wanted.split(", ") {
+        out.put_comma();
+        for word in part.split(' ') {
+            match word.split_once("..=") {
+                Some((first, last)) => put_range(first, last, &mut out),
+                None => out.put(word),
+            }
+        }
+    }
+    out
+}
+
+fn are_same_words(rt: &impl Abort, alloc: Global, one: &str, other: &str) -> bool {
+    let mut one = words_of(rt, alloc, one);
+    let mut other = words_of(rt, alloc, other);
+    one.sort_unstable();
+    other.sort_unstable();
+    one.as_slice() == other.as_slice()
+}
+
+fn is_wanted(rt: &impl Abort, alloc: Global, answer: &str, wanted: &str, is_sorted: bool) -> bool {
     for text in wanted.split(" or ") {
-        if text == answer {
+        let text = written_out(alloc, text);
+        let text = text.text.as_str();
+        if text == answer || is_sorted && are_same_words(rt, alloc, text, answer) {
             return true;
         }
     }
@@ -153,11 +225,15 @@ fn is_wanted(answer: &str, wanted: &str) -> bool {
 
 fn assert_answer(rt: &impl Abort, alloc: Global, example: (&str, &str), asked: (&str, &str)) {
     let (name, graph) = example;
-    let (question, wanted) = asked;
-    let answer = tell_all(rt, alloc, graph, question);
-    assert!(rt; !answer.is_cut, "{name}: {question}: memory was refused");
+    let (questions, wanted) = asked;
+    let sorted = questions.strip_prefix("sorted ");
+    let answer = tell_all(rt, alloc, graph, sorted.unwrap_or(questions));
+    assert!(rt; !answer.is_cut, "{name}: {questions}: memory was refused");
     let answer = answer.text.as_str();
-    assert!(rt; is_wanted(answer, wanted), "{name}: {question} = {answer}");
+    assert!(rt;
+        is_wanted(rt, alloc, answer, wanted, sorted.is_some()),
+        "{name}: {questions} = {answer}"
+    );
 }
 
 // Asks each question of the table, and compares the answers.

@@ -36,7 +36,6 @@ empty_graph | :
     list reverse of all = nothing
     cycles = nothing
     cycles from-back = nothing
-    looks 0 = yes
     counts = 0 0 0 0 0
 
 self_links | a b: a>a a>b b>b
@@ -51,13 +50,18 @@ self_links | a b: a>a a>b b>b
 unreached_last | a b c: a>b b>a
     list forward of all = a b c or c a b
     cycles = 2 a b
-    looks 8 = yes
 
 four_with_dev_backs | d c b a: a>b b~a b>c c>d d~c
     list forward of all = a b c d
     list reverse of all = d c b a
     cycles = 2 a b, 2 c d
     cycles from-back = 2 c d, 2 a b
+
+few_looks | :
+    looks 0 = yes
+few_looks | a b c: a>b b>a
+    looks 8 = yes
+few_looks | d c b a: a>b b~a b>c c>d d~c
     looks 20 = yes
 
 dev_between_components | b0 b1 a0 a1: a0>a1 a1>a0 b0>b1 b1>b0 a1~b0

@@ -8,7 +8,7 @@ ghost use Rattle.guppy.specs.Visitors.{MayVisitAt, StartsFromInitial};
 
 use crate::examples::Answer;
 use crate::sets::{direction_of, put_letters};
-use crate::visitors::{First, Odd, RefusesOnce};
+use crate::visitors::{First, Odd, RefusesOnce, odd_calls};
 use guppy::{
     Error, PackageGraph, PackageId, PackageLink, PackageLinkContext, PackageLinkVisitor,
     PackageQuery, PackageSet,
@@ -128,15 +128,6 @@ fn ask_odd_behind_dyn(
     Ok(())
 }
 
-fn ask_odd_in_a_box(
-    graph: &PackageGraph,
-    query: PackageQuery<'_>,
-    out: &mut Answer,
-) -> Result<(), Error> {
-    let visitor: Box<dyn PackageLinkVisitor + Drop> = Box::new(graph.alloc(), Odd { calls: 0 })?;
-    ask_visitor(graph, query, visitor, out)
-}
-
 fn ask_odd_closure(
     graph: &PackageGraph,
     query: PackageQuery<'_>,
@@ -167,12 +158,15 @@ pub(super) fn ask_query(
     match *visitor {
         "none" => ask_first(graph, query, 0, out),
         "first" => ask_first(graph, query, 1, out),
-        "all" => ask_first(graph, query, 9, out),
+        "all" => ask_first(graph, query, usize::MAX, out),
         "refuses-once" => ask_refuses_once(graph, query, out),
         "odd-lent" => ask_odd_lent(graph, query, out),
         "odd-moved" => ask_odd_moved(graph, query, out),
         "odd-behind-dyn" => ask_odd_behind_dyn(graph, query, out),
-        "odd-in-a-box" => ask_odd_in_a_box(graph, query, out),
+        "odd-calls" => {
+            out.put_number(odd_calls(query)?);
+            Ok(())
+        }
         "odd-closure" => ask_odd_closure(graph, query, out),
         "from-initials" => ask_visitor(graph, query, FromInitials, out),
         _ => {
@@ -198,12 +192,10 @@ diamond_with_refusal | a b c d: a>b a>c b>d c>d
 counting_visitor | a b c d: a>b b>c c>d
     resolve odd-lent forward a = ab 2 2
     resolve odd-moved forward a = ab 2 2
+    resolve odd-calls forward a = 2
 
 counting_visitor_behind_dyn | a b c d: a>b b>c c>d
     resolve odd-behind-dyn forward a = ab 2 2
-
-counting_visitor_in_a_box | a b c d: a>b b>c c>d
-    resolve odd-in-a-box forward a = ab 2
 
 counting_closure | a b c d: a>b b>c c>d
     resolve odd-closure forward a = ab 2 2

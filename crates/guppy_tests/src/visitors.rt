@@ -1,8 +1,9 @@
 //! Visitors, each with its meaning: what it answers at each state, and the state that it leaves.
-ghost use Rattle.std.specs.Prelude.{◌≡◌, ◌==◌, ◌||◌, ◌+◌, ◌-◌, ◌%◌, ◌^◌, true, false, not, max, nat_lt, slice_get, slice_index_or, IsSomeAnd};
+ghost use Rattle.std.specs.Prelude.{◌≡◌, ◌==◌, ◌||◌, ℕ, ◌+◌, ◌-◌, ◌%◌, ◌^◌, Bool, true, false, not, max, nat_lt, List, length, slice_get, slice_index_or, IfOk, IsSomeAnd};
 ghost use Rattle.guppy.specs.DevOnly.{is_dev_only};
+ghost use Rattle.guppy.specs.Resolve.{JudgesResolve};
 
-use guppy::{PackageLink, PackageLinkContext, PackageLinkVisitor};
+use guppy::{Error, PackageLink, PackageLinkContext, PackageLinkVisitor, PackageQuery};
 
 /// Accepts the links at whose numbers the list is true. None stands beyond its end.
 #[derive(Drop)]
@@ -52,6 +53,17 @@ impl PackageLinkVisitor for Odd {
         self.calls = self.calls.wrapping_add(1);
         self.calls % 2 == 1
     }
+}
+
+/// How many links the query shows where every second one is accepted: what the visitor has counted.
+pub fn odd_calls(query: PackageQuery<'_>) -> Result<usize, Error>
+    ensures { IfOk result (λ calls. (trace : List (ℕ × Bool)) × (set : List Bool)
+        × JudgesResolve query.entry.direction query.entry.graph.links query.entry.initials trace set
+        × (calls ≡ length trace % 2 ^ 64)) }
+{
+    let mut visitor = Odd { calls: 0 };
+    let _set = query.resolve_with_mut(&mut visitor)?;
+    Ok(visitor.calls)
 }
 
 /// Accepts the links that are there for development alone.
