@@ -12,6 +12,7 @@
 //! answer is right, ` or ` stands between them. A question's first word tells the module that answers it:
 //! `package` and `workspace` go to `views`, `resolve` to `queries`, `looks`, `in-turn`,
 //! `everything` and `shown` to `large`, `beside` to `sets`, all others to `graphs`.
+use crate::faults;
 use crate::graphs::{self, ask_graph};
 use crate::large::{self, ask_large};
 use crate::lists;
@@ -175,9 +176,11 @@ fn assert_examples(rt: &impl Abort, alloc: Global, table: &str) {
     }
 }
 
-const TABLES: [&str; 11] = [
+const TABLES: [&str; 13] = [
     graphs::GRAPHS,
     graphs::BROKEN_RULES,
+    faults::EACH_PLACE,
+    faults::TWO_FAULTS,
     graphs::VERIFIED,
     lists::LISTS,
     queries::QUERIES,
