@@ -160,17 +160,19 @@ const ANSWERS: [(&str, &str, &[u8], &str); 30] = [
     ("wrong_bytes", "depends a\r a\r", b"package a\r", "true\n"),
 ];
 
-// Runs each case on devices that work. Its text is what is printed where the status is 0, else the fault's.
+// Runs each case on devices that work, and move pieces of so many bytes. Its text is what is printed where the
+// status is 0, else the fault's.
 fn assert_all(
     rt: &impl Abort,
     alloc: Global,
     cases: &[(&str, &str, &[u8], &str)],
+    piece: usize,
     status: u8,
 ) -> Result<(), AllocError> {
     for &(case, line, input, text) in cases {
         let (output, fault) = if status == 0 { (text, "") } else { ("", text) };
-        let reader = Feed::new(input, MANY, MANY);
-        let writer = Paper::new(alloc, MANY, MANY);
+        let reader = Feed::new(input, piece, MANY);
+        let writer = Paper::new(alloc, piece, MANY);
         assert_run(
             rt,
             alloc,
@@ -188,7 +190,8 @@ fn assert_all(
 
 #[test]
 fn answers(rt: HostRuntime) -> Result<(), Fail> {
-    assert_all(&rt, rt.alloc(), &ANSWERS, 0)?;
+    assert_all(&rt, rt.alloc(), &ANSWERS, MANY, 0)?;
+    assert_all(&rt, rt.alloc(), &ANSWERS, 1, 0)?;
     Ok(())
 }
 
@@ -282,8 +285,10 @@ const MISREAD: [(&str, &str, &[u8], &str); 30] = [
 
 #[test]
 fn faults(rt: HostRuntime) -> Result<(), Fail> {
-    assert_all(&rt, rt.alloc(), &REFUSED, 1)?;
-    assert_all(&rt, rt.alloc(), &MISREAD, 2)?;
+    for piece in [MANY, 1] {
+        assert_all(&rt, rt.alloc(), &REFUSED, piece, 1)?;
+        assert_all(&rt, rt.alloc(), &MISREAD, piece, 2)?;
+    }
     Ok(())
 }
 

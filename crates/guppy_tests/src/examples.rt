@@ -13,6 +13,7 @@
 //! `0+..=2+` for 0+ 1+ 2+; the answers of a line that begins with `sorted` may have their words in any order. A
 //! question's first word tells the module that answers it: `package` and `workspace` go to `views`,
 //! `resolve` to `queries`, `looks` to `lists`, `beside` to `sets`, all others to `graphs`.
+use crate::faults;
 use crate::graphs::{self, ask_graph};
 use crate::large;
 use crate::lists::{self, put_looks};
@@ -251,9 +252,11 @@ fn assert_examples(rt: &impl Abort, alloc: Global, table: &str) {
     }
 }
 
-const TABLES: [&str; 11] = [
+const TABLES: [&str; 13] = [
     graphs::GRAPHS,
     graphs::BROKEN_RULES,
+    faults::EACH_PLACE,
+    faults::TWO_FAULTS,
     graphs::VERIFIED,
     lists::LISTS,
     queries::QUERIES,

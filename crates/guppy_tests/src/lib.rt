@@ -12,6 +12,8 @@ mod drawn;
 #[cfg(test)]
 mod examples;
 #[cfg(test)]
+mod faults;
+#[cfg(test)]
 mod filled;
 #[cfg(test)]
 mod graphs;

@@ -1,0 +1,228 @@
+#!/usr/bin/env python3
+"""Refuses each request for memory in turn, to the cases of guppy_refusals and to the program.
+
+Both are run as the gate built them, in crates/*/out, with refuse.c preloaded, which has the C library refuse one
+request. Each case and each command is run with its first request refused, then with its second, until a run has
+no request left to refuse. The program is also run with less and less address space, so that many are refused.
+The last line is 'N passed, M failed'.
+"""
+
+import itertools
+import os
+import subprocess
+import sys
+import tempfile
+from concurrent.futures import ThreadPoolExecutor
+
+HERE = os.path.dirname(os.path.realpath(__file__))
+CRATES = os.path.join(os.path.dirname(HERE), "crates")
+BUILDS = {"": "as LLVM builds them", ".by-rattle": "as Rattle's own compiler builds them"}
+
+REFUSED = "out of memory"
+TOLD = f"error: {REFUSED}\n"
+# What a filter tells where the request for the list that it hands back was refused.
+OWN_LIST = "its own list was refused"
+# So many lines tell what stands before a case, and behind it.
+WORLD = 4
+# A case that may make so many requests, and no more.
+FEWEST = {"positions.thousand_by_sevens": 99}
+# More than any other case makes, and any run.
+MANY = 10000
+
+# A graph with every kind of link: of each section, to itself, round, dev-only ones round, and none.
+LINES = """package r
+package a
+package b
+package c
+package lone
+link r a normal
+link a b build
+link b a dev
+link a a normal
+link b c normal
+link c b normal
+link r c dev
+"""
+# So many packages more for the runs with less room, which are so many kilobytes apart.
+SIZE = 2000
+STEP = 64
+COMMANDS = [
+    "reach forward a",
+    "reach reverse a r",
+    "depends r c",
+    "depends c r",
+    "order",
+    "roots forward",
+    "roots reverse",
+    "links forward",
+    "links reverse",
+    "cycles",
+    "verify",
+]
+
+
+def run(shim, words, number, part, given=b""):
+    """Runs a command with the request of this number refused, and returns what each request got, too."""
+    reader, writer = os.pipe()
+    environment = {"LD_PRELOAD": shim, "REFUSE": str(number), "REFUSE_IN": part, "REFUSE_TO": str(writer)}
+    streams = {"stdin": subprocess.PIPE, "stdout": subprocess.PIPE, "stderr": subprocess.PIPE}
+    with os.fdopen(reader, "rb") as told:
+        try:
+            started = subprocess.Popen(words, env=environment, pass_fds=[writer], **streams)
+        finally:
+            os.close(writer)
+        with started:
+            output, errors = started.communicate(given, timeout=60)
+        return started.returncode, output.decode(), errors.decode(), told.read().decode()
+
+
+def in_turn(tries, most):
+    """Refuses the first request, the second and so on, and returns how many there are, and what is wrong.
+
+    tries(n) refuses the n-th, and returns whether there was one, and what is wrong.
+    """
+    for number in range(1, most + 2):
+        was_refused, wrong = tries(number)
+        if wrong is not None:
+            return number - 1, f"request {number}: {wrong}"
+        if not was_refused:
+            return number - 1, None
+    return most, f"it makes more than {most} requests"
+
+
+def wrong_in(lines, full):
+    """What is wrong in what a case told that was refused once, where it tells 'full' with ample memory."""
+    attempt, again = lines[: -len(full)], lines[-len(full) :]
+    if again != full:
+        return f"afterwards it told {again}, where {full} is the answer"
+    if attempt.count("call") != 1 or attempt[-2:] != ["done", REFUSED]:
+        return f"the refused call shows as {attempt}"
+    call = attempt.index("call")
+    if attempt[:call] != full[: full.index("call")]:
+        return f"it began as {attempt[:call]}"
+    before, after = attempt[WORLD:call], attempt[call + 1 : -2]
+    if after != before and OWN_LIST not in after:
+        return f"the refused call left {after}, where {before} was before"
+    return None
+
+
+def try_case(shim, program, case, full):
+    """Refuses each request of a case in turn, and returns how many there are, and what is wrong."""
+
+    def tries(number):
+        status, output, errors, told = run(shim, [program, case], number, "call")
+        lines = output.splitlines()[1:]
+        was_refused = "r" in told
+        if status != 0 or errors:
+            return was_refused, f"status {status}, and it said {errors!r}"
+        if lines == full:
+            return was_refused, None
+        return was_refused, wrong_in(lines, full) if was_refused else f"it told {lines}, where {full} is the answer"
+
+    if full[:WORLD] != full[-WORLD:]:
+        return 0, "a call with ample memory changed what stood before it"
+    if case.startswith("quiet."):
+        was_refused, wrong = tries(0)
+        return 0, "it made a request" if was_refused else wrong
+    count, wrong = in_turn(tries, FEWEST.get(case, MANY))
+    return count, wrong if count or wrong else "none of its requests was refused"
+
+
+def try_program(shim, program, command):
+    """Refuses each request of a run of the program in turn, and returns how many there are, and what is wrong."""
+    words, given = [program, *command.split()], LINES.encode()
+    wanted = subprocess.run(words, input=given, capture_output=True, check=True).stdout.decode()
+
+    def tries(number):
+        *outcome, told = run(shim, words, number, "main", given)
+        is_right = outcome == [0, wanted, ""] or ("r" in told and outcome == [1, "", TOLD])
+        return "r" in told, None if is_right else f"status, output and errors are {outcome}"
+
+    return in_turn(tries, MANY)
+
+
+def limited(kilobytes, words, given):
+    """Runs a command with an address space of so many kilobytes."""
+    shell = ["sh", "-c", 'ulimit -v "$0"; exec "$@"', str(kilobytes)]
+    ran = subprocess.run([*shell, *words], input=given, capture_output=True, check=False)
+    return [ran.returncode, ran.stdout.decode(), ran.stderr.decode()]
+
+
+def least_room(program):
+    """The kilobytes, in steps, with which the program starts: with less the loader finds no room for it."""
+    return next(it for it in itertools.count(STEP, STEP) if limited(it, [program], b"")[0] == 2)
+
+
+def try_limits(program, command):
+    """Runs a command with more and more address space, and returns how many runs were refused, and what is wrong."""
+    words, least = [program, *command.split()], least_room(program)
+    packages = "".join(f"package p{i}\n" for i in range(SIZE))
+    links = "".join(f"link p{i} p{(7 * i + 3) % SIZE} dev\n" for i in range(SIZE))
+    given = (LINES + packages + links).encode()
+    wanted = subprocess.run(words, input=given, capture_output=True, check=True).stdout.decode()
+    for number in range(MANY):
+        outcome = limited(least + number * STEP, words, given)
+        if outcome == [0, wanted, ""]:
+            return number, None if number else "it was refused nowhere"
+        if outcome != [1, "", TOLD]:
+            return number, f"with {least + number * STEP} kilobytes status, output and errors are {outcome}"
+    return MANY, "it finds room nowhere"
+
+
+def read_lines(file):
+    with open(os.path.join(CRATES, "guppy_refusals", file), encoding="utf-8") as opened:
+        return opened.read().splitlines()
+
+
+def transcripts(cases):
+    """What the cases tell with ample memory, one after another, each behind its name."""
+    lines = read_lines("stdout")
+    starts = [lines.index(case) for case in cases] + [len(lines)]
+    return {case: lines[start + 1 : end] for case, start, end in zip(cases, starts, starts[1:])}
+
+
+def outcomes_of(workers, tries, over):
+    """Tries each of a list at once, tells what is wrong, and returns how many failed, and how much was refused."""
+    trying = [(name, workers.submit(tries, name)) for name in over]
+    failed = refused = 0
+    for name, outcome in trying:
+        count, wrong = outcome.result()
+        refused += count
+        if wrong is not None:
+            failed += 1
+            print(f"refusals: {name}: FAILED: {wrong}", flush=True)
+    return failed, refused
+
+
+def try_build(workers, shim, ending):
+    """Tries all that one of the compilers built, and returns how many were tried, and how many failed."""
+    checks, program = (os.path.join(CRATES, it, "out", it + ending) for it in ("guppy_refusals", "guppy_run"))
+    cases = read_lines("args")
+    full = transcripts(cases)
+    quiet = sum(case.startswith("quiet.") for case in cases)
+    print(f"refusals, {BUILDS[ending]}:")
+    cut, refused = outcomes_of(workers, lambda case: try_case(shim, checks, case, full[case]), cases)
+    print(f"  {len(cases) - quiet} cases, of which {refused} requests were refused; {quiet} cases that make none")
+    lost, refused = outcomes_of(workers, lambda command: try_program(shim, program, command), COMMANDS)
+    print(f"  {len(COMMANDS)} commands, of which {refused} requests were refused")
+    crashed, refused = outcomes_of(workers, lambda command: try_limits(program, command), COMMANDS)
+    print(f"  {len(COMMANDS)} commands with less and less room, of which {refused} runs were refused")
+    return len(cases) + 2 * len(COMMANDS), cut + lost + crashed
+
+
+def main():
+    tried = failed = 0
+    with tempfile.TemporaryDirectory() as room, ThreadPoolExecutor(os.cpu_count()) as workers:
+        shim = os.path.join(room, "refuse.so")
+        flags = ["-O2", "-Wall", "-Wextra", "-Werror", "-shared", "-fPIC"]
+        subprocess.run(["cc", *flags, "-o", shim, os.path.join(HERE, "refuse.c"), "-ldl"], check=True)
+        for ending in BUILDS:
+            if ending == "" or os.path.exists(os.path.join(CRATES, "guppy_run", "out", f"guppy_run{ending}")):
+                outcomes = try_build(workers, shim, ending)
+                tried, failed = tried + outcomes[0], failed + outcomes[1]
+    print(f"{tried - failed} passed, {failed} failed")
+    return failed != 0
+
+
+if __name__ == "__main__":
+    sys.exit(main())

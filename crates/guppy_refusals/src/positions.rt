@@ -1,0 +1,270 @@
+//! Graphs, sets, indexes and components by position.
+ghost use Rattle.std.specs.Prelude.{◌≡◌, length, IfOk};
+ghost use Rattle.std.specs.List.{concat};
+
+use crate::told::{begin, tell, tell_line};
+use guppy::graph::{DependencyDirection, IndexType, PackageIx};
+use guppy::positions::{
+    CountedGraph, EdgeDfs, Graph, GraphSpec, IxSet, Link, ResolveCore, Sccs, TopoWithCycles,
+    reachable,
+};
+use guppy_input::fault::RunFault;
+use std::alloc::{AllocError, Global};
+
+/// A graph whose links say whether they are dev-only.
+pub(crate) enum DevLinks {}
+
+impl GraphSpec for DevLinks {
+    type Node = ();
+
+    type Edge = bool;
+
+    type Ix = PackageIx;
+}
+
+const FORWARD: DependencyDirection = DependencyDirection::Forward;
+
+// Two that lead to each other, with one before them, one behind, and a link from one to itself.
+const ENDS: [(usize, usize, bool); 5] = [
+    (0, 1, false),
+    (1, 2, false),
+    (2, 1, true),
+    (2, 3, true),
+    (3, 3, false),
+];
+
+// Of so many nodes, each with a link to the place that is seven times its own and three more, and one to eleven
+// times and five more.
+const MANY: usize = 1000;
+
+fn many_parts(alloc: Global) -> Result<(Vec<()>, Vec<Link<bool>>), AllocError> {
+    let nodes = vec![in alloc; (); MANY]?;
+    let mut links = Vec::new(alloc);
+    for from in 0..MANY {
+        for to in [(7 * from + 3) % MANY, (11 * from + 5) % MANY] {
+            let edge = false;
+            links.push(Link { from, to, edge })?;
+        }
+    }
+    Ok((nodes, links))
+}
+
+fn parts_of(alloc: Global) -> Result<(Vec<()>, Vec<Link<bool>>), AllocError> {
+    let nodes = vec![in alloc; (); 4]?;
+    let mut links = Vec::new(alloc);
+    for (from, to, edge) in ENDS {
+        links.push(Link { from, to, edge })?;
+    }
+    Ok((nodes, links))
+}
+
+fn made_of(nodes: Vec<()>, links: Vec<Link<bool>>) -> Result<Graph<DevLinks>, AllocError> {
+    match Graph::from_parts(nodes, links) {
+        Ok(graph) => Ok(graph),
+        Err(_) => Err(AllocError),
+    }
+}
+
+pub(crate) fn graph_of(alloc: Global) -> Result<Graph<DevLinks>, AllocError> {
+    let (nodes, links) = parts_of(alloc)?;
+    made_of(nodes, links)
+}
+
+/// The set of those of the positions that the graph has.
+pub(crate) fn set_of(
+    graph: &Graph<DevLinks>,
+    positions: &[usize],
+) -> Result<IxSet<DevLinks>, AllocError>
+    ensures { IfOk result (λ set. length set ≡ length graph.now.nodes) }
+{
+    let mut set = IxSet::empty(graph.alloc(), graph.node_count())?;
+    for position in positions {
+        if *position < graph.node_count() && *position < 4_294_967_295 {
+            set.insert_position(*position);
+        }
+    }
+    Ok(set)
+}
+
+pub(crate) fn tell_positions(rt: &impl Print, set: &IxSet<DevLinks>) {
+    for ix in set.ones() {
+        tell(rt, ix);
+    }
+    tell_line(rt, &"positions");
+}
+
+fn tell_list(rt: &impl Print, positions: &[PackageIx]) {
+    for ix in positions {
+        tell(rt, *ix);
+    }
+    tell_line(rt, &"in this order");
+}
+
+fn index_of(graph: &Graph<DevLinks>) -> Result<TopoWithCycles<PackageIx>, AllocError>
+    ensures { IfOk result (λ topo. length topo ≡ length graph.now.nodes) }
+{
+    let mut counted = CountedGraph::new(graph);
+    let _node_count = counted.node_count();
+    TopoWithCycles::new(&mut counted, |is_dev_only: &bool| !*is_dev_only)
+}
+
+fn components_of(
+    graph: &Graph<DevLinks>,
+    topo: &TopoWithCycles<PackageIx>,
+) -> Result<Sccs<PackageIx>, AllocError>
+    requires { length topo.now ≡ length graph.now.nodes }
+    ensures { IfOk result (λ sccs. length (concat sccs) ≡ length graph.now.nodes) }
+{
+    let mut counted = CountedGraph::new(graph);
+    let _node_count = counted.node_count();
+    Sccs::new(&mut counted, topo)
+}
+
+// The components. Their making, or that of the index, is the call where it is asked for.
+fn components(
+    rt: &impl Print,
+    graph: &Graph<DevLinks>,
+    call: &str,
+) -> Result<Sccs<PackageIx>, AllocError>
+    ensures { IfOk result (λ sccs. length (concat sccs) ≡ length graph.now.nodes) }
+{
+    if call == "index" {
+        begin(rt);
+    }
+    let topo = index_of(graph)?;
+    if call == "components" {
+        begin(rt);
+    }
+    components_of(graph, &topo)
+}
+
+fn made(
+    rt: &impl Print,
+    graph: &Graph<DevLinks>,
+    x: &IxSet<DevLinks>,
+    y: &IxSet<DevLinks>,
+    call: &str,
+) -> Result<IxSet<DevLinks>, AllocError>
+    requires x { length x.now ≡ length graph.now.nodes }
+    requires y { length y.now ≡ length graph.now.nodes }
+{
+    begin(rt);
+    match call {
+        "difference" => x.difference(y),
+        "clone" => x.clone(),
+        "reachable" => reachable(graph, x, FORWARD),
+        _ => IxSet::empty(graph.alloc(), graph.node_count()),
+    }
+}
+
+fn made_core(
+    rt: &impl Print,
+    graph: &Graph<DevLinks>,
+    x: &ResolveCore<DevLinks>,
+    y: &ResolveCore<DevLinks>,
+    call: &str,
+) -> Result<ResolveCore<DevLinks>, AllocError>
+    requires x { length x.now ≡ length graph.now.nodes }
+    requires y { length y.now ≡ length graph.now.nodes }
+{
+    begin(rt);
+    match call {
+        "core_difference" => x.difference(y),
+        "core_clone" => x.clone(),
+        "core_new" => ResolveCore::new(graph, x.included(), FORWARD),
+        "core_all_nodes" => ResolveCore::all_nodes(graph),
+        _ => ResolveCore::empty(graph.alloc(), graph.node_count()),
+    }
+}
+
+fn ask_lists(
+    rt: &impl Print,
+    graph: &Graph<DevLinks>,
+    x: &ResolveCore<DevLinks>,
+    call: &str,
+) -> Result<(), AllocError>
+    requires x { length x.now ≡ length graph.now.nodes }
+{
+    let sccs = components(rt, graph, call)?;
+    match call {
+        "externals" => {
+            begin(rt);
+            let roots = sccs.externals(graph, x.included(), FORWARD)?;
+            tell_list(rt, roots.as_slice());
+        }
+        "core_roots" => {
+            begin(rt);
+            let roots = x.roots(graph, &sccs, FORWARD)?;
+            tell_list(rt, roots.as_slice());
+        }
+        "core_links" => {
+            begin(rt);
+            for (_, _, number) in x.links(graph, &sccs, FORWARD)? {
+                tell(rt, number);
+            }
+            tell_line(rt, &"links");
+        }
+        "edge_dfs" => {
+            begin(rt);
+            for (_, _, number) in EdgeDfs::new(graph, x.included(), FORWARD, x.included())? {
+                tell(rt, number);
+            }
+            tell_line(rt, &"links");
+        }
+        _ => {
+            let order: Vec<PackageIx> = sccs.node_iter(FORWARD).collect(graph.alloc())?;
+            tell_list(rt, order.as_slice());
+        }
+    }
+    Ok(())
+}
+
+fn ask_graph(rt: &impl Print, alloc: Global, is_large: bool) -> Result<(), AllocError> {
+    let (nodes, links) = if is_large {
+        many_parts(alloc)?
+    } else {
+        parts_of(alloc)?
+    };
+    begin(rt);
+    let graph = made_of(nodes, links)?;
+    tell(rt, graph.node_count());
+    tell_line(rt, &graph.link_count());
+    Ok(())
+}
+
+fn ask_core(rt: &impl Print, graph: &Graph<DevLinks>, call: &str) -> Result<(), AllocError> {
+    let x = ResolveCore::from_included(set_of(graph, &[0, 1])?);
+    let y = ResolveCore::from_included(set_of(graph, &[1, 2])?);
+    tell_positions(rt, x.included());
+    match call {
+        "core_difference" | "core_clone" | "core_new" | "core_all_nodes" | "core_empty" => {
+            let set = made_core(rt, graph, &x, &y, call);
+            tell_positions(rt, x.included());
+            tell_positions(rt, set?.included());
+        }
+        _ => {
+            let told = ask_lists(rt, graph, &x, call);
+            tell_positions(rt, x.included());
+            told?;
+        }
+    }
+    Ok(())
+}
+
+pub(crate) fn ask(rt: &impl Print, alloc: Global, call: &str) -> Result<(), RunFault> {
+    let graph = graph_of(alloc)?;
+    let x = set_of(&graph, &[0, 1])?;
+    let y = set_of(&graph, &[1, 2])?;
+    match call {
+        "from_parts" => ask_graph(rt, alloc, false)?,
+        "thousand_by_sevens" => ask_graph(rt, alloc, true)?,
+        "difference" | "clone" | "reachable" | "empty" => {
+            tell_positions(rt, &x);
+            let set = made(rt, &graph, &x, &y, call);
+            tell_positions(rt, &x);
+            tell_positions(rt, &set?);
+        }
+        _ => ask_core(rt, &graph, call)?,
+    }
+    Ok(())
+}

@@ -1,0 +1,33 @@
+//! Queries.
+use crate::told::begin;
+use crate::world::{World, tell_query};
+use guppy::graph::DependencyDirection;
+use guppy::{PackageQuery, Utf8Path};
+use guppy_input::fault::RunFault;
+
+fn made<'g>(rt: &impl Print, world: &World<'g>, call: &str) -> Result<PackageQuery<'g>, RunFault> {
+    let graph = world.graph;
+    let ids = [world.c, world.a];
+    let paths = [Utf8Path::new("c/."), Utf8Path::new("a")];
+    let package = graph.metadata(world.b)?;
+    begin(rt);
+    let query = match call {
+        "query_workspace" => graph.query_workspace()?,
+        "query_workspace_paths" => graph.query_workspace_paths(paths.into_iter())?,
+        "query_workspace_names" => graph.query_workspace_names(["c", "a"].into_iter())?,
+        "query_directed" => { graph.query_directed(ids.into_iter(), DependencyDirection::Reverse)? }
+        "query_forward" => graph.query_forward(ids.into_iter())?,
+        "query_reverse" => graph.query_reverse(ids.into_iter())?,
+        "unknown_path" => graph.query_workspace_paths([Utf8Path::new("z")].into_iter())?,
+        "unknown_name" => graph.query_workspace_names(["a", "z"].into_iter())?,
+        "set_to_package_query" => world.x.to_package_query(DependencyDirection::Reverse)?,
+        "package_to_package_query" => package.to_package_query(DependencyDirection::Reverse)?,
+        _ => world.query.clone()?,
+    };
+    Ok(query)
+}
+
+pub(crate) fn ask(rt: &impl Print, world: &World<'_>, call: &str) -> Result<(), RunFault> {
+    tell_query(rt, &made(rt, world, call)?);
+    Ok(())
+}

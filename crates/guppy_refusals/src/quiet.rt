@@ -1,0 +1,174 @@
+//! Calls that take no memory.
+ghost use Rattle.std.specs.Prelude.{◌≡◌, length};
+
+use crate::positions::{DevLinks, graph_of, set_of, tell_positions};
+use crate::told::{begin, tell, tell_line, tell_set};
+use crate::world::{World, tell_graph};
+use guppy::graph::DependencyDirection;
+use guppy::platform::{EnabledTernary, PlatformSpec, TargetEval, TargetSpec};
+use guppy::positions::IxSet;
+use guppy::{CycleIds, DependsCache, Error, PackageMetadata, Utf8Path};
+use guppy_input::fault::RunFault;
+use std::alloc::{AllocError, Global};
+
+const FORWARD: DependencyDirection = DependencyDirection::Forward;
+
+const REVERSE: DependencyDirection = DependencyDirection::Reverse;
+
+// Answers nothing to each text.
+struct KnowsNothing;
+
+impl TargetEval for KnowsNothing {
+    ghost use Rattle.std.specs.Prelude.{None};
+
+    type Platform = ();
+
+    ghost answer = { λ _ _ _. None };
+
+    fn eval(&self, _spec: &TargetSpec, _platform: &()) -> Option<bool> {
+        None
+    }
+}
+
+fn ask_look_ups(rt: &impl Print, world: &World<'_>) -> Result<(), Error> {
+    let graph = world.graph;
+    begin(rt);
+    let package = graph.metadata(world.a)?;
+    tell(rt, package.name());
+    tell(rt, graph.directly_depends_on(world.a, world.b)?);
+    tell(rt, world.x.contains(world.c)?);
+    tell(rt, graph.cycles().is_cyclic(world.b, world.c)?);
+    tell(rt, package.link_between(world.b, FORWARD)?.is_some());
+    tell(rt, package.link_to(world.b)?.is_some());
+    tell_line(rt, &package.link_from(world.b)?.is_some());
+    Ok(())
+}
+
+fn ask_members(rt: &impl Print, world: &World<'_>) -> Result<(), Error> {
+    let workspace = world.graph.workspace();
+    begin(rt);
+    tell(rt, workspace.member_by_path(Utf8Path::new("b/."))?.name());
+    tell(rt, workspace.member_by_name("c")?.name());
+    for (path, _) in workspace.iter_by_path() {
+        tell(rt, path);
+    }
+    for (name, _) in workspace.iter_by_name() {
+        tell(rt, name);
+    }
+    tell_line(rt, &workspace.member_count());
+    Ok(())
+}
+
+// One of the fields that are texts, lists and statuses.
+fn tell_fields(rt: &impl Print, package: PackageMetadata<'_>) {
+    tell(rt, package.id());
+    tell(rt, package.in_workspace());
+    tell(rt, package.edition());
+    tell(rt, package.build_targets().len());
+    for link in package.direct_links() {
+        let status = link.normal().status();
+        let value = status.required_on(&PlatformSpec::Always, &KnowsNothing);
+        tell(rt, link.dep_name());
+        tell(rt, value == EnabledTernary::Enabled);
+    }
+    tell_line(rt, &"fields");
+}
+
+fn ask_fields(rt: &impl Print, world: &World<'_>) -> Result<(), Error> {
+    begin(rt);
+    for package in world.graph.packages() {
+        tell_fields(rt, package);
+    }
+    world.graph.verify()
+}
+
+fn tell_cycle(rt: &impl Print, cycle: CycleIds<'_>) {
+    for id in cycle {
+        tell(rt, id);
+    }
+    tell_line(rt, &"cycle");
+}
+
+fn ask_lists(rt: &impl Print, world: &World<'_>) {
+    begin(rt);
+    tell_graph(rt, world.graph);
+    for cycle in world.graph.cycles().all_cycles() {
+        tell_cycle(rt, cycle);
+    }
+    for cycle in world.graph.cycles().all_cycles().rev() {
+        tell_cycle(rt, cycle);
+    }
+    for package in world.x.packages(REVERSE) {
+        tell(rt, package.name());
+    }
+    tell(rt, world.x == world.y);
+    tell(rt, world.x.same_packages(&world.y));
+    tell_set(rt, &world.x);
+}
+
+// The iterators are made before.
+fn ask_iterators(rt: &impl Print, world: &World<'_>) -> Result<(), Error> {
+    let all = world.graph.resolve_all()?;
+    let links = all.links(FORWARD)?;
+    let ids = all.root_ids(FORWARD)?;
+    let packages = all.root_packages(REVERSE)?;
+    begin(rt);
+    for link in links {
+        tell(rt, link.link_ix());
+    }
+    for id in ids {
+        tell(rt, id);
+    }
+    for package in packages {
+        tell(rt, package.name());
+    }
+    tell_line(rt, &"left");
+    Ok(())
+}
+
+fn ask_cache(rt: &impl Print, world: &World<'_>) -> Result<(), Error> {
+    let mut cache = DependsCache::new(world.graph)?;
+    begin(rt);
+    tell(rt, cache.depends_on(world.a, world.c)?);
+    tell(rt, cache.depends_on(world.c, world.a)?);
+    tell_line(rt, &cache.depends_on(world.c, world.b)?);
+    Ok(())
+}
+
+fn tell_combined(rt: &impl Print, x: &mut IxSet<DevLinks>, y: &IxSet<DevLinks>)
+    requires { length x.old ≡ length y.now }
+{
+    begin(rt);
+    x.union_with(y);
+    tell_positions(rt, x);
+    x.symmetric_difference_with(y);
+    tell_positions(rt, x);
+    x.intersect_with(y);
+    tell_positions(rt, x);
+}
+
+fn ask_positions(rt: &impl Print, alloc: Global) -> Result<(), AllocError> {
+    let graph = graph_of(alloc)?;
+    let mut x = set_of(&graph, &[0, 1])?;
+    let y = set_of(&graph, &[1, 2])?;
+    tell_combined(rt, &mut x, &y);
+    Ok(())
+}
+
+pub(crate) fn ask(
+    rt: &impl Print,
+    alloc: Global,
+    world: &World<'_>,
+    call: &str,
+) -> Result<(), RunFault> {
+    match call {
+        "look_ups" => ask_look_ups(rt, world)?,
+        "members" => ask_members(rt, world)?,
+        "fields" => ask_fields(rt, world)?,
+        "lists" => ask_lists(rt, world),
+        "iterators" => ask_iterators(rt, world)?,
+        "cache" => ask_cache(rt, world)?,
+        _ => ask_positions(rt, alloc)?,
+    }
+    Ok(())
+}

@@ -1,0 +1,191 @@
+//! Resolves, plain and with visitors that count what they are shown.
+ghost use Rattle.std.specs.Prelude.{◌≡◌, ◌==◌, ◌||◌, ℕ, ◌+◌, ◌%◌, ◌^◌, ◌<◌, true, length, not};
+ghost use Rattle.guppy.specs.Visitors.{MayVisitAt};
+
+use crate::graph_of;
+use crate::told::{begin, tell, tell_calls, tell_line, tell_set};
+use crate::world::World;
+use guppy::graph::DependencyDirection;
+use guppy::{
+    Error, PackageGraph, PackageLink, PackageLinkContext, PackageLinkVisitor, PackageQuery,
+    PackageSet,
+};
+use guppy_input::fault::RunFault;
+use guppy_input::input::records_of;
+use std::alloc::Global;
+
+const FORWARD: DependencyDirection = DependencyDirection::Forward;
+
+const DIAMOND: &[u8] = b"package a\npackage b\npackage c\npackage d\n\
+    link a b normal\nlink a c normal\nlink b d normal\nlink c d normal\n";
+
+// Refuses its second call, and counts all.
+#[derive(Drop)]
+struct RefusesSecond {
+    calls: usize,
+}
+
+impl PackageLinkVisitor for RefusesSecond {
+    ghost visits = { λ s _ _ answer t. (t.calls ≡ (s.calls + 1) % 2 ^ 64)
+        × (answer ≡ not (t.calls == 2)) };
+
+    fn visit_link(&mut self, _cx: &PackageLinkContext<'_>, _link: PackageLink<'_>) -> bool {
+        self.calls = self.calls.wrapping_add(1);
+        self.calls != 2
+    }
+}
+
+fn resolved_with<'g, V: PackageLinkVisitor + Drop>(
+    query: PackageQuery<'g>,
+    visitor: V,
+) -> Result<PackageSet<'g>, Error>
+    requires { (n : ℕ) → n < length query.graph.links → MayVisitAt V.can_visit query visitor n }
+{
+    query.resolve_with(visitor)
+}
+
+// The visitor is lent, or handed over as a reference or behind a `dyn`.
+fn ask_counted(rt: &impl Print, query: PackageQuery<'_>, call: &str) -> Result<(), Error> {
+    let mut counter = RefusesSecond { calls: 0 };
+    tell_calls(rt, counter.calls);
+    begin(rt);
+    let set = match call {
+        "resolve_with_mut" => query.resolve_with_mut(&mut counter),
+        "resolve_with_dyn" => {
+            let visitor: &mut dyn PackageLinkVisitor = &mut counter;
+            resolved_with(query, visitor)
+        }
+        _ => resolved_with(query, &mut counter),
+    };
+    tell_calls(rt, counter.calls);
+    tell_set(rt, &set?);
+    Ok(())
+}
+
+fn ask_closure(rt: &impl Print, query: PackageQuery<'_>, call: &str) -> Result<(), Error> {
+    let mut calls = 0_usize;
+    tell_calls(rt, calls);
+    begin(rt);
+    let mut visitor = |_cx: &PackageLinkContext<'_>, _link: PackageLink<'_>| {
+        calls = calls.wrapping_add(1);
+        calls != 2
+    };
+    let set = if call == "resolve_with_fn_mut" {
+        query.resolve_with_fn_mut(&mut visitor)
+    } else {
+        query.resolve_with_fn(visitor)
+    };
+    tell_calls(rt, calls);
+    tell_set(rt, &set?);
+    Ok(())
+}
+
+fn ask_recorded(rt: &impl Print, query: PackageQuery<'_>) -> Result<(), Error> {
+    begin(rt);
+    let (set, recorder) = query.resolve_recorded(RefusesSecond { calls: 0 })?;
+    for (number, is_accepted) in &recorder.entries {
+        tell(rt, *number);
+        tell(rt, *is_accepted);
+    }
+    tell_set(rt, &set);
+    Ok(())
+}
+
+fn resolved_in_a_box<'g>(alloc: Global, query: PackageQuery<'g>) -> Result<PackageSet<'g>, Error> {
+    let visitor: Box<dyn PackageLinkVisitor + Drop> = Box::new(alloc, RefusesSecond { calls: 0 })?;
+    resolved_with(query, visitor)
+}
+
+fn ask_box(rt: &impl Print, alloc: Global, query: PackageQuery<'_>) -> Result<(), Error> {
+    begin(rt);
+    tell_set(rt, &resolved_in_a_box(alloc, query)?);
+    Ok(())
+}
+
+fn ask_plain(rt: &impl Print, query: PackageQuery<'_>) -> Result<(), Error> {
+    begin(rt);
+    tell_set(rt, &query.resolve()?);
+    Ok(())
+}
+
+// Refuses the first link to the package d, and no other, and counts all.
+#[derive(Drop)]
+struct RefusesOnce {
+    calls: usize,
+    has_refused: bool,
+}
+
+impl PackageLinkVisitor for RefusesOnce {
+    ghost visits = { λ s _ _ answer t. (t.calls ≡ (s.calls + 1) % 2 ^ 64)
+        × (s.has_refused ≡ true → answer ≡ true)
+        × (t.has_refused ≡ (s.has_refused || not answer)) };
+
+    fn visit_link(&mut self, _cx: &PackageLinkContext<'_>, link: PackageLink<'_>) -> bool {
+        self.calls = self.calls.wrapping_add(1);
+        if self.has_refused || link.to().name() != "d" {
+            return true;
+        }
+        self.has_refused = true;
+        false
+    }
+}
+
+// Forward from the package a.
+fn ask_diamond(rt: &impl Print, graph: &PackageGraph) -> Result<(), Error> {
+    let first = graph.workspace().member_by_name("a")?;
+    let query = first.to_package_query(FORWARD)?;
+    let mut visitor = RefusesOnce {
+        calls: 0,
+        has_refused: false,
+    };
+    tell_calls(rt, visitor.calls);
+    begin(rt);
+    let set = query.resolve_with_mut(&mut visitor);
+    tell_calls(rt, visitor.calls);
+    tell_set(rt, &set?);
+    Ok(())
+}
+
+// Copies the context at its first call, and keeps whether that was refused.
+fn ask_context(rt: &impl Print, query: PackageQuery<'_>) -> Result<(), Error> {
+    let mut is_refused = false;
+    let mut is_told = false;
+    query.resolve_with_fn(|cx, link| {
+        if !is_told {
+            is_told = true;
+            begin(rt);
+            match cx.clone() {
+                Ok(copy) => tell_line(rt, &copy.starts_from_initial(&link)),
+                Err(_) => is_refused = true,
+            }
+        }
+        true
+    })?;
+    if is_refused {
+        return Err(Error::OutOfMemory);
+    }
+    Ok(())
+}
+
+pub(crate) fn ask(
+    rt: &impl Print,
+    alloc: Global,
+    world: &World<'_>,
+    call: &str,
+) -> Result<(), RunFault> {
+    if call == "diamond_under_refusals" {
+        let graph = graph_of(records_of(alloc, DIAMOND)?)?;
+        ask_diamond(rt, &graph)?;
+        return Ok(());
+    }
+    let query = world.query.clone()?;
+    match call {
+        "resolve" => ask_plain(rt, query)?,
+        "resolve_recorded" => ask_recorded(rt, query)?,
+        "resolve_with_box" => ask_box(rt, alloc, query)?,
+        "resolve_with_fn" | "resolve_with_fn_mut" => ask_closure(rt, query, call)?,
+        "context_clone" => ask_context(rt, query)?,
+        _ => ask_counted(rt, query, call)?,
+    }
+    Ok(())
+}

@@ -1,0 +1,64 @@
+//! Sets that are made of names or of sets.
+ghost use Rattle.std.specs.Prelude.{◌≡◌};
+ghost use Rattle.guppy.specs.Ids.{ids_of};
+
+use crate::told::{begin, tell_line, tell_set};
+use crate::world::World;
+use guppy::{PackageSet, Utf8Path};
+use guppy_input::fault::RunFault;
+
+// The set that a maker makes.
+fn made<'g>(rt: &impl Print, world: &World<'g>, call: &str) -> Result<PackageSet<'g>, RunFault> {
+    let graph = world.graph;
+    let paths = [Utf8Path::new("c/."), Utf8Path::new("a")];
+    let package = graph.metadata(world.b)?;
+    begin(rt);
+    let set = match call {
+        "resolve_none" => graph.resolve_none()?,
+        "resolve_workspace" => graph.resolve_workspace()?,
+        "resolve_package_name" => graph.resolve_package_name("b")?,
+        "resolve_ids" => graph.resolve_ids([world.c, world.a].into_iter())?,
+        "resolve_workspace_paths" => graph.resolve_workspace_paths(paths.into_iter())?,
+        "resolve_workspace_names" => graph.resolve_workspace_names(["c", "a"].into_iter())?,
+        "unknown_path" => { graph.resolve_workspace_paths([Utf8Path::new("z")].into_iter())? }
+        "unknown_name" => graph.resolve_workspace_names(["a", "z"].into_iter())?,
+        "to_package_set" => package.to_package_set()?,
+        "clone" => world.x.clone()?,
+        _ => graph.resolve_all()?,
+    };
+    Ok(set)
+}
+
+fn combined<'g>(
+    x: &PackageSet<'g>,
+    y: &PackageSet<'_>,
+    call: &str,
+) -> Result<PackageSet<'g>, RunFault>
+    requires { ids_of x.now.graph.packages ≡ ids_of y.now.graph.packages }
+{
+    let set = match call {
+        "union" => x.union(y)?,
+        "intersection" => x.intersection(y)?,
+        "difference" => x.difference(y)?,
+        _ => x.symmetric_difference(y)?,
+    };
+    Ok(set)
+}
+
+fn ask_combined(rt: &impl Print, world: &World<'_>, call: &str) -> Result<(), RunFault> {
+    if !world.x.same_packages(&world.y) {
+        tell_line(rt, &"sets of two graphs");
+        return Ok(());
+    }
+    begin(rt);
+    tell_set(rt, &combined(&world.x, &world.y, call)?);
+    Ok(())
+}
+
+pub(crate) fn ask(rt: &impl Print, world: &World<'_>, call: &str) -> Result<(), RunFault> {
+    if let "union" | "intersection" | "difference" | "symmetric_difference" = call {
+        return ask_combined(rt, world, call);
+    }
+    tell_set(rt, &made(rt, world, call)?);
+    Ok(())
+}
