@@ -12,14 +12,13 @@
 //! answer is right, ` or ` stands between them. A question's first word tells the module that answers it:
 //! `package` and `workspace` go to `views`, `resolve` to `queries`, `looks`, `in-turn`,
 //! `everything` and `shown` to `large`, `beside` to `sets`, all others to `graphs`.
-use crate::faults;
 use crate::graphs::{self, ask_graph};
 use crate::large::{self, ask_large};
-use crate::lists;
 use crate::queries::{self, ask_query};
 use crate::records::{graph_of, ids};
 use crate::sets::{self, beside, other_graph};
 use crate::views::{self, ask_package, ask_workspace};
+use crate::{faults, lists};
 use guppy::set::laws::resolved_sets_are_whole;
 use guppy::{Error, PackageGraph, PackageId};
 use std::alloc::{AllocError, Global};
