@@ -1,10 +1,10 @@
 #!/usr/bin/env python3
 """Refuses each request for memory in turn, to the cases of guppy_refusals and to the program.
 
-Both are run as the gate built them, in crates/*/out, with refuse.c preloaded, which has the C library refuse one
-request. Each case and each command is run with its first request refused, then with its second, until a run has
-no request left to refuse. The program is also run with less and less address space, so that many are refused.
-The last line is 'N passed, M failed'.
+Both are run as the gate built them, in crates/*/out, with refuse.c preloaded, which has the C library refuse
+requests. Each case and each command is run with its first request refused, then with its second, until a run has
+no request left to refuse; each time once with this one alone, and once with those after it too. The program is also
+run with less and less address space. The last line is 'N passed, M failed'.
 """
 
 import itertools
@@ -62,7 +62,10 @@ COMMANDS = [
 
 
 def run(shim, words, number, part, given=b""):
-    """Runs a command with the request of this number refused, and returns what each request got, too."""
+    """Runs a command with the request of this number refused, or with a + those after it too.
+
+    Returns status, output, errors, and a letter for each request, r where it was refused.
+    """
     reader, writer = os.pipe()
     environment = {"LD_PRELOAD": shim, "REFUSE": str(number), "REFUSE_IN": part, "REFUSE_TO": str(writer)}
     streams = {"stdin": subprocess.PIPE, "stdout": subprocess.PIPE, "stderr": subprocess.PIPE}
@@ -79,12 +82,13 @@ def run(shim, words, number, part, given=b""):
 def in_turn(tries, most):
     """Refuses the first request, the second and so on, and returns how many there are, and what is wrong.
 
-    tries(n) refuses the n-th, and returns whether there was one, and what is wrong.
+    tries(number) refuses the request of this number, and returns whether there was one, and what is wrong.
     """
     for number in range(1, most + 2):
-        was_refused, wrong = tries(number)
-        if wrong is not None:
-            return number - 1, f"request {number}: {wrong}"
+        for which in (str(number), f"{number}+"):
+            was_refused, wrong = tries(which)
+            if wrong is not None:
+                return number - 1, f"request {which}: {wrong}"
         if not was_refused:
             return number - 1, None
     return most, f"it makes more than {most} requests"
@@ -108,6 +112,7 @@ def wrong_in(lines, full):
 
 def try_case(shim, program, case, full):
     """Refuses each request of a case in turn, and returns how many there are, and what is wrong."""
+    shown = set()
 
     def tries(number):
         status, output, errors, told = run(shim, [program, case], number, "call")
@@ -117,15 +122,20 @@ def try_case(shim, program, case, full):
             return was_refused, f"status {status}, and it said {errors!r}"
         if lines == full:
             return was_refused, None
+        shown.add(number)
         return was_refused, wrong_in(lines, full) if was_refused else f"it told {lines}, where {full} is the answer"
 
     if full[:WORLD] != full[-WORLD:]:
         return 0, "a call with ample memory changed what stood before it"
     if case.startswith("quiet."):
-        was_refused, wrong = tries(0)
+        was_refused, wrong = tries("1+")
         return 0, "it made a request" if was_refused else wrong
     count, wrong = in_turn(tries, FEWEST.get(case, MANY))
-    return count, wrong if count or wrong else "none of its requests was refused"
+    if wrong is None and not count:
+        wrong = "none of its requests was refused"
+    if wrong is None and f"{count}+" not in shown:
+        wrong = "a refusal shows nowhere"
+    return count, wrong
 
 
 def try_program(shim, program, command):

@@ -2,11 +2,13 @@
  * Refuses one request for memory. To be preloaded.
  *
  * REFUSE is the number of the request that malloc, calloc, realloc, posix_memalign, aligned_alloc or memalign
- * refuses, where those that count are numbered from 1; 0 refuses each. What counts is said by REFUSE_IN:
+ * refuses, where those that count are numbered from 1. With a "+" behind it those after it are refused too, up
+ * to the end of the part that counts. What counts is said by REFUSE_IN:
  *
  * - "main": each request from the start of main on. What the loader and the C library take before is not the
  *   program's, and the loader doesn't ask here.
- * - "call": each request between two lines that the program writes to standard output, "call" and "done".
+ * - "call": each request between two lines that the program writes to standard output, "call" and "done". Behind
+ *   a "done" that comes after a refusal none is refused any more.
  *
  * A letter goes to the file descriptor REFUSE_TO for each request that counts: r where it was refused, else c.
  */
@@ -25,6 +27,7 @@ extern void *__libc_realloc(void *, size_t);
 extern void *__libc_memalign(size_t, size_t);
 
 static long chosen;
+static int goes_on;
 static long count;
 static int told_to;
 static int is_open;
@@ -36,7 +39,7 @@ static int refuses(void)
     if (!is_open)
         return 0;
     count++;
-    int is_refused = chosen == 0 || count == chosen;
+    int is_refused = count == chosen || (goes_on && count > chosen);
     syscall(SYS_write, told_to, is_refused ? "r" : "c", 1);
     if (is_refused)
         errno = ENOMEM;
@@ -82,8 +85,10 @@ static ssize_t writes(int file, const void *bytes, size_t size)
     if (is_by_call && file == 1 && size == 5) {
         if (memcmp(bytes, "call\n", 5) == 0)
             is_open = 1;
-        if (memcmp(bytes, "done\n", 5) == 0)
+        if (memcmp(bytes, "done\n", 5) == 0) {
             is_open = 0;
+            goes_on = goes_on && count < chosen;
+        }
     }
     return syscall(SYS_write, file, bytes, size);
 }
@@ -107,6 +112,7 @@ static int our_main(int words, char **word, char **environment)
     const char *to = getenv("REFUSE_TO");
     if (number && part && to) {
         chosen = atol(number);
+        goes_on = strchr(number, '+') != NULL;
         told_to = atoi(to);
         is_by_call = strcmp(part, "call") == 0;
         is_open = !is_by_call;
