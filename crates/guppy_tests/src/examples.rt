@@ -13,14 +13,13 @@
 //! `0+..=2+` for 0+ 1+ 2+; the answers of a line that begins with `sorted` may have their words in any order. A
 //! question's first word tells the module that answers it: `package` and `workspace` go to `views`,
 //! `resolve` to `queries`, `looks` to `lists`, `beside` to `sets`, all others to `graphs`.
-use crate::faults;
 use crate::graphs::{self, ask_graph};
-use crate::large;
 use crate::lists::{self, put_looks};
 use crate::queries::{self, ask_query};
 use crate::records::{graph_of, ids};
 use crate::sets::{self, beside, other_graph};
 use crate::views::{self, ask_package, ask_workspace};
+use crate::{faults, large};
 use guppy::set::laws::resolved_sets_are_whole;
 use guppy::{Error, PackageGraph, PackageId};
 use std::alloc::{AllocError, Global};
