@@ -1,5 +1,6 @@
 //! Searches of small graphs with filters that hand links back.
-ghost use Rattle.std.specs.Prelude.{◌<◌, All, IfOk};
+ghost use Rattle.std.specs.Prelude.{◌≡◌, ◌<◌, Some, None, All, IfOk, OnErr, filter, nat_lt};
+ghost use Rattle.guppy_core_tests.specs.Noting.{Says};
 
 use crate::positions::{has_positions, set_of};
 use guppy_core::dfs::{
@@ -53,8 +54,8 @@ enum Asked {
     Filter(usize),
 }
 
-// It hands back links at one question, and none at the others. It keeps the questions, and answers
-// an error to the one that has so many before it.
+// It hands back those of its links that the graph has at one question, and none at the others. It keeps
+// the questions, and answers an error to the one that has so many before it.
 #[derive(Drop)]
 struct Recording<'a> {
     at: Asked,
@@ -70,7 +71,14 @@ impl Recording<'_> {
         link_count: usize,
         question: Asked,
     ) -> Result<Vec<usize>, AllocError>
-        ensures { IfOk result (λ handed. All (λ n. n < link_count) handed.items) }
+        ensures says { IfOk result (λ handed. Says self.old.at self.old.links.now link_count
+            self.old.fails_after self.old.asked.items question (Some handed.items)
+            self.new.asked.items) }
+        ensures error { OnErr result (Says self.old.at self.old.links.now link_count
+            self.old.fails_after self.old.asked.items question None self.new.asked.items) }
+        ensures links { IfOk result (λ handed. All (λ n. n < link_count) handed.items) }
+        ensures same { (self.new.at ≡ self.old.at) × (self.new.links ≡ self.old.links)
+            × (self.new.fails_after ≡ self.old.fails_after) }
     {
         let is_last = self.asked.len() >= self.fails_after;
         self.asked.push(question)?;
@@ -85,7 +93,9 @@ impl Recording<'_> {
 }
 
 fn links_below(alloc: Global, link_count: usize, links: &[usize]) -> Result<Vec<usize>, AllocError>
-    ensures { IfOk result (λ handed. All (λ n. n < link_count) handed.items) }
+    ensures below { IfOk result (λ handed. All (λ n. n < link_count) handed.items) }
+    ensures handed { IfOk result
+        (λ handed. handed.items ≡ filter (λ n. nat_lt n link_count) links.now) }
 {
     let mut handed = Vec::new(alloc);
     for link in links {
@@ -97,11 +107,17 @@ fn links_below(alloc: Global, link_count: usize, links: &[usize]) -> Result<Vec<
 }
 
 impl BufferedEdgeFilter<Stages> for Recording<'_> {
-    ghost use Rattle.std.specs.Prelude.{⊤};
+    ghost use Rattle.std.specs.Prelude.{◌≡◌, length};
+    ghost use Rattle.guppy_core_tests.specs.Noting.{Says};
+    ghost use Rattle.guppy_core_tests.specs.declared.buffered.Asked.TheVariants.{Discover, Filter};
 
-    ghost filters = { λ _ _ _ _ _. ⊤ };
+    ghost filters = { λ g s n answer t. Says s.at s.links.now (length g.links) s.fails_after
+        s.asked.items (Filter n) answer t.asked.items
+        × (t.at ≡ s.at) × (t.links ≡ s.links) × (t.fails_after ≡ s.fails_after) };
 
-    ghost discovers = { λ _ _ _ _ _. ⊤ };
+    ghost discovers = { λ g s p answer t. Says s.at s.links.now (length g.links) s.fails_after
+        s.asked.items (Discover p) answer t.asked.items
+        × (t.at ≡ s.at) × (t.links ≡ s.links) × (t.fails_after ≡ s.fails_after) };
 
     fn filter(&mut self, graph: &Graph<Stages>, link: usize) -> Result<Vec<usize>, AllocError> {
         self.answer(graph.alloc(), graph.link_count(), Asked::Filter(link))

@@ -1,8 +1,7 @@
 //! A visitor in a box, which is handed over by value and judged by what it noted.
-ghost use Rattle.std.specs.Prelude.{◌≡◌, ◌==◌, ℕ, ◌+◌, ◌%◌, ◌^◌, ◌<◌, length};
-ghost use Rattle.guppy.specs.Visitors.{MayVisitAt};
+ghost use Rattle.std.specs.Prelude.{◌≡◌, ◌==◌, ◌+◌, ◌%◌, ◌^◌};
 
-use crate::drawn::{Case, judge, query_of};
+use crate::drawn::{Case, judge, query_of, resolved};
 use crate::judge::Given;
 use crate::records::{numbered_graph, numbered_ids};
 use crate::visitors::Odd;
@@ -34,16 +33,6 @@ impl PackageLinkVisitor for Noting {
         self.notes.set(notes);
         answer
     }
-}
-
-fn resolved<'a, V: PackageLinkVisitor + Drop>(
-    rt: &impl Abort,
-    query: PackageQuery<'a>,
-    visitor: V,
-) -> PackageSet<'a>
-    requires { (n : ℕ) → n < length query.graph.links → MayVisitAt V.can_visit query visitor n }
-{
-    query.resolve_with(visitor).expect(rt, "a resolve")
 }
 
 // Resolves with a box of a visitor that accepts its odd calls and notes them.

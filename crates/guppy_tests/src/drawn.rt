@@ -10,7 +10,7 @@ use crate::sets::positions_of;
 use crate::visitors::{ByPattern, DevOnly, First, Odd, Rising};
 use guppy::graph::{DependencyDirection, IndexType, PackageIx};
 use guppy::positions::{BufferedEdgeFilter, Graph, IxSet, reachable_buffered};
-use guppy::{PackageGraph, PackageId, PackageLinkVisitor, PackageQuery, PackageSet};
+use guppy::{PackageGraph, PackageId, PackageLinkVisitor, PackageQuery, PackageSet, Recorder};
 use std::alloc::{AllocError, Global};
 use std::process::Abort;
 
@@ -109,6 +109,17 @@ pub(super) fn judge(
     assert!(rt; broken.is_none(), "{broken:?}");
 }
 
+/// What the query includes with the visitor.
+pub(super) fn resolved<'a, V: PackageLinkVisitor + Drop>(
+    rt: &impl Abort,
+    query: PackageQuery<'a>,
+    visitor: V,
+) -> PackageSet<'a>
+    requires { (n : ℕ) → n < length query.graph.links → MayVisitAt V.can_visit query visitor n }
+{
+    query.resolve_with(visitor).expect(rt, "a resolve")
+}
+
 fn judge_resolve<V: PackageLinkVisitor + Drop>(
     rt: &impl Abort,
     case: Case<'_>,
@@ -117,7 +128,9 @@ fn judge_resolve<V: PackageLinkVisitor + Drop>(
 )
     requires { (n : ℕ) → n < length query.graph.links → MayVisitAt V.can_visit query visitor n }
 {
-    let (set, recorder) = query.resolve_recorded(visitor).expect(rt, "a resolve");
+    let links = case.given.links.len();
+    let mut recorder = Recorder::new(case.graph.alloc(), visitor, links).expect(rt, "a recorder");
+    let set = resolved(rt, query, &mut recorder);
     judge(rt, case, recorder.entries.as_slice(), &set);
 }
 

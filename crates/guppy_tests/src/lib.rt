@@ -1,8 +1,9 @@
 //! Tests of package graphs through the public calls of `guppy` alone.
 //!
 //! They stand beside the library and not in it: a crate with tests is proved twice, with them and without.
-//! All are examples, written as texts: `records` says how a graph is written, and `examples` how a
-//! question and its answer are. `visitors` has a visitor with a stated meaning.
+//! Most are examples, written as texts: `records` says how a graph is written, and `examples` how a
+//! question and its answer are. `drawn` and `boxed` have graphs whose searches are judged, by `judge` and
+//! `reach`, and `visitors` the visitors, each with its meaning.
 #![tactic(auto)]
 
 #[cfg(test)]
