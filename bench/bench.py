@@ -16,9 +16,9 @@ import sys
 import tempfile
 import time
 
-from graphs import IDS, PROGRAM, WRAPPER, commands, written
+from graphs import IDS, PROGRAM, REFUSING, WRAPPER, commands, written
 
-GROWING = ("chain", "scattered", "layered", "dense", "star")
+GROWING = ("chain", "scattered", "acyclic", "layered", "dense", "star")
 
 
 def run(program, words, path):
@@ -37,7 +37,7 @@ def measure(words, path):
     """Seconds and peak mebibytes of the fastest of three runs."""
     runs = [run(PROGRAM, words, path) for _ in range(3)]
     for _, _, status in runs:
-        if status != 0:
+        if status != 0 and words not in REFUSING:
             sys.exit(f"bench: {' '.join(words)} ended with status {status}")
     return min(runs)[:2]
 

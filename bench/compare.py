@@ -12,14 +12,14 @@ import sys
 import tempfile
 
 from bench import run
-from graphs import GRAPHS, PROGRAM, commands, written
+from graphs import GRAPHS, PROGRAM, REFUSING, commands, written
 
 
 def compare(programs, words, path, rounds):
     """The least seconds and the greatest memory of each program; they take turns."""
     runs = [[run(program, words, path) for program in programs] for _ in range(rounds)]
     for program, (_, _, status) in zip(programs, runs[0]):
-        if status != 0 and words != ["verify"]:
+        if status != 0 and words not in REFUSING:
             sys.exit(f"compare: {program} {' '.join(words)} ended with status {status}")
     return [(min(seconds for seconds, _, _ in of), max(memory for _, memory, _ in of)) for of in zip(*runs)]
 

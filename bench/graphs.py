@@ -33,6 +33,13 @@ def scattered(count):
     return ids, [(a, b, picks.choice(kinds)) for a, b in sorted(pairs, key=lambda _: picks.random())]
 
 
+def acyclic(count):
+    """The same packages, with the links that aren't dev turned to lead from lower positions to higher ones."""
+    ids, links = scattered(count)
+    turned = {((a, b) if kind == "dev" else (min(a, b), max(a, b))): kind for a, b, kind in links}
+    return ids, [(a, b, kind) for (a, b), kind in turned.items()]
+
+
 def layered(count):
     """Half as many packages, as Cargo's graphs are: IDs of 70 bytes that share the first 60, links to lower packages
     near by, and a few dev links back."""
@@ -61,7 +68,7 @@ def plain_ids(count):
     return [f"p{i}" for i in range(count)]
 
 
-GRAPHS = {graph.__name__: graph for graph in (chain, ring, scattered, layered, dense, star)}
+GRAPHS = {graph.__name__: graph for graph in (chain, ring, scattered, acyclic, layered, dense, star)}
 
 # The bytes of IDs of one hash: none is a space, and none cuts a path.
 BYTES = bytes(byte for byte in range(33, 127) if byte not in b"/.\\")
@@ -135,7 +142,12 @@ def commands(first, last):
         "roots": ["roots", "forward"],
         "links": ["links", "forward"],
         "verify": ["verify"],
+        "publish-order": ["publish-order"],
     }
+
+
+# The commands that may answer a fault: a cycle over links that aren't dev.
+REFUSING = ["verify"], ["publish-order"]
 
 
 if __name__ == "__main__":

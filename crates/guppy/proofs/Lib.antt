@@ -15,3 +15,4 @@ pub mod Rooted
 pub mod Remaining
 pub mod Walking
 pub mod Same
+pub mod Leading

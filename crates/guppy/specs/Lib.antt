@@ -20,6 +20,7 @@ pub use Rattle.guppy_graph.specs.Accepted
 pub use Rattle.guppy_graph.specs.Cycles
 pub use Rattle.guppy_graph.specs.Depends
 pub use Rattle.guppy_graph.specs.DevOnly
+pub use Rattle.guppy_graph.specs.FirmCycles
 pub use Rattle.guppy_graph.specs.First
 pub use Rattle.guppy_graph.specs.Graph
 pub use Rattle.guppy_graph.specs.Ids
@@ -45,6 +46,7 @@ pub use Rattle.guppy_core.specs.Counted
 pub use Rattle.guppy_core.specs.Listing
 pub use Rattle.guppy_core.specs.Finish
 pub use Rattle.guppy_core.specs.Cost
+pub use Rattle.guppy_core.specs.Cycle
 pub use Rattle.guppy_core.specs.Topo
 pub use Rattle.guppy_core.specs.Mark
 pub use Rattle.guppy_core.specs.Claim

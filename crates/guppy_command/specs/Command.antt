@@ -6,7 +6,7 @@ use Rattle.guppy_search.specs.declared.ix.direction.DependencyDirection.TheVaria
 
 -- the packages that these reach in a direction, whether the first depends on the second, the
 -- packages in their order, the roots of all packages or the links walked from them in a direction,
--- the cycles, or whether the graph is a verified one
+-- the cycles, whether the graph is a verified one, or the members in an order to publish them
 pub data Command : Type 0 where
   reach : DependencyDirection → List (List ℕ) → Command
   depends : List ℕ → List ℕ → Command
@@ -15,6 +15,7 @@ pub data Command : Type 0 where
   links : DependencyDirection → Command
   cycles : Command
   verify : Command
+  publish_order : Command
 
 -- `forward` or `reverse`
 abbrev pub direction_of : List ℕ → Option DependencyDirection
@@ -37,9 +38,16 @@ abbrev pub lone_direction_of : List (List ℕ) → Option DependencyDirection
 lone_direction_of (word ∷ []) = direction_of word
 lone_direction_of _ = None
 
+-- `order`, `cycles`, `verify` or `publish-order`
+abbrev pub plain_command_of : List ℕ → Option Command
+plain_command_of word = if bytes_eq word (codes "order") then Some order
+    else (if bytes_eq word (codes "cycles") then Some cycles
+    else (if bytes_eq word (codes "verify") then Some verify
+    else (if bytes_eq word (codes "publish-order") then Some publish_order else None)))
+
 -- the command, with no word behind it
-abbrev pub alone : Command → List (List ℕ) → Option Command
-alone command [] = Some command
+abbrev pub alone : Option Command → List (List ℕ) → Option Command
+alone command [] = command
 alone command _ = None
 
 -- the command that the words give, if they give one
@@ -47,8 +55,6 @@ abbrev pub command_of : List (List ℕ) → Option Command
 command_of [] = None
 command_of (word ∷ words) = if bytes_eq word (codes "reach") then reach_of words
     else (if bytes_eq word (codes "depends") then depends_of words
-    else (if bytes_eq word (codes "order") then alone order words
     else (if bytes_eq word (codes "roots") then option_map roots (lone_direction_of words)
     else (if bytes_eq word (codes "links") then option_map links (lone_direction_of words)
-    else (if bytes_eq word (codes "cycles") then alone cycles words
-    else (if bytes_eq word (codes "verify") then alone verify words else None))))))
+    else alone (plain_command_of word) words)))

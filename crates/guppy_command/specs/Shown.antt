@@ -2,8 +2,8 @@
 use Rattle.std.specs.Prelude.{map}
 use Rattle.std.specs.String.{string_bytes}
 use Rattle.guppy_command.specs.declared.command.Command.{Command as GivenCommand}
-use Rattle.guppy_command.specs.declared.command.Command.TheVariants.{Reach, Depends, Order, Roots, Links, Cycles, Verify}
-use Rattle.guppy_command.specs.Command.{Command, reach, depends, order, roots, links, cycles, verify}
+use Rattle.guppy_command.specs.declared.command.Command.TheVariants.{Reach, Depends, Order, Roots, Links, Cycles, Verify, PublishOrder}
+use Rattle.guppy_command.specs.Command.{Command, reach, depends, order, roots, links, cycles, verify, publish_order}
 
 abbrev pub command_shown : GivenCommand → Command
 command_shown (Reach direction ids) = reach direction (map string_bytes ids.now)
@@ -13,3 +13,4 @@ command_shown (Roots direction) = roots direction
 command_shown (Links direction) = links direction
 command_shown Cycles = cycles
 command_shown Verify = verify
+command_shown PublishOrder = publish_order

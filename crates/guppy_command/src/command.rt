@@ -1,6 +1,6 @@
 //! What the arguments ask.
 ghost use Rattle.std.specs.Prelude.{◌≡◌, map, string_bytes, option_map};
-ghost use Rattle.guppy_command.specs.Command.{command_of, direction_of, lone_direction_of, reach_of, depends_of, alone};
+ghost use Rattle.guppy_command.specs.Command.{command_of, direction_of, lone_direction_of, reach_of, depends_of, plain_command_of, alone};
 ghost use Rattle.guppy_command.specs.Shown.{command_shown};
 
 use guppy_core::DependencyDirection;
@@ -22,6 +22,8 @@ pub enum Command<'a> {
     Cycles,
     /// Whether the graph is a verified graph.
     Verify,
+    /// The members of the workspace, each after those that it needs.
+    PublishOrder,
 }
 
 fn direction_of(word: &str) -> Option<DependencyDirection>
@@ -68,16 +70,29 @@ fn depends_of(words: &[String]) -> Option<Command<'_>>
     Some(Command::Depends(from.as_str(), to.as_str()))
 }
 
-// The command, where no words are behind it.
-fn alone<'a>(command: Command<'a>, words: &[String]) -> Option<Command<'a>>
-    ensures { option_map command_shown result
-        ≡ alone (command_shown command.entry) (map string_bytes words.now) }
+// The command of this one word.
+fn plain_command_of<'a>(word: &str) -> Option<Command<'a>>
+    ensures { option_map command_shown result ≡ plain_command_of word.now }
 {
-    if words.is_empty() {
-        Some(command)
+    if word == "order" {
+        Some(Command::Order)
+    } else if word == "cycles" {
+        Some(Command::Cycles)
+    } else if word == "verify" {
+        Some(Command::Verify)
+    } else if word == "publish-order" {
+        Some(Command::PublishOrder)
     } else {
         None
     }
+}
+
+// The command, where no words are behind it.
+fn alone<'a>(command: Option<Command<'a>>, words: &[String]) -> Option<Command<'a>>
+    ensures { option_map command_shown result
+        ≡ alone (option_map command_shown command.entry) (map string_bytes words.now) }
+{
+    if words.is_empty() { command } else { None }
 }
 
 /// The command that the arguments give, if they give one. Takes time linear in their lengths, and no memory.
@@ -91,17 +106,11 @@ pub fn command_of(args: &[String]) -> Option<Command<'_>>
         reach_of(words)
     } else if word.as_str() == "depends" {
         depends_of(words)
-    } else if word.as_str() == "order" {
-        alone(Command::Order, words)
     } else if word.as_str() == "roots" {
         Some(Command::Roots(lone_direction_of(words)?))
     } else if word.as_str() == "links" {
         Some(Command::Links(lone_direction_of(words)?))
-    } else if word.as_str() == "cycles" {
-        alone(Command::Cycles, words)
-    } else if word.as_str() == "verify" {
-        alone(Command::Verify, words)
     } else {
-        None
+        alone(plain_command_of(word.as_str()), words)
     }
 }

@@ -69,7 +69,7 @@ module _ {E : Type 0} (d : DependencyDirection) (keep : E → Bool) (links : Lis
     pub looked_link : b ≡ true → LinkTo d keep links x k y
     looked_link e = record { within = l.within; link = l.link; found = l.found; far = l.far; kept = l.kept ∙ e }
 
-    looked_step : b ≡ true → Step d keep links x y
+    pub looked_step : b ≡ true → Step d keep links x y
     looked_step e = step_at x k y (looked_link e)
 
 pub looked_from : {N E : Type 0} (d : DependencyDirection) (keep : E → Bool) (graph now : GraphValue N E) → now ≡ graph → (x k n y : ℕ) (e : E) (b : Bool) → k < degree d graph.links x → n ≡ get_or (links_at d now.links x) k 0 → (l : Link E) × (slice_get now.links n ≡ Some l) × (near_end d l ≡ x) × (far_end d l ≡ y) × (l.edge ≡ e) → b ≡ keep e → Looked d keep graph.links x k y b
@@ -102,7 +102,7 @@ pub record Finishing {N E : Type 0} (d : DependencyDirection) (keep : E → Bool
 set_in : (s : List Bool) (p : ℕ) → has s p ≡ true → set s p true ≡ s
 set_in s p h = subst (λ b. set s p b ≡ s) h (set-get_or s p false)
 
-no_more : (cost : ℕ → ℕ) (i : ℕ) (s : List Bool) → missing_cost (λ p. cost p + 0) i s ≡ missing_cost cost i s
+pub no_more : (cost : ℕ → ℕ) (i : ℕ) (s : List Bool) → missing_cost (λ p. cost p + 0) i s ≡ missing_cost cost i s
 no_more cost i [] = refl
 no_more cost i (true ∷ s) = no_more cost (i + 1) s
 no_more cost i (false ∷ s) = let r = no_more cost (i + 1) s in omega arith

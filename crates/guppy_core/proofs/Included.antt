@@ -129,7 +129,8 @@ module _ (f : ℕ → Bool) where
     | inr t ↦ let back = kept_back ys x t in ((suc back.0.0, back.0.1), back.1)
   ]
 
-  kept_there : (xs : List ℕ) (x : ℕ) → Stands xs x → f x ≡ true → Stands (filter f xs) x
+  -- who passes stays
+  pub kept_there : (xs : List ℕ) (x : ℕ) → Stands xs x → f x ≡ true → Stands (filter f xs) x
   kept_there [] x s h = absurd (cc (s.1))
   kept_there (y ∷ ys) x s h = elim (stands_cases y x ys s) [
     | inl e ↦ subst (λ z. Stands (cond (f y) (y ∷ filter f ys) (filter f ys)) z) e (kept_first (f y) y (filter f ys) (subst (λ z. f z ≡ true) (sym e) h))

@@ -6,6 +6,7 @@ pub mod Levels
 pub mod Heights
 pub mod Frames
 pub mod Finishing
+pub mod Tracing
 pub mod Listings
 pub mod Starting
 pub mod Included
@@ -23,4 +24,5 @@ pub mod Blocks
 pub mod Grouping
 pub mod Parts
 pub mod Acyclic
+pub mod Cycling
 pub mod Rooting

@@ -12,6 +12,7 @@ pub use Rattle.guppy_search.specs.Counted
 pub mod Listing
 pub mod Finish
 pub mod Cost
+pub mod Cycle
 pub mod Noted
 pub mod Topo
 pub mod Mark

@@ -22,4 +22,4 @@ pub use guppy_search::{
 };
 pub use resolve_core::{Links, ResolveCore, Topo};
 pub use scc::{AllSccs, NodeIter, Sccs};
-pub use topo::TopoWithCycles;
+pub use topo::{TopoWithCycles, find_cycle};

@@ -7,6 +7,8 @@
 #[cfg(test)]
 mod buffered;
 #[cfg(test)]
+mod cycles;
+#[cfg(test)]
 mod dfs;
 #[cfg(test)]
 mod graphs;

@@ -1,7 +1,7 @@
 -- What `{}` prints of each value, as bytes. Numbers are decimal.
-use Rattle.std.specs.Prelude.{ℕ, true, false, List, ◌++◌, codes}
+use Rattle.std.specs.Prelude.{ℕ, true, false, List, [], ◌∷◌, ◌++◌, codes}
 use Rattle.std.specs.Fmt.{decimal}
-use Rattle.std.specs.List.{join_by}
+use Rattle.std.specs.List.{flat_map, join_by}
 use Rattle.std.specs.String.{string_bytes}
 use Rattle.std.specs.declared.string.String.{String}
 use Rattle.guppy_data.specs.declared.texts.dependency_kind.DependencyKind.{DependencyKind}
@@ -15,7 +15,7 @@ use Rattle.guppy_data.specs.declared.texts.warning.FeatureGraphWarning.TheVarian
 use Rattle.guppy_data.specs.declared.texts.fault.ConstructFault.{ConstructFault}
 use Rattle.guppy_data.specs.declared.texts.fault.ConstructFault.TheVariants.{TooManyPackages, RepeatedPackageId, RepeatedBuildTarget, UnnamedBuildTarget, RepeatedWorkspacePath, RepeatedWorkspaceName, UnknownDefaultMember, TooManyLinks, UnknownLinkEnd, RepeatedLink}
 use Rattle.guppy_data.specs.declared.texts.fault.VerifyFault.{VerifyFault}
-use Rattle.guppy_data.specs.declared.texts.fault.VerifyFault.TheVariants.{TargetKind, Version, NoSection}
+use Rattle.guppy_data.specs.declared.texts.fault.VerifyFault.TheVariants.{TargetKind, Version, NoSection, Cycle}
 use Rattle.guppy_data.specs.declared.texts.error.Error.{Error}
 use Rattle.guppy_data.specs.declared.texts.error.Error.TheVariants.{PackageGraphConstructError, UnknownPackageId, UnknownFeatureId, UnknownWorkspacePath, UnknownWorkspaceName, PackageGraphInternalError, FeatureGraphInternalError, OutOfMemory}
 
@@ -35,11 +35,22 @@ construct_fault_text TooManyLinks = codes "too many links"
 construct_fault_text (UnknownLinkEnd l) = codes "unknown package at link " ++ decimal l
 construct_fault_text (RepeatedLink l) = codes "repeated link " ++ decimal l
 
+-- the first of the IDs, if there is one
+abbrev pub first_text : List (List ℕ) → List ℕ
+first_text [] = []
+first_text (id ∷ ids) = id
+
+-- the IDs in a row, an arrow from each to the next, and from the last to the first
+abbrev pub round_text : List (List ℕ) → List ℕ
+round_text ids = flat_map (λ id. id ++ codes " -> ") ids ++ first_text ids
+
 abbrev pub verify_fault_text : VerifyFault → List ℕ
 verify_fault_text (TargetKind p t) = codes "build target "
     ++ (decimal t ++ (codes " in package " ++ (decimal p ++ codes " does not match its kind")))
 verify_fault_text (Version l) = codes "version does not match requirement at link " ++ decimal l
 verify_fault_text (NoSection l) = codes "no section at link " ++ decimal l
+verify_fault_text (Cycle ids) =
+    codes "cycle over links that are not dev-only: " ++ round_text ids.items
 
 abbrev pub error_text : Error → List ℕ
 error_text (PackageGraphConstructError f) =

@@ -3,8 +3,8 @@
 use crate::cases::texts_are;
 use crate::owned::{id, path, text, texts};
 use guppy_data::{
-    ConstructFault, Error, FeatureBuildStage, FeatureGraphWarning, NamedFeatureDep, SortedSet,
-    Utf8Path, VerifyFault,
+    ConstructFault, Error, FeatureBuildStage, FeatureGraphWarning, NamedFeatureDep, PackageId,
+    SortedSet, Utf8Path, VerifyFault,
 };
 use std::alloc::{AllocError, Global};
 use std::fmt;
@@ -150,6 +150,25 @@ const VERIFY_FAULTS: &[(VerifyFault, &str)] = &[
     (VerifyFault::NoSection { link: 0 }, "no section at link 0"),
 ];
 
+const CYCLES: &[(&[&str], &str)] = &[
+    (
+        &["a", "b"],
+        "cycle over links that are not dev-only: a -> b -> a",
+    ),
+    (
+        &["b 1", "a", "c"],
+        "cycle over links that are not dev-only: b 1 -> a -> c -> b 1",
+    ),
+];
+
+fn cycle_of(rt: &impl Abort, alloc: Global, texts: &[&str]) -> Vec<PackageId> {
+    let mut ids = Vec::new(alloc);
+    for text in texts {
+        ids.push(id(rt, alloc, text)).expect(rt, text);
+    }
+    ids
+}
+
 #[test]
 fn faults(rt: HostRuntime) {
     for (fault, wanted) in CONSTRUCT_FAULTS {
@@ -157,6 +176,10 @@ fn faults(rt: HostRuntime) {
     }
     for (fault, wanted) in VERIFY_FAULTS {
         prints(&rt, rt.alloc(), "verify_faults", fault, wanted);
+    }
+    for (ids, wanted) in CYCLES {
+        let fault = VerifyFault::Cycle(cycle_of(&rt, rt.alloc(), ids));
+        prints(&rt, rt.alloc(), "cycle_faults", fault, wanted);
     }
     assert!(rt; ConstructFault::TooManyLinks != ConstructFault::TooManyPackages);
 }

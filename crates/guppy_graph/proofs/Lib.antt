@@ -16,3 +16,4 @@ pub mod Membership
 pub mod TargetLists
 pub mod OnCycles
 pub mod Verifying
+pub mod Rounds

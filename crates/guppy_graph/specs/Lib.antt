@@ -15,4 +15,5 @@ pub mod Refused
 pub mod Depends
 pub mod Cycles
 pub mod Sections
+pub mod FirmCycles
 pub mod Verified

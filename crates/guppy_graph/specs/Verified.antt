@@ -13,9 +13,12 @@ use Rattle.guppy_data.specs.declared.records.LinkRecord.{LinkRecord}
 use Rattle.guppy_data.specs.declared.records.BuildTargetRecord.{BuildTargetRecord}
 use Rattle.guppy_data.specs.declared.texts.dependency_kind.DependencyKind.{DependencyKind}
 use Rattle.guppy_data.specs.declared.texts.fault.VerifyFault.{VerifyFault}
-use Rattle.guppy_data.specs.declared.texts.fault.VerifyFault.TheVariants.{TargetKind as WrongKind, Version as WrongVersion, NoSection}
+use Rattle.guppy_data.specs.declared.texts.fault.VerifyFault.TheVariants.{TargetKind as WrongKind, Version as WrongVersion, NoSection, Cycle}
+use Rattle.guppy_data.specs.declared.texts.error.Error.{Error}
+use Rattle.guppy_data.specs.declared.texts.error.Error.TheVariants.{PackageGraphInternalError, OutOfMemory}
 use Rattle.guppy_data.specs.BuildTargetId.{TargetId, Library, BuildScript, Binary, Example, Test, Benchmark, recorded_id}
 use Rattle.guppy_data.specs.BuildTargetKind.{TargetKind, LibraryOrExample, ProcMacro, Binary as BinaryKind, recorded_kind}
+use Rattle.guppy_graph.specs.FirmCycles.{IsFirmCycle}
 use Rattle.guppy_graph.specs.First.{IsFirstWithout}
 use Rattle.guppy_graph.specs.Targets.{AreTargetsById}
 use Rattle.guppy_graph.specs.DevOnly.{is_absent}
@@ -122,3 +125,17 @@ module _ (g : GraphData) where
     pub within : position < length g.packages
     pub before : (p : ℕ) → p < position → IsPackageVerified p
     pub tells : IsPackageFault position fault
+
+  -- the fault tells a cycle over links that aren't dev-only
+  abbrev pub IsCycleFault : VerifyFault → Type 0
+  IsCycleFault fault = (ids : _) × (fault ≡ Cycle ids) × IsFirmCycle g ids.items
+
+  -- the fault is the first of a graph that is no verified graph, or tells a cycle of one that is
+  abbrev pub IsVerifyFault : VerifyFault → Type 0
+  IsVerifyFault fault = IsFirstVerifyFault fault ⊎ (IsVerified g × IsCycleFault fault)
+
+-- the error tells a fault of which P holds, or that memory ran out
+abbrev pub TellsVerifyFault : (VerifyFault → Type 0) → Error → Type 0
+TellsVerifyFault P (PackageGraphInternalError f) = P f
+TellsVerifyFault P OutOfMemory = Unit {0}
+TellsVerifyFault P _ = ⊥

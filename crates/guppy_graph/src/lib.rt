@@ -10,11 +10,13 @@
 //! - `dev_only`: which links are for development alone;
 //! - `order`: the order of the packages;
 //! - `graph`: the graph itself;
+//! - `firm_cycle`: cycles over links that aren't dev-only;
 //! - `verify`: the check that a graph is a verified graph.
 #![tactic(auto)]
 
 mod build;
 mod dev_only;
+mod firm_cycle;
 mod graph;
 mod hints;
 mod keyed;

@@ -1,9 +1,10 @@
-//! The check that a graph is a verified graph.
-ghost use Rattle.std.specs.Prelude.{◌≡◌, ◌↔◌, ◌<◌, length, not, All, IsTrue, IsOk, IfErr, IsSomeAnd, MatchOption, slice_get};
+//! The check that a graph is a verified graph, with no cycle over links that aren't dev-only.
+ghost use Rattle.std.specs.Prelude.{◌≡◌, ◌↔◌, ◌<◌, length, not, All, IsTrue, IsNone, IfSome, OnOk, IfErr, IsSomeAnd, MatchOption, slice_get};
 ghost use Rattle.guppy_data.specs.declared.texts.fault.VerifyFault.{VerifyFault};
 ghost use Rattle.guppy_graph.specs.DevOnly.{is_absent};
+ghost use Rattle.guppy_graph.specs.FirmCycles.{HasNoFirmCycle};
 ghost use Rattle.guppy_graph.specs.First.{IsFirstWithout};
-ghost use Rattle.guppy_graph.specs.Verified.{Accepts, HasSection, HasFittingKind, AreKindsFittingAt, IsFirstMisfit, IsVerified, IsLinkVerified, IsLinkFault, IsLeavingLinkFault, IsPackageVerified, IsPackageFault, IsFirstVerifyFault};
+ghost use Rattle.guppy_graph.specs.Verified.{Accepts, HasSection, HasFittingKind, AreKindsFittingAt, IsFirstMisfit, IsVerified, IsLinkVerified, IsLinkFault, IsLeavingLinkFault, IsPackageVerified, IsPackageFault, IsFirstVerifyFault, IsVerifyFault, TellsVerifyFault};
 ghost use Rattle.guppy_core.specs.Links.{links_at};
 
 use crate::graph::RecordGraph;
@@ -22,25 +23,45 @@ impl RecordGraph {
     ///   accepts;
     /// - some section of each link is present: normal, build or dev;
     /// - each build target is of a kind that its ID allows: a library is `LibraryOrExample` or
-    ///   `ProcMacro`, an example is `LibraryOrExample`, and any other is `Binary`.
+    ///   `ProcMacro`, an example is `LibraryOrExample`, and any other is `Binary`;
+    ///
+    /// and that no cycle of packages is over links that aren't dev-only: of two or more packages, each
+    /// with such a link to the next, and the last one to the first. A link from a package to itself makes
+    /// no cycle.
     ///
     /// Otherwise `PackageGraphInternalError` tells the first fault: packages are looked at by position,
     /// in each its build targets ascending by ID, and then the links that leave it, ascending by number,
-    /// the version of each before its sections.
+    /// the version of each before its sections. Where there is none of these, it tells a cycle.
+    /// `OutOfMemory` comes where a growth was refused.
     ///
-    /// Time grows with build targets, links, and the comparators of their requirements. Takes no memory.
+    /// Time grows with build targets, links, and the comparators of their requirements. Takes memory for
+    /// some numbers a package.
     pub fn verify(&self) -> Result<(), Error>
-        ensures verified { IsOk result ↔ IsVerified self.now }
-        ensures fault { IfErr result
-            (λ e. (fault : VerifyFault) × (e ≡ Error.PackageGraphInternalError fault)
-            × IsFirstVerifyFault self.now fault) }
+        ensures verified { OnOk result (IsVerified self.now × HasNoFirmCycle self.now) }
+        ensures fault { IfErr result (TellsVerifyFault (IsVerifyFault self.now)) }
+        ensures answered { IsVerified self.now → HasNoFirmCycle self.now
+            → IfErr result (λ e. e ≡ Error.OutOfMemory) }
+    {
+        if let Some(fault) = self.first_fault() {
+            return Err(fault.into());
+        }
+        match self.firm_cycle()? {
+            Some(ids) => Err(VerifyFault::Cycle(ids).into()),
+            None => Ok(()),
+        }
+    }
+
+    // The first fault of the graph, if it is no verified graph.
+    fn first_fault(&self) -> Option<VerifyFault>
+        ensures verified { IsNone result ↔ IsVerified self.now }
+        ensures fault { IfSome result (IsFirstVerifyFault self.now) }
     {
         for position in 0..self.dep_graph().node_count() {
             if let Some(fault) = self.fault_of_package(position) {
-                return Err(fault.into());
+                return Some(fault);
             }
         }
-        Ok(())
+        None
     }
 
     // The first fault of the package at the position.

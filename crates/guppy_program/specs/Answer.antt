@@ -21,9 +21,11 @@ use Rattle.guppy.specs.Query.{SetData}
 use Rattle.guppy.specs.Refused.{IsFirstUnknown}
 use Rattle.guppy.specs.Rooted.{AreRootIds}
 use Rattle.guppy.specs.Views.{LinkData}
-use Rattle.guppy.specs.Verified.{IsVerified, IsFirstVerifyFault}
+use Rattle.guppy.specs.FirmCycles.{HasNoFirmCycle}
+use Rattle.guppy.specs.Verified.{IsVerified, IsVerifyFault as IsGraphFault}
 use Rattle.guppy.specs.Walked.{AreWalkedLinks}
-use Rattle.guppy_command.specs.Command.{Command, reach, depends, order, roots, links, cycles, verify}
+use Rattle.guppy_publish.specs.Publishing.{ArePublishIds}
+use Rattle.guppy_command.specs.Command.{Command, reach, depends, order, roots, links, cycles, verify, publish_order}
 
 abbrev pub line_of : List ℕ → List ℕ
 line_of text = text ++ 10 ∷ []
@@ -111,10 +113,19 @@ pub record IsCyclesAnswer (g : GraphData) (output : List ℕ) : Type 0 where
   pub common : (a b : List ℕ) → AreOnOne (cycles_of g) a b ↔ AreCyclic g a b
   pub printed : output ≡ lines_of (map joined (cycles_of g))
 
--- `ok`, where the graph is a verified graph
+-- `ok`, where the graph is a verified graph and no cycle is over links that aren't dev-only
 pub record IsVerifyAnswer (g : GraphData) (output : List ℕ) : Type 0 where
   pub verified : IsVerified g
+  pub acyclic : HasNoFirmCycle g
   pub printed : output ≡ line_of (codes "ok")
+
+-- the IDs of the members in a publish order, one a line
+pub record IsPublishAnswer (g : GraphData) (output : List ℕ) : Type 0 where
+  pub verified : IsVerified g
+  pub acyclic : HasNoFirmCycle g
+  pub ids : List (List ℕ)
+  pub exact : ArePublishIds g ids
+  pub printed : output ≡ lines_of ids
 
 -- the output is an answer to the command
 abbrev pub IsAnswer : Command → GraphData → List ℕ → Type 0
@@ -125,6 +136,7 @@ IsAnswer (roots direction) g output = IsRootsAnswer direction g output
 IsAnswer (links direction) g output = IsLinksAnswer direction g output
 IsAnswer cycles g output = IsCyclesAnswer g output
 IsAnswer verify g output = IsVerifyAnswer g output
+IsAnswer publish_order g output = IsPublishAnswer g output
 
 -- the IDs that a command names, in their order
 abbrev pub ids_named : Command → List (List ℕ)
@@ -136,9 +148,10 @@ ids_named _ = []
 abbrev pub IsFirstUnknownNamed : Command → GraphData → List ℕ → Type 0
 IsFirstUnknownNamed command g id = IsFirstUnknown g.packages (ids_named command) id
 
--- the fault is the first of the graph, and the command asks for it
+-- the fault is one that `verify` may tell of the graph, and the command asks for it
 abbrev pub IsVerifyFault : Command → GraphData → VerifyFault → Type 0
-IsVerifyFault verify g fault = IsFirstVerifyFault g fault
+IsVerifyFault verify g fault = IsGraphFault g fault
+IsVerifyFault publish_order g fault = IsGraphFault g fault
 IsVerifyFault _ g fault = ⊥
 
 -- the library refuses the command so, or memory ran out

@@ -41,8 +41,8 @@ abbrev pub IsUnknownId : List (List ℕ) → List ℕ → List ℕ → Type 0
 IsUnknownId args input id =
     OfAsked args input (λ command graph. IsFirstUnknownNamed command graph id)
 
--- every line is good, the records are accepted, and the fault is the first of the graph, which the
--- command asks for
+-- every line is good, the records are accepted, and the fault is one that `verify` may tell of the
+-- graph, and the command asks for it
 abbrev pub IsFaultFound : List (List ℕ) → List ℕ → VerifyFault → Type 0
 IsFaultFound args input fault =
     OfAsked args input (λ command graph. IsVerifyFault command graph fault)

@@ -5,8 +5,8 @@ ghost use Rattle.guppy.specs.ListedCycles.{cycle_left};
 ghost use Rattle.guppy.specs.Query.{IncludesId};
 ghost use Rattle.guppy.specs.Refused.{NamesId, IsFirstUnknown};
 ghost use Rattle.guppy.specs.Views.{link_data};
-ghost use Rattle.guppy_command.specs.Command.{verify};
-ghost use Rattle.guppy_program.specs.Answer.{line_of, lines_of, truth_line, IsReached, IsReachAnswer, IsDependsAnswer, IsOrderAnswer, IsRootsAnswer, joined, link_text, IsLinksAnswer, IsCyclesAnswer, IsVerifyAnswer, IsAnswer, IsCommandRefusal};
+ghost use Rattle.guppy_command.specs.Command.{verify, publish_order};
+ghost use Rattle.guppy_program.specs.Answer.{line_of, lines_of, truth_line, IsReached, IsReachAnswer, IsDependsAnswer, IsOrderAnswer, IsRootsAnswer, joined, link_text, IsLinksAnswer, IsCyclesAnswer, IsVerifyAnswer, IsPublishAnswer, IsAnswer, IsCommandRefusal};
 ghost use Rattle.guppy_command.specs.Shown.{command_shown};
 
 use guppy::{CycleIds, PackageGraph, PackageLink, PackageSet};
@@ -14,6 +14,7 @@ use guppy_command::command::Command;
 use guppy_core::DependencyDirection;
 use guppy_data::{Error, PackageId, SortedSet};
 use guppy_input::records::id_of;
+use guppy_publish::publish_order;
 use std::alloc::{AllocError, Global};
 
 fn ids_of(alloc: Global, words: &[String]) -> Result<Vec<PackageId>, AllocError>
@@ -174,8 +175,17 @@ fn verify(alloc: Global, graph: &PackageGraph) -> Result<String, Error>
     Ok(String::from_str(alloc, "ok\n")?)
 }
 
+fn published(alloc: Global, graph: &PackageGraph) -> Result<String, Error>
+    ensures ok { IfOk result (λ text. IsPublishAnswer graph.now (string_bytes text)) }
+    ensures err { IfErr result (IsCommandRefusal publish_order graph.now) }
+{
+    let ids = publish_order(graph)?;
+    Ok(lines_of(alloc, ids.as_slice())?)
+}
+
 /// What the command prints. `UnknownPackageId` tells the first ID of the command that is no package's,
-/// and `PackageGraphInternalError`, for `verify` alone, the graph's first fault.
+/// and `PackageGraphInternalError`, for `verify` and `publish-order` alone, what the graph's `verify`
+/// refuses.
 ///
 /// Takes memory for the answer, and for some numbers a package and a link. Time grows with packages and
 /// links, and for `reach` with the packages printed times the logarithm of their number.
@@ -192,5 +202,6 @@ pub fn answer(alloc: Global, graph: &PackageGraph, command: &Command<'_>) -> Res
         Command::Links(direction) => links(alloc, graph, *direction),
         Command::Cycles => Ok(cycles(alloc, graph)?),
         Command::Verify => verify(alloc, graph),
+        Command::PublishOrder => published(alloc, graph),
     }
 }

@@ -69,7 +69,7 @@ fn print<W: Sink>(writer: &mut W, text: &str) -> Result<(), RunFault>
 /// `args` are the arguments without the program's own name. They are judged first: where they are no
 /// command, `BadArguments` comes, and nothing is read and no memory taken. Then all input is read, and
 /// kept; then its lines are judged, then its records, then the IDs that the command names, or for `verify`
-/// the graph, and the first fault is given. Want of memory may come at any growth, in place of every fault not yet found. The
+/// and `publish-order` the graph, and the first fault is given. Want of memory may come at any growth, in place of every fault not yet found. The
 /// answer is whole before its first byte is written, so a refusal writes nothing, and `OutputFailed`
 /// leaves a beginning of the answer.
 ///
@@ -101,8 +101,8 @@ pub fn run<R: Source, W: Sink>(
         OfWholeInput (R.left reader.old) (R.left reader.new) (λ input. IsFirstBadLine input n) }
 
     // All input was read and every line of it is good, and the error is the first fault of the records,
-    // or where they have none, the first unknown ID of the command or, for `verify` alone, the first
-    // fault of the graph; or memory ran out.
+    // or where they have none, the first unknown ID of the command or, for `verify` and `publish-order`
+    // alone, a fault that the graph's `verify` may tell; or memory ran out.
     ensures library { (error : Error) → result ≡ Err (RunFault.Library error) →
         IsLibraryRefusal (map string_bytes args.now) (R.left reader.old) (R.left reader.new) error }
 

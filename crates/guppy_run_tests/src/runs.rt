@@ -94,10 +94,12 @@ const CHAIN: &[u8] = b"package a\npackage b\npackage c\nlink a b normal\nlink b 
 const LOOP: &[u8] = b"package r\npackage a\npackage b\npackage c\n\
     link r a normal\nlink a c normal\nlink c b normal\nlink b a normal\n";
 
+const TWO_NORMAL: &[u8] = b"package a\npackage b\nlink a b normal\nlink b a normal\n";
+
 const TWO_SPACES: &[u8] = b"package a\npackage  b\n";
 
 // Case, command line, input, and what is printed.
-const ANSWERS: [(&str, &str, &[u8], &str); 30] = [
+const ANSWERS: [(&str, &str, &[u8], &str); 33] = [
     ("first_run", "reach forward a", FIRST, "a\nb\n"),
     (
         "no_last_newline",
@@ -149,6 +151,14 @@ const ANSWERS: [(&str, &str, &[u8], &str); 30] = [
     ("verify", "verify", FIRST, "ok\n"),
     ("verify", "verify", BACKS, "ok\n"),
     ("verify", "verify", b"", "ok\n"),
+    ("publish_backs", "publish-order", BACKS, "D\nC\nB\nA\n"),
+    ("publish_empty", "publish-order", b"", ""),
+    (
+        "publish_self",
+        "publish-order",
+        b"package a\npackage b\nlink a a normal\nlink a b normal\n",
+        "b\na\n",
+    ),
     ("wrong_bytes", "order", b"package a\r\r\n", "a\r\n"),
     (
         "wrong_bytes",
@@ -196,7 +206,7 @@ fn answers(rt: HostRuntime) -> Result<(), Fail> {
 }
 
 // Case, command line, input, and the text of the library's fault.
-const REFUSED: [(&str, &str, &[u8], &str); 5] = [
+const REFUSED: [(&str, &str, &[u8], &str); 7] = [
     (
         "no_last_newline",
         "reach forward a z",
@@ -222,10 +232,22 @@ const REFUSED: [(&str, &str, &[u8], &str); 5] = [
         b"package a\npackage a/\n",
         "failed to construct package graph: repeated workspace path at package 1",
     ),
+    (
+        "two_normal",
+        "verify",
+        TWO_NORMAL,
+        "internal error in package graph: cycle over links that are not dev-only: a -> b -> a",
+    ),
+    (
+        "publish_cycle",
+        "publish-order",
+        TWO_NORMAL,
+        "internal error in package graph: cycle over links that are not dev-only: a -> b -> a",
+    ),
 ];
 
 // Case, command line, input, and the text of the fault of the arguments or a line.
-const MISREAD: [(&str, &str, &[u8], &str); 30] = [
+const MISREAD: [(&str, &str, &[u8], &str); 31] = [
     ("program_faults", "depends a b", TWO_SPACES, "bad line 2"),
     ("program_faults", "depends a", TWO_SPACES, "bad arguments"),
     (
@@ -246,6 +268,7 @@ const MISREAD: [(&str, &str, &[u8], &str); 30] = [
     ("command_to_come", "links reverse a", FIRST, "bad arguments"),
     ("command_to_come", "cycles a", FIRST, "bad arguments"),
     ("command_to_come", "verify a", FIRST, "bad arguments"),
+    ("command_to_come", "publish-order a", FIRST, "bad arguments"),
     ("command_to_come", "", FIRST, "bad arguments"),
     ("wrong_bytes", "order", b"\n\r\nlink a\n", "bad line 3"),
     (

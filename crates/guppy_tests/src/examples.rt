@@ -251,13 +251,14 @@ fn assert_examples(rt: &impl Abort, alloc: Global, table: &str) {
     }
 }
 
-const TABLES: [&str; 13] = [
+const TABLES: [&str; 14] = [
     graphs::GRAPHS,
     graphs::BROKEN_RULES,
     faults::EACH_PLACE,
     faults::TWO_FAULTS,
     graphs::VERIFIED,
     lists::LISTS,
+    lists::PUBLISHED,
     queries::QUERIES,
     sets::SETS,
     sets::PARTS,

@@ -1,7 +1,8 @@
 //! Graphs: what they hold, which records make none, what depends on what, and whether they are verified.
 use crate::examples::Answer;
-use crate::lists::put_cycles;
+use crate::lists::{put_cycles, put_publish_order};
 use crate::sets::ask_set;
+use guppy::errors::VerifyFault;
 use guppy::{DependsCache, Error, PackageGraph, PackageId};
 
 // How many packages and links there are, and how many the walks over IDs, packages and members have.
@@ -81,6 +82,18 @@ fn ask_cache(graph: &PackageGraph, asked: &[PackageId], out: &mut Answer) -> Res
     put_cached(&mut cache, asked, out)
 }
 
+// Of a cycle that `verify` refuses, how many packages it has, and whether it is one.
+fn put_refused(graph: &PackageGraph, out: &mut Answer) -> Result<(), Error> {
+    match graph.verify() {
+        Err(Error::PackageGraphInternalError(VerifyFault::Cycle(ids))) => {
+            out.put_number(ids.len());
+            out.put_truth(graph.is_cycle_witness(ids.as_slice())?);
+            Ok(())
+        }
+        other => other,
+    }
+}
+
 /// Answers a question about the graph, or else about a set.
 pub(super) fn ask_graph(
     graph: &PackageGraph,
@@ -99,6 +112,9 @@ pub(super) fn ask_graph(
             graph.verify()?;
             out.put("ok");
         }
+        (["cycle"], _) => put_refused(graph, out)?,
+        (["witness", ..], [_, listed @ ..]) => out.put_truth(graph.is_cycle_witness(listed)?),
+        (["publish"], _) => put_publish_order(graph, out)?,
         (["cycles"], _) => put_cycles(graph, false, out),
         (["cycles", "from-back"], _) => put_cycles(graph, true, out),
         _ => ask_set(graph, words, ids, out)?,
@@ -198,7 +214,7 @@ prerelease_requirement | a b#1.0.0-alpha: a>b#*
     verify = ok
 prerelease_requirement | a b#1.0.0-alpha: a>b#^1
     verify = internal error in package graph: version does not match requirement at link 0
-prerelease_requirement | a b: a>b b>a
+prerelease_requirement | a b: a>b b~a
     verify = ok
 
 target_kind_place | p +misfit=t +macro=m
@@ -208,4 +224,37 @@ verify_by_position | a b#1.0.0-alpha: b-a a>b#^1
     verify = internal error in package graph: version does not match requirement at link 1
 verify_by_position | a b#1.0.0: b-a a>b#^1
     verify = internal error in package graph: no section at link 0
+
+two_normal | a b: a>b b>a
+    verify = internal error in package graph: cycle over links that are not dev-only: a -> b -> a or internal error in package graph: cycle over links that are not dev-only: b -> a -> b
+    witness a b = yes
+    witness b a = yes
+    witness a b a = no
+
+self_link_is_fine | a: a>a
+    verify = ok
+    witness a = no
+
+dev_back_is_fine | a b: a>b b~a
+    verify = ok
+    witness a b = no
+
+four_with_dev_backs | d c b a: a>b b~a b>c c>d d~c
+    verify = ok
+
+witness | a b c: a>b b>c c>a
+    witness a b c = yes
+    witness b c a = yes
+    witness a c b = no
+    witness a b = no
+    witness = no
+    witness a b c a = no
+    witness a z = no
+    cycle = 3 yes
+
+build_links_make_cycles | a b: a+b b+a
+    cycle = 2 yes
+
+earlier_fault_first | a b: a>b b>a a-a
+    verify = internal error in package graph: no section at link 2
 ";

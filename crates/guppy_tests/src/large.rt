@@ -35,4 +35,7 @@ complete_300 | complete*300
 complete_300_shown | complete*300
     sorted resolve all forward p0 = 300 0+..=89999+
     sorted links forward of forward p0 = 0..=89999
+
+long_cycle | ring*200000
+    cycle = 200000 yes
 ";

@@ -1,4 +1,5 @@
-//! Tests of package graphs through the public calls of `guppy` alone.
+//! Tests of package graphs through the public calls of `guppy` alone, and of the publish order through
+//! that of `guppy_publish`.
 //!
 //! They stand beside the library and not in it: a crate with tests is proved twice, with them and without.
 //! Most are examples, written as texts: `records` says how a graph is written, and `examples` how a

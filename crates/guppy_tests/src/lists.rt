@@ -1,10 +1,11 @@
-//! Lists of sets, cycles, and the looks for the order.
+//! Lists of sets, cycles, the publish order, and the looks for the order.
 
 use crate::examples::Answer;
 use crate::records::shape_of;
 use guppy::graph::PackageIx;
 use guppy::positions::{CountedGraph, Graph, GraphSpec, Link, Sccs, TopoWithCycles};
 use guppy::{CycleIds, Error, PackageGraph, PackageId};
+use guppy_publish::publish_order;
 use std::alloc::{AllocError, Global};
 use std::process::Abort;
 
@@ -28,6 +29,14 @@ pub(super) fn put_cycles(graph: &PackageGraph, is_from_back: bool, out: &mut Ans
             put_cycle(cycle, out);
         }
     }
+}
+
+pub(super) fn put_publish_order(graph: &PackageGraph, out: &mut Answer) -> Result<(), Error> {
+    let ids = publish_order(graph)?;
+    for id in &ids {
+        out.put(id.repr());
+    }
+    Ok(())
 }
 
 pub(super) const LISTS: &str = "
@@ -88,6 +97,24 @@ chain_with_self_links | a b c: a>b b>c a>a b>b c>c
     roots forward of all = a 1 a 0
     roots reverse of all = c 1 c 0
     cycles = 1 a, 1 b, 1 c
+";
+
+pub(super) const PUBLISHED: &str = "
+publish_backs | @d @c @b @a: a>b b~a b>c c>d d~c
+    publish = d c b a
+
+publish_cycle | @a @b: a>b b>a
+    publish = internal error in package graph: cycle over links that are not dev-only: a -> b -> a \
+        or internal error in package graph: cycle over links that are not dev-only: b -> a -> b
+
+publish_through | @m1 %x @m2: m1>x x>m2
+    publish = m2 m1
+
+publish_empty | :
+    publish = nothing
+
+publish_self | @a @b: a>a a>b
+    publish = b a
 ";
 
 /// A graph whose links say whether they are dev-only.

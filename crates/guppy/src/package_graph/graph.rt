@@ -1,8 +1,8 @@
 ghost use Rattle.std.specs.Prelude.{◌≡◌, ◌↔◌, ◌≤◌, ◌*◌, [], ◌∷◌, IsTrue, IfOk, IfErr, OnOk, IsOk, length};
-ghost use Rattle.guppy_data.specs.declared.texts.fault.VerifyFault.{VerifyFault};
 ghost use Rattle.guppy_graph.specs.Accepted.{IsAccepted};
+ghost use Rattle.guppy_graph.specs.FirmCycles.{IsFirmCycle, HasNoFirmCycle};
 ghost use Rattle.guppy_graph.specs.Refused.{IsRefusal};
-ghost use Rattle.guppy_graph.specs.Verified.{IsVerified, IsFirstVerifyFault};
+ghost use Rattle.guppy_graph.specs.Verified.{IsVerified, IsVerifyFault, TellsVerifyFault};
 ghost use Rattle.std.specs.List.Sorted.{IsPermutation};
 
 use crate::metadata::PackageMetadata;
@@ -177,20 +177,42 @@ impl PackageGraph {
     ///   accepts;
     /// - some section of each link is present: normal, build or dev;
     /// - each build target is of a kind that its ID allows: a library is `LibraryOrExample` or
-    ///   `ProcMacro`, an example is `LibraryOrExample`, and any other is `Binary`.
+    ///   `ProcMacro`, an example is `LibraryOrExample`, and any other is `Binary`;
+    ///
+    /// and that no cycle of packages is over links that aren't dev-only: of two or more packages, each
+    /// with such a link to the next, and the last one to the first. A link from a package to itself makes
+    /// no cycle.
     ///
     /// Otherwise `PackageGraphInternalError` tells the first fault: packages are looked at by position,
     /// in each its build targets ascending by ID, and then the links that leave it, ascending by number,
-    /// the version of each before its sections.
+    /// the version of each before its sections. Where there is none of these, it tells a cycle.
+    /// `OutOfMemory` comes where a growth was refused.
     ///
-    /// Time grows with build targets, links, and the comparators of their requirements. Takes no memory.
+    /// Where the answer is Ok, each walk between different packages over links that aren't dev-only leads on
+    /// in the lists of sets: `PackageSet::packages` says so.
+    ///
+    /// Time grows with build targets, links, and the comparators of their requirements. Takes memory for
+    /// some numbers a package.
     pub fn verify(&self) -> Result<(), Error>
-        ensures verified { IsOk result ↔ IsVerified self.now }
-        ensures fault { IfErr result
-            (λ e. (fault : VerifyFault) × (e ≡ Error.PackageGraphInternalError fault)
-            × IsFirstVerifyFault self.now fault) }
+        ensures verified { OnOk result (IsVerified self.now × HasNoFirmCycle self.now) }
+        ensures fault { IfErr result (TellsVerifyFault (IsVerifyFault self.now)) }
+        ensures answered { IsVerified self.now → HasNoFirmCycle self.now
+            → IfErr result (λ e. e ≡ Error.OutOfMemory) }
     {
         self.records.verify()
+    }
+
+    /// Whether the packages with these IDs are a cycle over links that aren't dev-only: two or more, each
+    /// once, each with such a link to the next, and the last one to the first. Where an ID is no
+    /// package's, they are not. `OutOfMemory` comes where a growth was refused.
+    ///
+    /// Time grows with the IDs, times the logarithm of the packages, and with the links that leave their
+    /// packages. Takes memory for a number an ID and a bit a package.
+    pub fn is_cycle_witness(&self, ids: &[PackageId]) -> Result<bool, Error>
+        ensures answer { IfOk result (λ witness. IsTrue witness ↔ IsFirmCycle self.now ids.now) }
+        ensures refused { IfErr result (λ e. e ≡ Error.OutOfMemory) }
+    {
+        Ok(self.records.is_cycle_witness(ids)?)
     }
 }
 

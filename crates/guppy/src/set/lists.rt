@@ -9,15 +9,20 @@ use guppy_core::{DependencyDirection, IndexType, Topo};
 use guppy_data::PackageId;
 
 impl<'g> PackageSet<'g> {
+    ghost use Rattle.guppy_graph.specs.FirmCycles.{HasNoFirmCycle};
     ghost use Rattle.guppy_graph.specs.Graph.{IsInOrder};
-    ghost use Rattle.guppy.specs.Listed.{positions_listed, packages_listed, listed_left, ids_at, listed_ids_left};
+    ghost use Rattle.guppy.specs.Listed.{positions_listed, packages_listed, listed_left, ids_at, listed_ids_left, FirmWalksLeadOn};
 
     /// The IDs of the set's packages, listed as `packages` lists them. Takes no memory.
     pub fn package_ids(&self, direction: DependencyDirection) -> ListedPackageIds<'_, 'g>
         ensures left { listed_ids_left result
             ≡ ids_at self.now.graph.packages (positions_listed direction self.now) }
+        ensures members { (p : ℕ) → Stands (positions_listed direction self.now) p
+            ↔ IsIn self.now.included p }
+        ensures once { IsOnce (positions_listed direction self.now) }
         ensures count { length (listed_ids_left result) ≡ member_count self.now.included }
         ensures ordered { IsInOrder self.now.graph }
+        ensures leads_on { HasNoFirmCycle self.now.graph → FirmWalksLeadOn direction self.now }
     {
         ListedPackageIds {
             packages: self.packages(direction),
@@ -30,8 +35,8 @@ impl<'g> PackageSet<'g> {
     /// - packages that depend on each other stand together, in a topological order by the links that
     ///   aren't dev-only;
     /// - of a link between packages that don't depend on each other, the dependent stands first;
-    /// - where the links that aren't dev-only have no cycle but links from a package to itself, the
-    ///   dependent of each other such link stands first.
+    /// - where the links that aren't dev-only have no cycle but links from a package to itself, as where
+    ///   `verify` answered Ok, the dependent of each other such link stands first.
     ///
     /// Reverse gives that list from its end. Takes no memory.
     pub fn packages(&self, direction: DependencyDirection) -> ListedPackages<'_, 'g>
@@ -41,6 +46,7 @@ impl<'g> PackageSet<'g> {
         ensures once { IsOnce (positions_listed direction self.now) }
         ensures count { length (listed_left result) ≡ member_count self.now.included }
         ensures ordered { IsInOrder self.now.graph }
+        ensures leads_on { HasNoFirmCycle self.now.graph → FirmWalksLeadOn direction self.now }
     {
         ListedPackages {
             graph: self.graph,

@@ -1,3 +1,8 @@
+ghost use Rattle.std.specs.Prelude.{Some};
+ghost use Rattle.std.specs.Fmt.{DisplaysOnOk};
+ghost use Rattle.guppy_data.specs.Texts.{round_text};
+
+use crate::texts::package_id::PackageId;
 use std::fmt;
 
 /// The first rule that records break, so that they make no package graph.
@@ -71,6 +76,9 @@ pub enum VerifyFault {
     Version { link: usize },
     /// No section of the link is present.
     NoSection { link: usize },
+    /// Each of these packages has a link that isn't dev-only to the next, and the last one to the
+    /// first. They are two or more, each once.
+    Cycle(Vec<PackageId>),
 }
 
 impl fmt::Display for VerifyFault {
@@ -91,6 +99,23 @@ impl fmt::Display for VerifyFault {
                 write!(f, "version does not match requirement at link {link}")
             }
             VerifyFault::NoSection { link } => write!(f, "no section at link {link}"),
+            VerifyFault::Cycle(ids) => {
+                f.write_str("cycle over links that are not dev-only: ")?;
+                write_round(ids.as_slice(), f)
+            }
         }
+    }
+}
+
+// The IDs with an arrow behind each, and the first one again.
+fn write_round<W: fmt::Write>(ids: &[PackageId], f: &mut fmt::Formatter<W>) -> fmt::Result
+    ensures { DisplaysOnOk W.write_str_gives f.old result (Some (round_text ids.now)) f.new }
+{
+    for id in ids {
+        write!(f, "{id} -> ")?;
+    }
+    match ids.first() {
+        Some(first) => write!(f, "{first}"),
+        None => Ok(()),
     }
 }

@@ -1,24 +1,10 @@
-use borrow.Author.Count.{below_more}
-use Rattle.std.proofs.Common.{ap, refl, arith, ◌<◌, length}
-use Rattle.guppy_graph.specs.Verified.{IsPackageVerified}
-use Rattle.guppy_graph.proofs.Verifying.{verified_of_packages, no_fault}
+use Rattle.std.proofs.Common.{refl, inr, rules}
+use Rattle.guppy_graph.specs.FirmCycles.{IsFirmCycle}
+use Rattle.guppy_graph.specs.Verified.{IsVerified}
 use Rattle.guppy_graph.proofs.graph.RecordGraph.verify.Goals as goal
 
-pub returns-in-Some-clause-verified : goal.returns-in-Some-clause-verified
-returns-in-Some-clause-verified c =
-    let count = c.node_count-position-end.ensures.count in
-    let nodes = ap length c.dep_graph.ensures.nodes in
-    let within : c.loop-position.position < length c.args.self.now.packages = omega (arith, count, nodes, c.loop-position-test.true) in (
-      λ ok. absurd (cc),
-      λ verified. absurd (no_fault c.args.self.now verified c.in-Some.fault
-          (record { position = c.loop-position.position; within = within; before = c.loop-position.invariant; tells = c.in-Some.ensures })),
-    )
-
-pub loop-position-preserved : goal.loop-position-preserved
-loop-position-preserved c = below_more (IsPackageVerified c.args.self.now) c.loop-position.position c.loop-position.invariant c.in_default.ensures
-
-pub returns-clause-verified : goal.returns-clause-verified
-returns-clause-verified c =
-    let count = c.node_count-position-end.ensures.count in
-    let nodes = ap length c.dep_graph.ensures.nodes in
-    (λ ok. verified_of_packages c.args.self.now c.dep_graph.ensures.graph (λ p below. c.loop-position.invariant p (omega (arith, count, nodes, c.loop-position-test.false))), λ verified. refl)
+pub returns-in-Some-2-clause-fault : goal.returns-in-Some-2-clause-fault
+returns-in-Some-2-clause-fault c =
+    let verified : IsVerified c.args.self.now = c.in_default.ensures.verified.0 (search rules) in
+    let cycle : IsFirmCycle c.args.self.now c.in-Some-2.ids.items = rw c.in-Some-2.is at c.in_ok-ids.ensures in
+    rw c.into-in-Some-2.ensures (inr (verified, (c.in-Some-2.ids, refl, cycle)))

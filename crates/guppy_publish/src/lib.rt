@@ -1,0 +1,30 @@
+//! The order in which the members of a workspace can be published, above `guppy`'s public calls alone.
+#![tactic(auto)]
+
+ghost use Rattle.std.specs.Prelude.{map, IfOk, IfErr, OnOk};
+ghost use Rattle.guppy.specs.FirmCycles.{HasNoFirmCycle};
+ghost use Rattle.guppy.specs.Verified.{IsVerified, IsVerifyFault, TellsVerifyFault};
+ghost use Rattle.guppy_publish.specs.Publishing.{ArePublishIds};
+
+use guppy::graph::DependencyDirection;
+use guppy::{Error, PackageGraph, PackageId};
+
+/// The IDs of the workspace's members in an order in which they can be published: each once, and each
+/// after every other member to which a path of links that aren't dev-only leads from it, also through
+/// packages that are no members.
+///
+/// The graph is verified first: where `PackageGraph::verify` tells a fault, as a cycle over these links,
+/// that is the answer. `OutOfMemory` comes where a growth was refused.
+///
+/// Time grows as `verify`'s, and with the members. Takes memory as `verify` does, for a bit a package, and
+/// for some numbers a member.
+pub fn publish_order(graph: &PackageGraph) -> Result<Vec<&PackageId>, Error>
+    ensures verified { OnOk result (IsVerified graph.now × HasNoFirmCycle graph.now) }
+    ensures order { IfOk result (λ ids. ArePublishIds graph.now (map (λ id. id.now) ids.items)) }
+    ensures fault { IfErr result (TellsVerifyFault (IsVerifyFault graph.now)) }
+{
+    graph.verify()?;
+    let members = graph.resolve_workspace()?;
+    let ids = members.package_ids(DependencyDirection::Reverse);
+    Ok(ids.collect(graph.alloc())?)
+}
