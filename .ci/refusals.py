@@ -58,7 +58,14 @@ COMMANDS = [
     "links reverse",
     "cycles",
     "verify",
+    "publish-order",
 ]
+# The link of the graph that makes a cycle over links that aren't dev-only, and what ends in a fault for that.
+TURNING = "link c b normal\n"
+FAULTED = ["verify", "publish-order"]
+# Each command on the graph, and those on the graph without that link.
+RUNS = {command: (command, LINES) for command in COMMANDS}
+RUNS |= {f"{command} without a cycle": (command, LINES.replace(TURNING, "")) for command in FAULTED}
 
 
 def run(shim, words, number, part, given=b""):
@@ -138,24 +145,37 @@ def try_case(shim, program, case, full):
     return count, wrong
 
 
-def try_program(shim, program, command):
+def outcome_of(words, given):
+    """Runs a command, and returns its status, output and errors."""
+    ran = subprocess.run(words, input=given, capture_output=True, check=False)
+    return [ran.returncode, ran.stdout.decode(), ran.stderr.decode()]
+
+
+def full_outcome(name, words, given):
+    """What a run is with ample memory, and what is wrong in that: only a cycle is a fault."""
+    full = outcome_of(words, given)
+    is_fault = name in FAULTED and full[:2] == [1, ""] and "cycle" in full[2]
+    is_right = is_fault or (name not in FAULTED and full[0] == 0 and full[1] != "" and full[2] == "")
+    return full, None if is_right else f"with ample memory status, output and errors are {full}"
+
+
+def try_program(shim, program, name):
     """Refuses each request of a run of the program in turn, and returns how many there are, and what is wrong."""
-    words, given = [program, *command.split()], LINES.encode()
-    wanted = subprocess.run(words, input=given, capture_output=True, check=True).stdout.decode()
+    command, lines = RUNS[name]
+    words, given = [program, *command.split()], lines.encode()
+    full, wrong = full_outcome(name, words, given)
 
     def tries(number):
         *outcome, told = run(shim, words, number, "main", given)
-        is_right = outcome == [0, wanted, ""] or ("r" in told and outcome == [1, "", TOLD])
+        is_right = outcome == full or ("r" in told and outcome == [1, "", TOLD])
         return "r" in told, None if is_right else f"status, output and errors are {outcome}"
 
-    return in_turn(tries, MANY)
+    return in_turn(tries, MANY) if wrong is None else (0, wrong)
 
 
 def limited(kilobytes, words, given):
     """Runs a command with an address space of so many kilobytes."""
-    shell = ["sh", "-c", 'ulimit -v "$0"; exec "$@"', str(kilobytes)]
-    ran = subprocess.run([*shell, *words], input=given, capture_output=True, check=False)
-    return [ran.returncode, ran.stdout.decode(), ran.stderr.decode()]
+    return outcome_of(["sh", "-c", 'ulimit -v "$0"; exec "$@"', str(kilobytes), *words], given)
 
 
 def least_room(program):
@@ -163,16 +183,19 @@ def least_room(program):
     return next(it for it in itertools.count(STEP, STEP) if limited(it, [program], b"")[0] == 2)
 
 
-def try_limits(program, command):
+def try_limits(program, name):
     """Runs a command with more and more address space, and returns how many runs were refused, and what is wrong."""
+    command, lines = RUNS[name]
     words, least = [program, *command.split()], least_room(program)
     packages = "".join(f"package p{i}\n" for i in range(SIZE))
     links = "".join(f"link p{i} p{(7 * i + 3) % SIZE} dev\n" for i in range(SIZE))
-    given = (LINES + packages + links).encode()
-    wanted = subprocess.run(words, input=given, capture_output=True, check=True).stdout.decode()
+    given = (lines + packages + links).encode()
+    full, wrong = full_outcome(name, words, given)
+    if wrong is not None:
+        return 0, wrong
     for number in range(MANY):
         outcome = limited(least + number * STEP, words, given)
-        if outcome == [0, wanted, ""]:
+        if outcome == full:
             return number, None if number else "it was refused nowhere"
         if outcome != [1, "", TOLD]:
             return number, f"with {least + number * STEP} kilobytes status, output and errors are {outcome}"
@@ -213,11 +236,11 @@ def try_build(workers, shim, ending):
     print(f"refusals, {BUILDS[ending]}:")
     cut, refused = outcomes_of(workers, lambda case: try_case(shim, checks, case, full[case]), cases)
     print(f"  {len(cases) - quiet} cases, of which {refused} requests were refused; {quiet} cases that make none")
-    lost, refused = outcomes_of(workers, lambda command: try_program(shim, program, command), COMMANDS)
-    print(f"  {len(COMMANDS)} commands, of which {refused} requests were refused")
-    crashed, refused = outcomes_of(workers, lambda command: try_limits(program, command), COMMANDS)
-    print(f"  {len(COMMANDS)} commands with less and less room, of which {refused} runs were refused")
-    return len(cases) + 2 * len(COMMANDS), cut + lost + crashed
+    lost, refused = outcomes_of(workers, lambda name: try_program(shim, program, name), RUNS)
+    print(f"  {len(RUNS)} runs of commands, of which {refused} requests were refused")
+    crashed, refused = outcomes_of(workers, lambda name: try_limits(program, name), RUNS)
+    print(f"  {len(RUNS)} runs with less and less room, of which {refused} were refused")
+    return len(cases) + 2 * len(RUNS), cut + lost + crashed
 
 
 def main():

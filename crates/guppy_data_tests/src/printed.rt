@@ -135,21 +135,6 @@ const CONSTRUCT_FAULTS: &[(ConstructFault, &str)] = &[
     ),
 ];
 
-const VERIFY_FAULTS: &[(VerifyFault, &str)] = &[
-    (
-        VerifyFault::TargetKind {
-            package: 0,
-            target: 1,
-        },
-        "build target 1 in package 0 does not match its kind",
-    ),
-    (
-        VerifyFault::Version { link: 1 },
-        "version does not match requirement at link 1",
-    ),
-    (VerifyFault::NoSection { link: 0 }, "no section at link 0"),
-];
-
 const CYCLES: &[(&[&str], &str)] = &[
     (
         &["a", "b"],
@@ -174,14 +159,28 @@ fn faults(rt: HostRuntime) {
     for (fault, wanted) in CONSTRUCT_FAULTS {
         prints(&rt, rt.alloc(), "construct_faults", fault, wanted);
     }
-    for (fault, wanted) in VERIFY_FAULTS {
-        prints(&rt, rt.alloc(), "verify_faults", fault, wanted);
-    }
-    for (ids, wanted) in CYCLES {
-        let fault = VerifyFault::Cycle(cycle_of(&rt, rt.alloc(), ids));
-        prints(&rt, rt.alloc(), "cycle_faults", fault, wanted);
-    }
     assert!(rt; ConstructFault::TooManyLinks != ConstructFault::TooManyPackages);
+}
+
+#[test]
+fn verify_faults(rt: HostRuntime) {
+    let alloc = rt.alloc();
+    let name = "verify_faults";
+    let fault = VerifyFault::TargetKind {
+        package: 0,
+        target: 1,
+    };
+    let wanted = "build target 1 in package 0 does not match its kind";
+    prints(&rt, alloc, name, fault, wanted);
+    let fault = VerifyFault::Version { link: 1 };
+    let wanted = "version does not match requirement at link 1";
+    prints(&rt, alloc, name, fault, wanted);
+    let fault = VerifyFault::NoSection { link: 0 };
+    prints(&rt, alloc, name, fault, "no section at link 0");
+    for (ids, wanted) in CYCLES {
+        let fault = VerifyFault::Cycle(cycle_of(&rt, alloc, ids));
+        prints(&rt, alloc, name, fault, wanted);
+    }
 }
 
 #[test]

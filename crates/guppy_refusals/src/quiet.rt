@@ -74,12 +74,11 @@ fn tell_fields(rt: &impl Print, package: PackageMetadata<'_>) {
     tell_line(rt, &"fields");
 }
 
-fn ask_fields(rt: &impl Print, world: &World<'_>) -> Result<(), Error> {
+fn ask_fields(rt: &impl Print, world: &World<'_>) {
     begin(rt);
     for package in world.graph.packages() {
         tell_fields(rt, package);
     }
-    world.graph.verify()
 }
 
 fn tell_cycle(rt: &impl Print, cycle: CycleIds<'_>) {
@@ -164,7 +163,7 @@ pub(crate) fn ask(
     match call {
         "look_ups" => ask_look_ups(rt, world)?,
         "members" => ask_members(rt, world)?,
-        "fields" => ask_fields(rt, world)?,
+        "fields" => ask_fields(rt, world),
         "lists" => ask_lists(rt, world),
         "iterators" => ask_iterators(rt, world)?,
         "cache" => ask_cache(rt, world)?,
