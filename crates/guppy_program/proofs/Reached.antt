@@ -1,5 +1,5 @@
 -- What a query from a list of IDs reaches, and the IDs that a sorted set lists.
-use Rattle.std.proofs.Common.{◌≡◌, ◌∙◌, ◌↔◌, ℕ, zero, suc, Bool, true, List, [], ◌∷◌, length, map, take, drop, Contains, refl, sym, ap, subst, arith, None, Ok, Err}
+use Rattle.std.proofs.Common.{◌≡◌, ◌∙◌, ◌↔◌, ℕ, Bool, true, List, [], ◌∷◌, length, map, take, drop, Contains, refl, sym, ap, subst, None, Ok, Err}
 use Rattle.std.specs.Prelude.{Option, Result, IfOk, OnOk}
 use Rattle.std.specs.List.{AllByRecursion}
 use Rattle.std.specs.List.Sorted.{IsStrictlySortedBy}
@@ -7,8 +7,7 @@ use Rattle.std.specs.declared.cmp.Ordering.{Ordering}
 use Rattle.std.specs.declared.cmp.Ordering.TheVariants.{Less}
 use Rattle.std.specs.Iterator.{Drains}
 use denote.Ref.{Bor}
-use Rattle.std.proofs.Math.ListN.{get_or-map}
-use Rattle.std.proofs.lemmas.List.{length-map, take-append-drop}
+use Rattle.std.proofs.lemmas.List.{take-append-drop}
 use Rattle.std.proofs.lemmas.Iterator.{YieldsList}
 use Rattle.std.proofs.lemmas.Iterator.Consumers.{YieldsList-so_far, YieldsList-end}
 use Rattle.guppy_search.specs.declared.ix.direction.DependencyDirection.{DependencyDirection}
@@ -22,6 +21,7 @@ use Rattle.guppy.specs.Graph.{GraphData}
 use Rattle.guppy.specs.Query.{IsNamedSet, IncludesId, SetData}
 use Rattle.guppy.specs.Refused.{NamesId, named_id, IsFirstUnknown, EndsInUnknown}
 use Rattle.guppy.specs.Read.{ReadsTo, text_now}
+use Rattle.guppy.proofs.CyclicComponents.{Contains-map, from_map}
 use Rattle.guppy.proofs.Unknown.{NamesText-along, first_unknown-read}
 use Rattle.guppy_program.specs.Answer.{IsReached}
 
@@ -61,23 +61,13 @@ OnOk-always (Err e) p = tt
 pub iff_trans : {A B C : Type 0} → A ↔ B → B ↔ C → A ↔ C
 iff_trans ab bc = (λ a. bc.0 (ab.0 a), λ c. ab.1 (bc.1 c))
 
-Contains-map : {X Y : Type 0} (f : X → Y) (xs : List X) (x : X) → Contains xs x → Contains (map f xs) (f x)
-Contains-map f xs x (k, within, same) = (k, rw (length-map xs f) within, get_or-map f xs k x ∙ ap f same)
-
-Contains-from_map : {X Y : Type 0} (f : X → Y) (xs : List X) (y : Y) → Contains (map f xs) y → (x : X) × Contains xs x × (f x ≡ y)
-Contains-from_map f [] y (k, within, same) = absurd (omega arith)
-Contains-from_map f (x ∷ xs) y (zero, within, same) = (x, (zero, omega arith, refl), same)
-Contains-from_map f (x ∷ xs) y (suc k, within, same) =
-    let later = Contains-from_map f xs y (k, omega arith, same) in
-    (later.0, (suc later.1.0, omega (arith, later.1.1), later.1.2), later.2)
-
 -- a list and what a sorted set keeps of it show the same IDs
 pub kept_ids : (eq : Bor (List ℕ) → Bor (List ℕ) → Bool) → ((x y : Bor (List ℕ)) → eq x y ≡ true → x.now ≡ y.now) → (xs ys : List (Bor (List ℕ))) → KeepsUpTo eq xs ys
     → (id : List ℕ) → Contains (map (λ r. r.now) ys) id ↔ Contains (map (λ r. r.now) xs) id
 kept_ids eq exact xs ys kept id = (
-  λ h. let y = Contains-from_map (λ (r : Bor (List ℕ)). r.now) ys id h in
+  λ h. let y = from_map (λ (r : Bor (List ℕ)). r.now) ys id h in
       subst (Contains (map (λ r. r.now) xs)) y.2 (Contains-map (λ (r : Bor (List ℕ)). r.now) xs y.0 (kept.no_other y.0 y.1)),
-  λ h. let x = Contains-from_map (λ (r : Bor (List ℕ)). r.now) xs id h in
+  λ h. let x = from_map (λ (r : Bor (List ℕ)). r.now) xs id h in
       let y = kept.each x.0 x.1 in
       subst (Contains (map (λ r. r.now) ys)) (sym (exact x.0 y.1 y.4) ∙ x.2) (Contains-map (λ (r : Bor (List ℕ)). r.now) ys y.1 (y.0, y.2, y.3)),
 )

@@ -27,8 +27,8 @@ fn ids_of(alloc: Global, words: &[String]) -> Result<Vec<PackageId>, AllocError>
     Ok(ids)
 }
 
-// These IDs, one a line.
-fn lines_of(alloc: Global, ids: &[&PackageId]) -> Result<String, AllocError>
+/// These IDs, one a line. Takes memory for the text alone.
+pub fn lines_of(alloc: Global, ids: &[&PackageId]) -> Result<String, AllocError>
     ensures { IfOk result (λ text. string_bytes text ≡ lines_of (map (λ r. r.now) ids.now)) }
 {
     let mut text = String::new(alloc);

@@ -1,16 +1,45 @@
 //! The program as a process runs it: its arguments, a source, a sink, and another sink for its fault.
-ghost use Rattle.std.specs.Prelude.{◌≡◌, Result, Err, map, string_bytes, IfOk, IfErr, true, false};
+ghost use Rattle.std.specs.Prelude.{◌≡◌, ◌⊎◌, Result, Err, map, string_bytes, IfOk, IfErr, true, false};
 ghost use Rattle.std.specs.Io.KnownBytes.{Appends};
+ghost use Rattle.guppy_data.specs.declared.texts.error.Error.TheVariants.{OutOfMemory};
 ghost use Rattle.guppy_input.specs.declared.fault.RunFault.{RunFault};
+ghost use Rattle.guppy_input.specs.declared.fault.RunFault.TheVariants.{Library, BadArguments};
 ghost use Rattle.guppy_program.specs.Run.{IsRun};
 ghost use Rattle.guppy_program.specs.Process.{EndsIn, fault_line};
 
 use crate::run::run;
+use guppy_data::Error;
 use guppy_input::device::{Sink, Source};
 use guppy_input::fault::RunFault;
 use guppy_input::transfer::write_all;
 use std::alloc::Global;
+use std::env::{self, Env};
 use std::fmt::{self, Write};
+use std::io;
+
+fn read_arguments<R: Env + AllocGlobal>(rt: &R) -> io::Result<Vec<String>> {
+    let mut args = Vec::new(rt.alloc());
+    for arg in env::args(rt)?.skip(1) {
+        args.push(arg)?;
+    }
+    Ok(args)
+}
+
+/// The arguments that the process was given, without the program's own name. Takes memory for them.
+///
+/// Where one is not UTF-8, `BadArguments` comes, since it is part of no command.
+pub fn arguments<R: Env + AllocGlobal>(rt: &R) -> Result<Vec<String>, RunFault>
+    ensures err { IfErr result
+        (λ fault. (fault ≡ Library OutOfMemory) ⊎ (fault ≡ BadArguments)) }
+{
+    match read_arguments(rt) {
+        Ok(args) => Ok(args),
+        Err(error) if error.kind() == io::ErrorKind::OutOfMemory => {
+            Err(RunFault::Library(Error::OutOfMemory))
+        }
+        Err(_) => Err(RunFault::BadArguments),
+    }
+}
 
 /// How a process ends.
 #[derive(Clone, Copy, Debug, PartialEq, Eq)]

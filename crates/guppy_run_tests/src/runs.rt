@@ -315,11 +315,29 @@ fn faults(rt: HostRuntime) -> Result<(), Fail> {
     Ok(())
 }
 
-// Runs `reach forward a` on devices that move pieces of so many bytes, and fail after so many reads or
-// writes.
+// Two packages that lead to each other.
+const THERE_AND_BACK: &[u8] = b"package a\npackage b\nlink a b normal\nlink b a dev\n";
+
+// What each command prints there.
+const PRINTED: [(&str, &[u8]); 11] = [
+    ("reach forward a", b"a\nb\n"),
+    ("reach reverse b", b"a\nb\n"),
+    ("depends a b", b"true\n"),
+    ("order", b"a\nb\n"),
+    ("roots forward", b"a\nb\n"),
+    ("roots reverse", b"a\nb\n"),
+    ("links forward", b"b a\na b\n"),
+    ("links reverse", b"a b\nb a\n"),
+    ("cycles", b"a b\n"),
+    ("verify", b"ok\n"),
+    ("publish-order", b"b\na\n"),
+];
+
+// Runs a command on devices that move pieces of so many bytes, and fail after so many reads or writes.
 fn assert_fails(
     rt: &impl Abort,
     alloc: Global,
+    line: &str,
     input: &[u8],
     moves: [usize; 3],
     output: &[u8],
@@ -333,7 +351,7 @@ fn assert_fails(
         rt,
         alloc,
         "failing_devices",
-        "reach forward a",
+        line,
         reader,
         writer,
         output,
@@ -342,27 +360,35 @@ fn assert_fails(
     )
 }
 
+// Each read of the command's input fails, and each write of what it prints.
+fn assert_each_fails(
+    rt: &impl Abort,
+    alloc: Global,
+    line: &str,
+    printed: &[u8],
+) -> Result<(), AllocError> {
+    let input = THERE_AND_BACK;
+    assert_fails(rt, alloc, line, input, [1, MANY, MANY], printed, "", 0)?;
+    // 10 pieces of at most 5 bytes, and the end.
+    for reads in 0..11 {
+        let moves = [5, reads, MANY];
+        assert_fails(rt, alloc, line, input, moves, b"", "input failed", 2)?;
+    }
+    for writes in 0..printed.len() {
+        let (moves, output) = ([1, MANY, writes], &printed[..writes]);
+        assert_fails(rt, alloc, line, input, moves, output, "output failed", 2)?;
+    }
+    Ok(())
+}
+
 #[test]
 fn failing_devices(rt: HostRuntime) -> Result<(), Fail> {
     let alloc = rt.alloc();
-    let printed = b"a\nb\n".as_slice();
-    assert_fails(&rt, alloc, FIRST, [1, MANY, MANY], printed, "", 0)?;
-    // 10 pieces of 5 bytes, and the end.
-    for reads in 0..11 {
-        assert_fails(&rt, alloc, FIRST, [5, reads, MANY], b"", "input failed", 2)?;
-    }
-    // After a bad line.
-    assert_fails(&rt, alloc, b"pack\n", [5, 1, MANY], b"", "input failed", 2)?;
-    for writes in 0..4 {
-        assert_fails(
-            &rt,
-            alloc,
-            FIRST,
-            [1, MANY, writes],
-            &printed[..writes],
-            "output failed",
-            2,
-        )?;
+    for (line, printed) in PRINTED {
+        assert_each_fails(&rt, alloc, line, printed)?;
+        // After a bad line.
+        let moves = [5, 1, MANY];
+        assert_fails(&rt, alloc, line, b"pack\n", moves, b"", "input failed", 2)?;
     }
     Ok(())
 }
