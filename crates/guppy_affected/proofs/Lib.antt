@@ -1,0 +1,4 @@
+pub mod Begins
+pub mod Owners
+pub mod Touching
+pub mod Found
