@@ -1,0 +1,112 @@
+//! A dependency as a package declares it.
+ghost use Rattle.std.specs.Prelude.{◌≡◌, unwrap_or};
+ghost use Rattle.std.specs.Option.{option_copied};
+
+use crate::fault::{MetadataFault, TextFault};
+use crate::object::{Object, requirement_of};
+use guppy_data::DependencyKind;
+use indexmap::IndexSet;
+use semver::{Version, VersionReq};
+use serde_json::Value;
+use std::alloc::{AllocError, Global};
+
+/// A dependency as a package declares it, with borrowed texts.
+#[derive(Drop)]
+pub(crate) struct Declared<'a> {
+    /// The name of the package that is asked for.
+    pub(crate) name: &'a str,
+    /// The name that the dependency has instead.
+    pub(crate) rename: Option<&'a str>,
+    /// The versions that are asked for.
+    pub(crate) requirement: VersionReq,
+    /// The section that asks for it.
+    pub(crate) section: DependencyKind,
+    /// The platforms on which it is asked for, where not on all.
+    pub(crate) target: Option<&'a str>,
+    /// Whether it is there only where a feature switches it on.
+    pub(crate) optional: bool,
+    /// Whether its default features are asked for.
+    pub(crate) default_features: bool,
+    /// The features that are asked for.
+    pub(crate) features: Vec<&'a str>,
+    /// The registry that is asked for.
+    pub(crate) registry: Option<&'a str>,
+    /// The path that is asked for.
+    pub(crate) path: Option<&'a str>,
+}
+
+impl<'a> Declared<'a> {
+    /// The dependency's name in the manifest.
+    pub(crate) fn dep_name(&self) -> &'a str
+        ensures { result.now ≡ unwrap_or (option_copied self.now.rename) self.now.name.now }
+    {
+        match self.rename {
+            Some(rename) => rename,
+            None => self.name,
+        }
+    }
+
+    /// Whether the version may be taken; `*` takes each, a pre-release too.
+    pub(crate) fn takes(&self, version: &Version) -> bool {
+        self.requirement.comparators.is_empty() || self.requirement.matches(version)
+    }
+}
+
+/// The section that the text in the member `kind` names; `normal` where there is none.
+pub(crate) fn section_of(object: Object<'_>) -> Result<DependencyKind, MetadataFault> {
+    match object.optional_text("kind")? {
+        None | Some("normal") => Ok(DependencyKind::Normal),
+        Some("dev") => Ok(DependencyKind::Development),
+        Some("build") => Ok(DependencyKind::Build),
+        Some(_) => {
+            let why = TextFault::NoDependencyKind;
+            Err(MetadataFault::bad_text(object.alloc, "kind", why))
+        }
+    }
+}
+
+fn declared_of(dependency: Object<'_>) -> Result<Declared<'_>, MetadataFault> {
+    let requirement = dependency.text("req")?;
+    Ok(Declared {
+        name: dependency.text("name")?,
+        rename: dependency.optional_text("rename")?,
+        requirement: requirement_of(dependency.alloc, "req", requirement)?,
+        section: section_of(dependency)?,
+        target: dependency.optional_text("target")?,
+        optional: dependency.boolean("optional", false)?,
+        default_features: dependency.boolean("uses_default_features", true)?,
+        features: dependency.texts("features")?,
+        registry: dependency.optional_text("registry")?,
+        path: dependency.optional_text("path")?,
+    })
+}
+
+/// The dependencies that the items of the list `dependencies` are.
+pub(crate) fn declared_dependencies(
+    alloc: Global,
+    items: &[Value],
+) -> Result<Vec<Declared<'_>>, MetadataFault> {
+    let mut declared = Vec::with_capacity(alloc, items.len())?;
+    for (index, item) in items.iter().enumerate() {
+        let dependency = Object::of_item(alloc, "dependencies", index, item)?;
+        match declared_of(dependency) {
+            Ok(dependency) => declared.push(dependency)?,
+            Err(fault) => return Err(fault.within_item(alloc, "dependencies", index)),
+        }
+    }
+    Ok(declared)
+}
+
+/// The names of the optional dependencies in the manifest, in their order, each once.
+pub(crate) fn optional_names(
+    alloc: Global,
+    declared: &[Declared<'_>],
+) -> Result<IndexSet<String>, AllocError> {
+    let mut names = IndexSet::new(alloc);
+    for dependency in declared {
+        if dependency.optional {
+            names.insert(String::from_str(alloc, dependency.dep_name())?)?;
+        }
+    }
+    Ok(names)
+}

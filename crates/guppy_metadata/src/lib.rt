@@ -1,0 +1,30 @@
+//! Reads what `cargo metadata --format-version 1` prints into the records that `guppy` makes a package
+//! graph of.
+//!
+//! The modules, from the bottom up:
+//!
+//! - `fault`: why there are no records, and where in the JSON;
+//! - `object`: the members of a JSON object;
+//! - `path`: the folder of a package, from the workspace's root;
+//! - `feature`: named features;
+//! - `target`: build targets;
+//! - `declared`: a dependency as a package declares it;
+//! - `workspace`: the workspace and its members;
+//! - `package`: packages;
+//! - `link`: links, of what is declared and what is resolved;
+//! - `records`: all records.
+#![tactic(auto)]
+
+mod declared;
+mod fault;
+mod feature;
+mod link;
+mod object;
+mod package;
+mod path;
+mod records;
+mod target;
+mod workspace;
+
+pub use fault::{Kind, MetadataFault, TextFault};
+pub use records::{Records, records_of};

@@ -1,0 +1,316 @@
+//! Links, of what packages declare and what is resolved.
+ghost use Rattle.std.specs.Prelude.{◌≡◌, if◌then◌else◌, true, false, IfOk, OnOk};
+ghost use Rattle.std.specs.Option.{option_copied};
+ghost use Rattle.guppy_data.specs.Platform.{recorded_status, with_spec};
+
+use crate::declared::{Declared, section_of};
+use crate::fault::{MetadataFault, TextFault};
+use crate::object::{Object, optional_copy};
+use crate::package::Package;
+use guppy_data::{
+    DepRequiredOrOptional, DependencyKind, DependencyReqImpl, LinkRecord, PackageId,
+    PlatformStatusImpl, TargetSpec, Utf8PathBuf,
+};
+use indexmap::IndexMap;
+use semver::VersionReq;
+use serde_json::Value;
+use std::alloc::{AllocError, Global};
+use std::collections::BTreeMap;
+
+/// The packages, and the position of each behind its ID.
+#[derive(Clone, Copy)]
+pub(crate) struct Packages<'p, 'a> {
+    pub(crate) packages: &'p [Package<'a>],
+    pub(crate) positions: &'p IndexMap<&'a str, usize>,
+}
+
+impl<'p, 'a> Packages<'p, 'a> {
+    fn with_id(self, id: &str) -> Option<&'p Package<'a>> {
+        let position = self.positions.get(id)?;
+        self.packages.get(*position)
+    }
+}
+
+// A section and the platforms that a resolved dependency is used for.
+#[derive(Clone, Copy)]
+struct Usage<'a> {
+    section: DependencyKind,
+    target: Option<&'a str>,
+}
+
+// A resolved dependency.
+#[derive(Drop)]
+struct Resolved<'a> {
+    name: &'a str,
+    id: &'a str,
+    usages: Vec<Usage<'a>>,
+}
+
+fn usage_of(usage: Object<'_>) -> Result<Usage<'_>, MetadataFault> {
+    Ok(Usage {
+        section: section_of(usage)?,
+        target: usage.optional_text("target")?,
+    })
+}
+
+// The usages that the items of the list `dep_kinds` are.
+fn usages_of(alloc: Global, items: &[Value]) -> Result<Vec<Usage<'_>>, MetadataFault> {
+    let mut usages = Vec::with_capacity(alloc, items.len())?;
+    for (index, item) in items.iter().enumerate() {
+        let usage = Object::of_item(alloc, "dep_kinds", index, item)?;
+        match usage_of(usage) {
+            Ok(usage) => usages.push(usage)?,
+            Err(fault) => return Err(fault.within_item(alloc, "dep_kinds", index)),
+        }
+    }
+    Ok(usages)
+}
+
+fn resolved_of(dependency: Object<'_>) -> Result<Resolved<'_>, MetadataFault> {
+    Ok(Resolved {
+        name: dependency.text("name")?,
+        id: dependency.text("pkg")?,
+        usages: usages_of(dependency.alloc, dependency.items("dep_kinds")?)?,
+    })
+}
+
+// Whether a name is the name in the code, where `_` stands for each `-`.
+fn is_named(name: &str, in_code: &str) -> bool {
+    name.len() == in_code.len()
+        && name.bytes().zip(in_code.bytes()).all(|(byte, other)| byte == other
+            || byte == b'-' && other == b'_')
+}
+
+// Whether the declared dependency, where it is the package, has the resolved name. A dependency on what is
+// no library is resolved with no name.
+fn has_name(declared: &Declared<'_>, package: &Package<'_>, in_code: &str) -> bool {
+    if in_code.is_empty() {
+        return true;
+    }
+    match (declared.rename, package.lib_name()) {
+        (Some(rename), _) => is_named(rename, in_code),
+        (None, Some(lib_name)) => is_named(lib_name, in_code),
+        (None, None) => is_named(declared.name, in_code),
+    }
+}
+
+fn is_used(declared: &Declared<'_>, usages: &[Usage<'_>]) -> bool {
+    usages.iter().any(|usage| usage.section == declared.section && usage.target == declared.target)
+}
+
+// Whether what a package declares is among the dependencies that were resolved to this one. One on itself
+// is resolved with the name of its library, whatever its own is.
+fn fits(
+    declared: &Declared<'_>,
+    from: &str,
+    resolved: &Resolved<'_>,
+    package: &Package<'_>,
+) -> bool {
+    declared.name == package.record.name.as_str()
+        && (from == resolved.id || has_name(declared, package, resolved.name))
+        && declared.takes(&package.record.version)
+        && is_used(declared, resolved.usages.as_slice())
+}
+
+// The text of the platforms, where the dependency isn't for all.
+fn spec_of(alloc: Global, target: Option<&str>) -> Result<Option<TargetSpec>, AllocError>
+    ensures { IfOk result (λ spec. spec ≡ option_copied target.entry) }
+{
+    match target {
+        Some(target) => Ok(Some(TargetSpec::new(String::from_str(alloc, target)?))),
+        None => Ok(None),
+    }
+}
+
+// Adds that these features are asked for on the platforms.
+fn add_features(
+    alloc: Global,
+    statuses: &mut BTreeMap<String, PlatformStatusImpl>,
+    features: &[&str],
+    spec: Option<&TargetSpec>,
+) -> Result<(), AllocError> {
+    for feature in features {
+        let name = String::from_str(alloc, feature)?;
+        let status = statuses
+            .entry(name)?
+            .or_insert(PlatformStatusImpl::never(alloc));
+        status.add_spec(spec)?;
+    }
+    Ok(())
+}
+
+// Adds what a declared dependency asks for.
+fn add_to_side(
+    alloc: Global,
+    side: &mut DepRequiredOrOptional,
+    declared: &Declared<'_>,
+) -> Result<(), AllocError>
+    ensures built { OnOk result (recorded_status side.new.build_if
+        ≡ with_spec (recorded_status side.old.build_if) (option_copied declared.now.target)) }
+    ensures with_defaults { OnOk result (recorded_status side.new.default_features_if
+        ≡ (if declared.now.default_features
+        then with_spec (recorded_status side.old.default_features_if)
+        (option_copied declared.now.target)
+        else recorded_status side.old.default_features_if)) }
+    ensures without_defaults { OnOk result (recorded_status side.new.no_default_features_if
+        ≡ (if declared.now.default_features
+        then recorded_status side.old.no_default_features_if
+        else with_spec (recorded_status side.old.no_default_features_if)
+        (option_copied declared.now.target))) }
+{
+    let spec = spec_of(alloc, declared.target)?;
+    side.build_if.add_spec(spec.as_ref())?;
+    if declared.default_features {
+        side.default_features_if.add_spec(spec.as_ref())?;
+    } else {
+        side.no_default_features_if.add_spec(spec.as_ref())?;
+    }
+    let features = declared.features.as_slice();
+    add_features(alloc, &mut side.feature_targets, features, spec.as_ref())
+}
+
+fn add_to_section(
+    alloc: Global,
+    section: &mut DependencyReqImpl,
+    declared: &Declared<'_>,
+) -> Result<(), AllocError>
+    ensures required { declared.now.optional ≡ true → section.new.required ≡ section.old.required }
+    ensures optional { declared.now.optional ≡ false → section.new.optional ≡ section.old.optional }
+{
+    if declared.optional {
+        add_to_side(alloc, &mut section.optional, declared)
+    } else {
+        add_to_side(alloc, &mut section.required, declared)
+    }
+}
+
+// Adds a declared dependency to the link. Of registries and paths the first one counts.
+fn add_declared(
+    alloc: Global,
+    link: &mut LinkRecord,
+    declared: &Declared<'_>,
+) -> Result<(), AllocError> {
+    if link.registry.is_none() {
+        link.registry = optional_copy(alloc, declared.registry)?;
+    }
+    if link.path.is_none() {
+        link.path = optional_copy(alloc, declared.path)?.map(Utf8PathBuf::new);
+    }
+    match declared.section {
+        DependencyKind::Normal => add_to_section(alloc, &mut link.normal, declared),
+        DependencyKind::Build => add_to_section(alloc, &mut link.build, declared),
+        DependencyKind::Development => add_to_section(alloc, &mut link.dev, declared),
+    }
+}
+
+// The link of this name and requirement that is asked for in no section.
+fn bare_link(
+    alloc: Global,
+    from: &str,
+    resolved: &Resolved<'_>,
+    dep_name: &str,
+    requirement: VersionReq,
+) -> Result<LinkRecord, AllocError> {
+    Ok(LinkRecord::new(
+        alloc,
+        PackageId::new(String::from_str(alloc, from)?),
+        PackageId::new(String::from_str(alloc, resolved.id)?),
+        String::from_str(alloc, dep_name)?,
+        String::from_str(alloc, resolved.name)?,
+        requirement,
+    ))
+}
+
+// The link with a declared dependency added, or the link of this one alone.
+fn link_with(
+    alloc: Global,
+    link: Option<LinkRecord>,
+    from: &str,
+    resolved: &Resolved<'_>,
+    declared: &Declared<'_>,
+) -> Result<LinkRecord, AllocError> {
+    let mut link = match link {
+        Some(link) => link,
+        None => {
+            let requirement = declared.requirement.clone()?;
+            bare_link(alloc, from, resolved, declared.dep_name(), requirement)?
+        }
+    };
+    add_declared(alloc, &mut link, declared)?;
+    Ok(link)
+}
+
+// The link of those declared dependencies that were resolved to the package, where there is one.
+fn link_of_fitting(
+    alloc: Global,
+    from: &str,
+    declared: &[Declared<'_>],
+    resolved: &Resolved<'_>,
+    package: &Package<'_>,
+) -> Result<Option<LinkRecord>, AllocError> {
+    let mut link = None;
+    for dependency in declared {
+        if fits(dependency, from, resolved, package) {
+            link = Some(link_with(alloc, link.take(), from, resolved, dependency)?);
+        }
+    }
+    Ok(link)
+}
+
+// The link from the package with this ID. Where one of its ends is no package, which the package graph
+// refuses, it is asked for in no section.
+fn link_of(
+    packages: Packages<'_, '_>,
+    from: &str,
+    dependency: Object<'_>,
+) -> Result<LinkRecord, MetadataFault> {
+    let alloc = dependency.alloc;
+    let resolved = resolved_of(dependency)?;
+    let ends = (packages.with_id(from), packages.with_id(resolved.id));
+    let (Some(package), Some(needed)) = ends else {
+        let any = VersionReq::star(alloc);
+        return Ok(bare_link(alloc, from, &resolved, resolved.name, any)?);
+    };
+    let declared = package.declared.as_slice();
+    match link_of_fitting(alloc, from, declared, &resolved, needed)? {
+        Some(link) => Ok(link),
+        None => {
+            let why = TextFault::NoDependency;
+            Err(MetadataFault::bad_text(alloc, "pkg", why))
+        }
+    }
+}
+
+// Adds the links that leave a package.
+fn add_links(
+    links: &mut Vec<LinkRecord>,
+    packages: Packages<'_, '_>,
+    node: Object<'_>,
+) -> Result<(), MetadataFault> {
+    let alloc = node.alloc;
+    let from = node.text("id")?;
+    for (index, item) in node.items("deps")?.iter().enumerate() {
+        let dependency = Object::of_item(alloc, "deps", index, item)?;
+        match link_of(packages, from, dependency) {
+            Ok(link) => links.push(link)?,
+            Err(fault) => return Err(fault.within_item(alloc, "deps", index)),
+        }
+    }
+    Ok(())
+}
+
+/// The links of the nodes that the items of the list `nodes` are.
+pub(crate) fn links_of(
+    alloc: Global,
+    packages: Packages<'_, '_>,
+    items: &[Value],
+) -> Result<Vec<LinkRecord>, MetadataFault> {
+    let mut links = Vec::new(alloc);
+    for (index, item) in items.iter().enumerate() {
+        let node = Object::of_item(alloc, "nodes", index, item)?;
+        if let Err(fault) = add_links(&mut links, packages, node) {
+            return Err(fault.within_item(alloc, "nodes", index));
+        }
+    }
+    Ok(links)
+}

@@ -1,0 +1,135 @@
+//! All records.
+ghost use Rattle.std.specs.Prelude.{◌≡◌, ◌≢◌, None, IsSome, IfOk, OnOk, IfErr};
+ghost use Rattle.serde_json.specs.Read.{read};
+ghost use Rattle.guppy_metadata.specs.declared.fault.MetadataFault.TheVariants.{OutOfMemory};
+
+use crate::fault::MetadataFault;
+use crate::link::{Packages, links_of};
+use crate::object::Object;
+use crate::package::{Package, package_records, packages_of, positions_of};
+use crate::workspace::{check_members, member_ids, set_of, workspace_record};
+use guppy::{Error, PackageGraph};
+use guppy_data::{LinkRecord, PackageRecord, Utf8Path, WorkspaceRecord};
+use serde_json::Value;
+use std::alloc::Global;
+
+/// The records of a package graph.
+#[derive(Debug, Drop)]
+pub struct Records {
+    /// The packages, in the order of Cargo.
+    pub packages: Vec<PackageRecord>,
+    /// The links, in the order of Cargo.
+    pub links: Vec<LinkRecord>,
+    /// The workspace.
+    pub workspace: WorkspaceRecord,
+}
+
+impl Records {
+    ghost use Rattle.guppy.specs.Accepted.{IsAccepted};
+    ghost use Rattle.guppy.specs.Graph.{Holds};
+    ghost use Rattle.guppy.specs.Refused.{IsRefusal};
+
+    /// The package graph of the records: what `PackageGraph::from_records` makes of them, with its errors,
+    /// time and memory.
+    pub fn into_graph(self) -> Result<PackageGraph, Error>
+        ensures holds { IfOk result
+            (λ g. Holds g self.packages.items self.links.items self.workspace) }
+        ensures accepted { OnOk result
+            (IsAccepted self.packages.items self.links.items self.workspace) }
+        ensures refused { IfErr result
+            (IsRefusal self.packages.items self.links.items self.workspace) }
+    {
+        let Records {
+            packages,
+            links,
+            workspace,
+        } = self;
+        PackageGraph::from_records(packages, links, workspace)
+    }
+}
+
+// The value that the JSON is.
+fn value_of(alloc: Global, json: &str) -> Result<Value, MetadataFault>
+    ensures json { OnOk result (IsSome (read json.now)) }
+    ensures no_json { IfErr result (λ fault. fault ≢ OutOfMemory → read json.now ≡ None) }
+{
+    match Value::from_str(alloc, json) {
+        Ok(value) => Ok(value),
+        Err(error) if error.is_memory() => Err(MetadataFault::OutOfMemory),
+        Err(error) => Err(MetadataFault::NotJson(error)),
+    }
+}
+
+// The nodes of the resolved dependencies.
+fn nodes_of(metadata: Object<'_>) -> Result<&[Value], MetadataFault> {
+    if metadata.optional("resolve").is_none() {
+        return Err(MetadataFault::NotResolved);
+    }
+    let resolve = metadata.object("resolve")?;
+    match resolve.items("nodes") {
+        Ok(nodes) => Ok(nodes),
+        Err(fault) => Err(fault.within(metadata.alloc, "resolve")),
+    }
+}
+
+// The links of the nodes between the packages, of which each member is one.
+fn links_between(
+    alloc: Global,
+    packages: &[Package<'_>],
+    members: &[&str],
+    nodes: &[Value],
+) -> Result<Vec<LinkRecord>, MetadataFault> {
+    let positions = positions_of(alloc, packages)?;
+    check_members(alloc, members, &positions)?;
+    let known = Packages {
+        packages,
+        positions: &positions,
+    };
+    match links_of(alloc, known, nodes) {
+        Ok(links) => Ok(links),
+        Err(fault) => Err(fault.within(alloc, "resolve")),
+    }
+}
+
+// The packages of the workspace with these members.
+fn packages_in<'a>(
+    metadata: Object<'a>,
+    members: &[&str],
+    root: Utf8Path<'_>,
+) -> Result<Vec<Package<'a>>, MetadataFault> {
+    let alloc = metadata.alloc;
+    let members = set_of(alloc, members)?;
+    packages_of(alloc, metadata.items("packages")?, &members, root)
+}
+
+fn records_in(metadata: Object<'_>) -> Result<Records, MetadataFault> {
+    let alloc = metadata.alloc;
+    let nodes = nodes_of(metadata)?;
+    let workspace = workspace_record(metadata)?;
+    let members = member_ids(metadata)?;
+    let packages = packages_in(metadata, members.as_slice(), workspace.root.as_path())?;
+    let links = links_between(alloc, packages.as_slice(), members.as_slice(), nodes)?;
+    Ok(Records {
+        packages: package_records(alloc, packages)?,
+        links,
+        workspace,
+    })
+}
+
+/// The records that the JSON says which `cargo metadata --format-version 1` prints.
+///
+/// A fault tells the first place in the JSON, in the order in which it is read, where something is missing,
+/// of another kind or no such text. What the rules of a package graph refuse, as a link's end that is no
+/// package, is left to `into_graph`.
+///
+/// Time grows with the text, and of one package with its resolved times its declared dependencies. Takes
+/// memory for what the text says and for the records.
+pub fn records_of(alloc: Global, json: &str) -> Result<Records, MetadataFault>
+    ensures { OnOk result (IsSome (read json.now)) }
+{
+    let value = value_of(alloc, json)?;
+    match Object::new(alloc, &value) {
+        Ok(metadata) => records_in(metadata),
+        Err(fault) => Err(fault.within(alloc, "the JSON")),
+    }
+}

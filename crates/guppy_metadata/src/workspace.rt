@@ -1,0 +1,71 @@
+//! The workspace and its members.
+
+use crate::fault::{MetadataFault, TextFault};
+use crate::object::{Object, texts_of};
+use guppy_data::{PackageId, Utf8PathBuf, WorkspaceRecord};
+use indexmap::{IndexMap, IndexSet};
+use std::alloc::{AllocError, Global};
+
+// The IDs that these texts are.
+fn ids_of(alloc: Global, texts: &[&str]) -> Result<Vec<PackageId>, AllocError> {
+    let mut ids = Vec::with_capacity(alloc, texts.len())?;
+    for text in texts {
+        ids.push(PackageId::new(String::from_str(alloc, text)?))?;
+    }
+    Ok(ids)
+}
+
+// The path that Cargo builds on its way into, where it is another one than the target directory.
+fn build_directory(metadata: Object<'_>) -> Result<Option<Utf8PathBuf>, MetadataFault> {
+    let Some(path) = metadata.optional_text("build_directory")? else {
+        return Ok(None);
+    };
+    if path == metadata.text("target_directory")? {
+        return Ok(None);
+    }
+    let path = String::from_str(metadata.alloc, path)?;
+    Ok(Some(Utf8PathBuf::new(path)))
+}
+
+/// The record of the workspace.
+pub(crate) fn workspace_record(metadata: Object<'_>) -> Result<WorkspaceRecord, MetadataFault> {
+    let alloc = metadata.alloc;
+    let root = Utf8PathBuf::new(metadata.copied_text("workspace_root")?);
+    let target_directory = Utf8PathBuf::new(metadata.copied_text("target_directory")?);
+    let default_members = metadata.texts("workspace_default_members")?;
+    let mut workspace = WorkspaceRecord::new(alloc, root, target_directory);
+    workspace.build_directory = build_directory(metadata)?;
+    workspace.metadata_table = metadata.copied_value("metadata")?;
+    workspace.default_members = ids_of(alloc, default_members.as_slice())?;
+    Ok(workspace)
+}
+
+/// The IDs of the workspace's members.
+pub(crate) fn member_ids(metadata: Object<'_>) -> Result<Vec<&str>, MetadataFault> {
+    let items = metadata.items("workspace_members")?;
+    texts_of(metadata.alloc, "workspace_members", items)
+}
+
+/// The set of these IDs.
+pub(crate) fn set_of<'a>(alloc: Global, ids: &[&'a str]) -> Result<IndexSet<&'a str>, AllocError> {
+    let mut set = IndexSet::with_capacity(alloc, ids.len())?;
+    for id in ids {
+        set.insert(*id)?;
+    }
+    Ok(set)
+}
+
+/// Asks that each member is one of the packages, whose positions stand behind their IDs.
+pub(crate) fn check_members(
+    alloc: Global,
+    members: &[&str],
+    positions: &IndexMap<&str, usize>,
+) -> Result<(), MetadataFault> {
+    for (index, id) in members.iter().enumerate() {
+        if !positions.contains_key(*id) {
+            let fault = MetadataFault::bad_text(alloc, "", TextFault::NoPackage);
+            return Err(fault.within_item(alloc, "workspace_members", index));
+        }
+    }
+    Ok(())
+}
