@@ -1,0 +1,251 @@
+#!/usr/bin/env python3
+"""Tries the program guppy_cargo on what `cargo metadata` prints of real workspaces.
+
+They are made in a temporary folder: one with every kind of package and dependency, some that are drawn, and one on
+Debian's packages of Rust sources, which are taken from its archive and unpacked there; where they can't be had a
+line says so. What the program answers is compared with what a few lines here read off the same JSON. Then it is
+given a thousand broken ones. Needs cargo, and the program as built, or one that the argument names. The last line is
+'N passed, M failed'.
+"""
+
+import collections
+import itertools
+import json
+import os
+import random
+import subprocess
+import sys
+import tempfile
+from concurrent.futures import ThreadPoolExecutor
+
+from breaks import broken
+from workspaces import texts_in
+
+HERE = os.path.dirname(os.path.realpath(__file__))
+BUILT = os.path.join(os.path.dirname(HERE), "crates", "guppy_cargo", "out", "guppy_cargo")
+PROGRAM = sys.argv[1] if sys.argv[1:] else BUILT
+SECONDS = 60
+
+# So many starts are asked about in each graph, and so many broken inputs are tried.
+STARTS, BROKEN = 12, 1000
+
+
+class Graph:
+    """What is read off the JSON of a workspace, each package under the name that the program is to give it."""
+
+    def __init__(self, text):
+        self.text, self.data = text, json.loads(text)
+        packages, nodes = self.data["packages"], self.data["resolve"]["nodes"]
+        count = collections.Counter(it["name"] for it in packages)
+        called = {it["id"]: it["name"] if count[it["name"]] == 1 else it["id"] for it in packages}
+        self.names, self.ids = sorted(called.values()), {name: it for it, name in called.items()}
+        self.repeated = [name for name in count if count[name] > 1]
+        ends = [(called[node["id"]], called[it["pkg"]], it["dep_kinds"]) for node in nodes for it in node["deps"]]
+        self.links = {(a, b) for a, b, _ in ends}
+        self.firm = {(a, b) for a, b, kinds in ends if any(it["kind"] != "dev" for it in kinds)}
+        self.onward, self.firmly = reach_of(self.names, self.links), reach_of(self.names, self.firm)
+        self.back = reach_of(self.names, reverse(self.links))
+        members, root = set(self.data["workspace_members"]), self.data["workspace_root"]
+        paths = {it["id"]: os.path.relpath(it["manifest_path"], root) for it in packages if it["id"] in members}
+        self.folders = {called[it]: path.split("/")[:-1] for it, path in paths.items()}
+        self.random = random.Random(len(text))
+        self.starts = self.random.sample(self.names, min(STARTS, len(self.names)))
+
+    def component(self, name):
+        return self.onward[name] & self.back[name]
+
+    def has_firm_cycle(self):
+        return any(a != b and a in self.firmly[b] for a, b in self.firm)
+
+    def led_back(self, order):
+        """The pairs that stand the wrong way round in an order with dependents first."""
+        pairs = [(a, b) for a, b in itertools.combinations(order, 2) if a in self.onward.get(b, ())]
+        is_firm = not self.has_firm_cycle()
+        return [(a, b) for a, b in pairs if b not in self.onward[a] or is_firm and a in self.firmly[b]]
+
+    def touched(self, path):
+        """The members to which a path belongs."""
+        path = path.removeprefix("./")
+        parts = path.split("/")
+        holding = [it for it, folder in self.folders.items() if parts[: len(folder)] == folder]
+        if path in ("Cargo.toml", "Cargo.lock") or not holding:
+            return set(self.folders)
+        return {max(holding, key=lambda it: len(self.folders[it]))}
+
+    def ask(self, *words):
+        """The lines of an answer, or what came in its place."""
+        status, output, errors = run(words, self.text.encode())
+        return lines_of(output) if (status, errors) == (0, "") else [f"status {status}, {output!r}, {errors!r}"]
+
+
+def reverse(links):
+    return {(b, a) for a, b in links}
+
+
+def reach_of(names, links):
+    """What links lead to from each, itself among them."""
+    follows = collections.defaultdict(set)
+    for a, b in links:
+        follows[a].add(b)
+    return {name: reached_from(name, follows) for name in names}
+
+
+def reached_from(start, follows):
+    reached, new = set(), {start}
+    while new:
+        reached |= new
+        new = set().union(*(follows[it] for it in new)) - reached
+    return reached
+
+
+def lines_of(output):
+    return output.removesuffix("\n").split("\n") if output else []
+
+
+def run(words, given):
+    """Status, output and errors of the program; what takes too long ends with a status of its own."""
+    try:
+        ran = subprocess.run([PROGRAM, *words], input=given, capture_output=True, timeout=SECONDS, check=False)
+    except subprocess.TimeoutExpired:
+        return "too slow", "", ""
+    return ran.returncode, ran.stdout.decode(errors="replace"), ran.stderr.decode(errors="replace")
+
+
+def ending(words, given):
+    """The status, and what is wrong in how the program told it."""
+    status, output, errors = run(words, given)
+    is_told = output == "" and errors.startswith("error: ") and errors.endswith("\n") and errors.count("\n") == 1
+    return f"status {status}" if is_told or (status, errors) == (0, "") else f"status {status} with {errors!r}"
+
+
+# Each of these yields what was asked, what is right, and what the program answered.
+
+
+def try_reach(graph):
+    for a, b in itertools.pairwise(graph.starts):
+        yield f"reach forward {a}", sorted(graph.onward[a]), graph.ask("reach", "forward", a)
+        yield f"reach reverse {a}", sorted(graph.back[a]), graph.ask("reach", "reverse", a)
+        both = sorted(graph.onward[a] | graph.onward[b])
+        yield f"reach forward {a} {b}, by ID", both, graph.ask("reach", "forward", graph.ids[a], graph.ids[b])
+
+
+def try_depends(graph):
+    for a, b in itertools.product(graph.starts[:6], graph.starts[:6]):
+        yield f"depends {a} {b}", [str(b in graph.onward[a]).lower()], graph.ask("depends", a, b)
+
+
+def try_order(graph):
+    order = graph.ask("order")
+    yield "order, each once", graph.names, sorted(order)
+    yield "order, the wrong way round", [], graph.led_back(order)
+    place = {name: order.index(name) if name in order else 0 for name in graph.names}
+    parts = [sorted(place[it] for it in graph.component(name)) for name in graph.names]
+    yield "order, components apart", [], [it for it in parts if it[-1] - it[0] >= len(it)]
+
+
+def try_cycles(graph):
+    components = {tuple(sorted(graph.component(name))) for name in graph.names}
+    wanted = sorted(it for it in components if len(it) > 1 or it * 2 in graph.links)
+    yield "cycles", wanted, sorted(tuple(sorted(line.split(" "))) for line in graph.ask("cycles"))
+
+
+def try_links(graph):
+    for direction, links in (("forward", graph.links), ("reverse", reverse(graph.links))):
+        entered = {b for a, b in links if b not in graph.component(a)}
+        found = {name for name in graph.names if not entered & graph.component(name)}
+        yield f"roots {direction}", sorted(found), sorted(graph.ask("roots", direction))
+        walked = [tuple(line.split(" ")) for line in graph.ask("links", direction)]
+        yield f"links {direction}", sorted(graph.links), sorted(walked)
+        steps = walked if direction == "forward" else [it[::-1] for it in walked]
+        early = [it for it in steps if it[0] not in found or found.add(it[-1])]
+        yield f"links {direction}, before what leads there", [], early
+
+
+def try_publish(graph):
+    yield "verify", ["ok"], graph.ask("verify")
+    order = graph.ask("publish-order")
+    yield "publish-order, each once", sorted(graph.folders), sorted(order)
+    early = [(a, b) for a, b in itertools.combinations(order, 2) if b in graph.firmly.get(a, ())]
+    yield "publish-order, the wrong way round", [], early
+
+
+def try_affected(graph):
+    files = ("src/lib.rs", "x/y/z", "Cargo.toml", "Cargo.lock")
+    some = ["/".join([*folder, it]) for folder in graph.folders.values() if folder for it in files]
+    some += ["Cargo.toml", "Cargo.lock", "elsewhere/x", "base-mor/x", "./Cargo.lock", "./base/x"]
+    for paths in [[], *([it] for it in some), *(graph.random.sample(some, it % 3 + 2) for it in range(STARTS))]:
+        touched = set().union(*map(graph.touched, paths))
+        wanted = set().union(*(graph.back[it] for it in touched)) & set(graph.folders)
+        answer = graph.ask("affected", *paths)
+        yield f"affected {' '.join(paths)}", sorted(wanted), sorted(answer)
+        yield f"affected {' '.join(paths)}, the wrong way round", [], graph.led_back(answer[::-1])
+
+
+def try_refused(graph):
+    """Arguments, names and input that are wrong, and cycles that no order can have."""
+    given = graph.text.encode()
+    for words in ("", "reach", "reach up", "reach forward", "depends a", "order all", "publish", "roots", "verify x"):
+        yield words, "status 2", ending(words.split(), given)
+    for name in ("no-such-package", *graph.repeated):
+        yield f"depends {name}", "status 1", ending(["depends", name, graph.names[0]], given)
+    without = json.dumps({**graph.data, "resolve": None}).encode()
+    deep = [b"[" * 10**6, b'{"a":' * 10**5]
+    for text in (b"", b"{}", b"[]", b"\xff", given[:-2], given + b"x", given * 2, without, *deep):
+        yield f"order of {text[:20]} and {len(text)} bytes", "status 1", ending(["order"], text)
+    firm = Graph(graph.text.replace('"kind":"dev"', '"kind":null'))
+    for words in ("verify", "publish-order"):
+        wanted = f"status {int(firm.has_firm_cycle())}"
+        yield f"{words}, dev-dependencies made normal", wanted, ending([words], firm.text.encode())
+
+
+PARTS = {
+    "reach": try_reach,
+    "depends": try_depends,
+    "order": try_order,
+    "cycles": try_cycles,
+    "roots and links": try_links,
+    "verify and publish-order": try_publish,
+    "affected": try_affected,
+    "refusals": try_refused,
+}
+
+
+def try_broken(text, number):
+    """What was asked of a broken JSON, what is right, and how the program ended."""
+    given, what = broken(text, number)
+    words = ["order", "links reverse", "verify", "publish-order"][number % 4]
+    ended = ending(words.split(), given)
+    return f"{words} of number {number}, {what}", ended if ended in ("status 0", "status 1") else "status 0 or 1", ended
+
+
+def tell(part, tried):
+    """Prints what came of a part's questions, and returns whether all are right."""
+    wrong = [it for it in tried if it[1] != it[2]]
+    for asked, wanted, got in wrong[:10]:
+        print(f"cargo: {part}: FAILED: {asked}: {got!s:.1000}, where {wanted!s:.1000} is the answer")
+    print(f"cargo: {part}: {len(tried) - len(wrong)} of {len(tried)} are right", flush=True)
+    return not wrong
+
+
+def tries_of(part, where, graph):
+    return [(f"{where}: {asked}", *rest) for asked, *rest in PARTS[part](graph)]
+
+
+def main():
+    if not os.access(PROGRAM, os.X_OK):
+        return f"cargo: {PROGRAM} is not there"
+    with tempfile.TemporaryDirectory() as room:
+        graphs = {where: Graph(text) for where, text in texts_in(room).items()}
+    links = sum(len(it.links) for it in graphs.values())
+    print(f"cargo: {len(graphs)} graphs, of {sum(len(it.names) for it in graphs.values())} packages and {links} links")
+    text = next(iter(graphs.values())).text
+    with ThreadPoolExecutor(4) as workers:
+        trying = {part: [workers.submit(tries_of, part, *it) for it in graphs.items()] for part in PARTS}
+        passed = [tell(part, [it for tried in each for it in tried.result()]) for part, each in trying.items()]
+        passed.append(tell("broken input", list(workers.map(lambda it: try_broken(text, it), range(BROKEN)))))
+    print(f"{passed.count(True)} passed, {passed.count(False)} failed")
+    return not all(passed)
+
+
+if __name__ == "__main__":
+    sys.exit(main())

@@ -1,0 +1,5 @@
+pub mod Fault
+pub mod Asked
+pub mod Names
+pub mod Answer
+pub mod Run
