@@ -1,9 +1,9 @@
 #!/usr/bin/env python3
-"""Refuses each request for memory in turn, to the cases of guppy_refusals and to the program.
+"""Refuses each request for memory in turn, to the cases of guppy_refusals and to the programs.
 
 Both are run as the gate built them, in crates/*/out, with refuse.c preloaded, which has the C library refuse
 requests. Each case and each command is run with its first request refused, then with its second, until a run has
-no request left to refuse; each time once with this one alone, and once with those after it too. The program is also
+no request left to refuse; each time once with this one alone, and once with those after it too. guppy_run is also
 run with less and less address space. The last line is 'N passed, M failed'.
 """
 
@@ -66,6 +66,8 @@ FAULTED = ["verify", "publish-order"]
 # Each command on the graph, and those on the graph without that link.
 RUNS = {command: (command, LINES) for command in COMMANDS}
 RUNS |= {f"{command} without a cycle": (command, LINES.replace(TURNING, "")) for command in FAULTED}
+# On the input that is stored with guppy_cargo: all of it is read whatever the command.
+CARGO_RUNS = ["affected base/src/lib.rs ./top/x", "reach reverse base"]
 
 
 def run(shim, words, number, part, given=b""):
@@ -159,10 +161,9 @@ def full_outcome(name, words, given):
     return full, None if is_right else f"with ample memory status, output and errors are {full}"
 
 
-def try_program(shim, program, name):
-    """Refuses each request of a run of the program in turn, and returns how many there are, and what is wrong."""
-    command, lines = RUNS[name]
-    words, given = [program, *command.split()], lines.encode()
+def try_program(shim, program, name, command, text):
+    """Refuses each request of a run of a program in turn, and returns how many there are, and what is wrong."""
+    words, given = [program, *command.split()], text.encode()
     full, wrong = full_outcome(name, words, given)
 
     def tries(number):
@@ -202,9 +203,13 @@ def try_limits(program, name):
     return MANY, "it finds room nowhere"
 
 
+def text_of(crate, file):
+    with open(os.path.join(CRATES, crate, file), encoding="utf-8") as opened:
+        return opened.read()
+
+
 def read_lines(file):
-    with open(os.path.join(CRATES, "guppy_refusals", file), encoding="utf-8") as opened:
-        return opened.read().splitlines()
+    return text_of("guppy_refusals", file).splitlines()
 
 
 def transcripts(cases):
@@ -229,18 +234,22 @@ def outcomes_of(workers, tries, over):
 
 def try_build(workers, shim, ending):
     """Tries all that one of the compilers built, and returns how many were tried, and how many failed."""
-    checks, program = (os.path.join(CRATES, it, "out", it + ending) for it in ("guppy_refusals", "guppy_run"))
+    crates = "guppy_refusals", "guppy_run", "guppy_cargo"
+    checks, program, cargo = (os.path.join(CRATES, it, "out", it + ending) for it in crates)
+    metadata = text_of("guppy_cargo", "stdin")
     cases = read_lines("args")
     full = transcripts(cases)
     quiet = sum(case.startswith("quiet.") for case in cases)
     print(f"refusals, {BUILDS[ending]}:")
     cut, refused = outcomes_of(workers, lambda case: try_case(shim, checks, case, full[case]), cases)
     print(f"  {len(cases) - quiet} cases, of which {refused} requests were refused; {quiet} cases that make none")
-    lost, refused = outcomes_of(workers, lambda name: try_program(shim, program, name), RUNS)
-    print(f"  {len(RUNS)} runs of commands, of which {refused} requests were refused")
+    lost, refused = outcomes_of(workers, lambda it: try_program(shim, program, it, *RUNS[it]), RUNS)
+    print(f"  {len(RUNS)} runs of guppy_run's commands, of which {refused} requests were refused")
+    read, refused = outcomes_of(workers, lambda it: try_program(shim, cargo, it, it, metadata), CARGO_RUNS)
+    print(f"  {len(CARGO_RUNS)} runs of guppy_cargo's commands, of which {refused} requests were refused")
     crashed, refused = outcomes_of(workers, lambda name: try_limits(program, name), RUNS)
     print(f"  {len(RUNS)} runs with less and less room, of which {refused} were refused")
-    return len(cases) + 2 * len(RUNS), cut + lost + crashed
+    return len(cases) + 2 * len(RUNS) + len(CARGO_RUNS), cut + lost + read + crashed
 
 
 def main():

@@ -8,6 +8,7 @@
 
 mod data;
 mod filters;
+mod ixs;
 mod lists;
 mod look_ups;
 mod positions;
@@ -17,6 +18,7 @@ mod resolves;
 mod searches;
 mod sets;
 mod told;
+mod verifying;
 mod world;
 
 use crate::world::{World, tell_world};
@@ -55,7 +57,9 @@ fn ask(rt: &impl Print, alloc: Global, world: &World<'_>, case: &str) -> Result<
         Some(("look_ups", call)) => look_ups::ask(rt, alloc, world, call),
         Some(("data", call)) => data::ask(rt, alloc, call),
         Some(("positions", call)) => positions::ask(rt, alloc, call),
+        Some(("ixs", call)) => ixs::ask(rt, alloc, call),
         Some(("searches", call)) => searches::ask(rt, alloc, call),
+        Some(("verifying", call)) => verifying::ask(rt, alloc, world, call),
         Some(("quiet", call)) => quiet::ask(rt, alloc, world, call),
         _ => ask_from_records(rt, alloc),
     }

@@ -93,7 +93,7 @@ pub(crate) fn tell_positions(rt: &impl Print, set: &IxSet<DevLinks>) {
     tell_line(rt, &"positions");
 }
 
-fn tell_list(rt: &impl Print, positions: &[PackageIx]) {
+pub(crate) fn tell_list(rt: &impl Print, positions: &[PackageIx]) {
     for ix in positions {
         tell(rt, *ix);
     }

@@ -4,11 +4,12 @@ ghost use Rattle.std.specs.Prelude.{◌≡◌, length};
 use crate::positions::{DevLinks, graph_of, set_of, tell_positions};
 use crate::told::{begin, tell, tell_line, tell_set};
 use crate::world::{World, tell_graph};
-use guppy::graph::DependencyDirection;
+use guppy::graph::{DependencyDirection, DependencyReqImpl};
 use guppy::platform::{EnabledTernary, PlatformSpec, TargetEval, TargetSpec};
 use guppy::positions::IxSet;
 use guppy::{CycleIds, DependsCache, Error, PackageMetadata, Utf8Path};
 use guppy_input::fault::RunFault;
+use guppy_input::input::records_of;
 use std::alloc::{AllocError, Global};
 
 const FORWARD: DependencyDirection = DependencyDirection::Forward;
@@ -79,6 +80,18 @@ fn ask_fields(rt: &impl Print, world: &World<'_>) {
     for package in world.graph.packages() {
         tell_fields(rt, package);
     }
+}
+
+// A graph whose only link has no section: no cycle is looked for.
+fn ask_verify(rt: &impl Print, alloc: Global) -> Result<(), RunFault> {
+    let mut records = records_of(alloc, b"package a\npackage b\nlink a b dev\n")?;
+    for link in &mut records.links {
+        link.dev = DependencyReqImpl::never(alloc);
+    }
+    let graph = crate::graph_of(records)?;
+    begin(rt);
+    graph.verify()?;
+    Ok(())
 }
 
 fn tell_cycle(rt: &impl Print, cycle: CycleIds<'_>) {
@@ -164,6 +177,7 @@ pub(crate) fn ask(
         "look_ups" => ask_look_ups(rt, world)?,
         "members" => ask_members(rt, world)?,
         "fields" => ask_fields(rt, world),
+        "verify" => ask_verify(rt, alloc)?,
         "lists" => ask_lists(rt, world),
         "iterators" => ask_iterators(rt, world)?,
         "cache" => ask_cache(rt, world)?,

@@ -1,12 +1,14 @@
 //! Searches by position, with filters that count what they are asked.
 ghost use Rattle.std.specs.Prelude.{◌≡◌, ◌<◌, length, All, IfOk};
+ghost use Rattle.guppy.specs.Resolve.{IsCallableBelow};
 
 use crate::positions::{DevLinks, graph_of, set_of, tell_positions};
-use crate::told::{begin, tell_calls, tell_line};
-use guppy::graph::{DependencyDirection, PackageIx};
+use crate::told::{begin, tell, tell_calls, tell_line};
+use guppy::graph::{DependencyDirection, IndexType, PackageIx};
 use guppy::positions::{
-    BufferedEdgeFilter, Graph, IxSet, ResolveCore, reachable_buffered, reachable_buffered_mut,
-    reachable_filtered, reachable_with_fn,
+    BufferedEdgeFilter, Graph, IxSet, LinkVisitor, ReachCache, Recorder, ResolveCore,
+    reachable_buffered, reachable_buffered_mut, reachable_filtered, reachable_recorded,
+    reachable_with, reachable_with_fn,
 };
 use guppy_input::fault::RunFault;
 use std::alloc::{AllocError, Global};
@@ -97,6 +99,26 @@ fn ask_buffered(
     Ok(())
 }
 
+fn with_callback<F: FnMut(usize) -> bool>(
+    graph: &Graph<DevLinks>,
+    start: &IxSet<DevLinks>,
+    mut callback: F,
+    call: &str,
+) -> Result<ResolveCore<DevLinks>, AllocError>
+    requires count { length start.now ≡ length graph.now.nodes }
+    requires callable { IsCallableBelow F.pre F.step (length graph.now.links) callback }
+{
+    let set = match call {
+        "reachable_filtered" => reachable_filtered(graph, start, FORWARD, callback)?,
+        "reachable_with_fn" => reachable_with_fn(graph, start, FORWARD, &mut callback)?,
+        "with_edge_filter" => {
+            return ResolveCore::with_edge_filter(graph, start, FORWARD, callback);
+        }
+        _ => return ResolveCore::with_edge_filter_mut(graph, start, FORWARD, &mut callback),
+    };
+    Ok(ResolveCore::from_included(set))
+}
+
 fn ask_closure(
     rt: &impl Print,
     graph: &Graph<DevLinks>,
@@ -108,17 +130,99 @@ fn ask_closure(
     let mut calls = 0_usize;
     tell_calls(rt, calls);
     begin(rt);
-    let mut callback = |_link: usize| {
+    let callback = |_link: usize| {
         calls = calls.wrapping_add(1);
         calls != 2
     };
-    let set = if call == "reachable_with_fn" {
-        reachable_with_fn(graph, start, FORWARD, &mut callback)
-    } else {
-        reachable_filtered(graph, start, FORWARD, callback)
-    };
+    let set = with_callback(graph, start, callback, call);
     tell_calls(rt, calls);
+    tell_positions(rt, set?.included());
+    Ok(())
+}
+
+// Refuses the second link that it is shown, and counts all.
+#[derive(Drop)]
+struct RefusesSecond {
+    calls: usize,
+}
+
+impl LinkVisitor for RefusesSecond {
+    ghost use Rattle.std.specs.Prelude.{⊤};
+
+    ghost visits = { λ _ _ _ _. ⊤ };
+
+    fn visit(&mut self, _link: usize) -> bool {
+        self.calls = self.calls.wrapping_add(1);
+        self.calls != 2
+    }
+}
+
+fn tell_entries(rt: &impl Print, entries: &[(usize, bool)]) {
+    for (number, is_accepted) in entries {
+        tell(rt, *number);
+        tell(rt, *is_accepted);
+    }
+    tell_line(rt, &"entries");
+}
+
+// The recorder is made before, and lent.
+fn ask_lent(
+    rt: &impl Print,
+    graph: &Graph<DevLinks>,
+    start: &IxSet<DevLinks>,
+) -> Result<(), AllocError>
+    requires { length start.now ≡ length graph.now.nodes }
+{
+    let visitor = RefusesSecond { calls: 0 };
+    let mut recorder = Recorder::new(graph.alloc(), visitor, graph.link_count())?;
+    tell_calls(rt, recorder.visitor.calls);
+    tell_entries(rt, recorder.entries.as_slice());
+    begin(rt);
+    let set = reachable_with(graph, start, FORWARD, &mut recorder);
+    tell_calls(rt, recorder.visitor.calls);
+    tell_entries(rt, recorder.entries.as_slice());
     tell_positions(rt, &set?);
+    Ok(())
+}
+
+// The set, and the entries.
+fn recorded(
+    graph: &Graph<DevLinks>,
+    start: &IxSet<DevLinks>,
+    visitor: &mut RefusesSecond,
+) -> Result<(IxSet<DevLinks>, Vec<(usize, bool)>), AllocError>
+    requires { length start.now ≡ length graph.now.nodes }
+{
+    let (set, recorder) = reachable_recorded(graph, start, FORWARD, visitor)?;
+    Ok((set, recorder.entries))
+}
+
+fn ask_recorded(
+    rt: &impl Print,
+    graph: &Graph<DevLinks>,
+    start: &IxSet<DevLinks>,
+) -> Result<(), AllocError>
+    requires { length start.now ≡ length graph.now.nodes }
+{
+    let mut visitor = RefusesSecond { calls: 0 };
+    tell_calls(rt, visitor.calls);
+    begin(rt);
+    let found = recorded(graph, start, &mut visitor);
+    tell_calls(rt, visitor.calls);
+    let (set, entries) = found?;
+    tell_entries(rt, entries.as_slice());
+    tell_positions(rt, &set);
+    Ok(())
+}
+
+// Room for a search, and whether one leads from the first position to the last.
+fn ask_cache(rt: &impl Print, graph: &Graph<DevLinks>) -> Result<(), AllocError> {
+    begin(rt);
+    let mut cache = ReachCache::new(graph)?;
+    if graph.node_count() == 4 {
+        let (first, last) = (PackageIx::new(0), PackageIx::new(3));
+        tell_line(rt, &cache.reaches(graph, first, last, FORWARD));
+    }
     Ok(())
 }
 
@@ -126,7 +230,11 @@ pub(crate) fn ask(rt: &impl Print, alloc: Global, call: &str) -> Result<(), RunF
     let graph = graph_of(alloc)?;
     let start = set_of(&graph, &[0])?;
     match call {
-        "reachable_with_fn" | "reachable_filtered" => ask_closure(rt, &graph, &start, call)?,
+        "reachable_with_fn" | "reachable_filtered" | "with_edge_filter" | "with_edge_filter_mut" =>
+            { ask_closure(rt, &graph, &start, call)? }
+        "reachable_with" => ask_lent(rt, &graph, &start)?,
+        "reachable_recorded" => ask_recorded(rt, &graph, &start)?,
+        "reach_cache" => ask_cache(rt, &graph)?,
         _ => ask_buffered(rt, &graph, &start, call)?,
     }
     Ok(())
