@@ -66,8 +66,9 @@ FAULTED = ["verify", "publish-order"]
 # Each command on the graph, and those on the graph without that link.
 RUNS = {command: (command, LINES) for command in COMMANDS}
 RUNS |= {f"{command} without a cycle": (command, LINES.replace(TURNING, "")) for command in FAULTED}
-# On the input that is stored with guppy_cargo: all of it is read whatever the command.
-CARGO_RUNS = ["affected base/src/lib.rs ./top/x", "reach reverse base"]
+# On the input that is stored with guppy_cargo. All of it is read whatever the command; these show each member, package
+# and link.
+CARGO_RUNS = ["affected base/src/lib.rs ./top/x", "order", "links forward"]
 
 
 def run(shim, words, number, part, given=b""):
