@@ -27,7 +27,7 @@ renamed names (reach direction ids) = reach direction (map (called_text names) i
 renamed names (depends from to) = depends (called_text names from) (called_text names to)
 renamed names command = command
 
--- the output is an answer to the command, of a graph whose IDs are what packages are called
+-- the output is an answer of the graph to the command, with each package in it called by these names
 abbrev pub IsAnswer : Names → CargoCommand → GraphData → List ℕ → Type 0
 IsAnswer names (graph command) g output = IsGraphAnswer (renamed names command) g output
 IsAnswer names (affected paths) g output = IsAffectedAnswer g paths output

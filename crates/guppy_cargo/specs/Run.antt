@@ -8,7 +8,7 @@ use Rattle.guppy_cargo.specs.declared.names.Names.{Names}
 use Rattle.guppy_cargo.specs.Asked.{CargoCommand, command_of}
 use Rattle.guppy_cargo.specs.Answer.{IsAnswer}
 
--- the output is an answer to the command, of some graph and of what its packages are called
+-- the output is an answer to the command, of some graph and with some names
 pub record IsAnswerTo (command : CargoCommand) (output : List ℕ) : Type 0 where
   pub names : Names
   pub graph : GraphData
