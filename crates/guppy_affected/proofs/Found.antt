@@ -1,5 +1,5 @@
 -- What the searches of the members find, and the sets that they make.
-use Rattle.std.proofs.Common.{◌≡◌, ◌∙◌, refl, sym, ap, subst, ℕ, Bool, true, List, [], ◌∷◌, length, map, None, Some, Ok, Err, Bor}
+use Rattle.std.proofs.Common.{◌≡◌, ◌∙◌, refl, sym, ap, subst, ℕ, Bool, List, [], ◌∷◌, length, map, None, Some, Ok, Err, Bor}
 use Rattle.std.specs.Prelude.{◌↔◌, Option, Result, option_map, MatchOption, IfOk, IsTrue}
 use Rattle.std.specs.Iterator.{Yields, YieldsFirstBy}
 use Rattle.std.specs.Ordering.{eq_by_cmp, is_eq}

@@ -1,16 +1,16 @@
 -- Which members the paths touch, and which they affect.
-use Rattle.std.proofs.Common.{◌≡◌, ◌≢◌, ◌⊎◌, inl, inr, ⊎_elim, refl, sym, subst, ℕ, zero, suc, ◌<◌, Bool, true, false, List, [], ◌∷◌, ◌++◌, length, Contains, replicate, arith}
+use Rattle.std.proofs.Common.{◌≡◌, ◌≢◌, ◌⊎◌, inl, inr, ⊎_elim, refl, sym, subst, ℕ, zero, suc, ◌<◌, true, false, List, [], ◌∷◌, ◌++◌, Contains, replicate, arith}
 use Rattle.std.specs.Prelude.{◌↔◌}
 use Rattle.std.proofs.lemmas.List.Elements.{Contains-append_cases, Contains-append_left, Contains-append_right}
 use Rattle.guppy_search.specs.declared.ix.direction.DependencyDirection.TheVariants.{Forward, Reverse}
 use Rattle.guppy_search.specs.IxSet.{IsIn}
-use Rattle.guppy_search.specs.Reach.{LinkStep, Walk, ReachedFrom, here}
+use Rattle.guppy_search.specs.Reach.{LinkStep, ReachedFrom, here}
 use Rattle.guppy_search.proofs.Walks.{walk_back, step_back, step_forth}
 use Rattle.guppy_data.specs.declared.records.PackageRecord.{PackageRecord}
 use Rattle.guppy_graph.specs.Graph.{GraphData}
 use Rattle.guppy_graph.specs.Members.{IsMember}
-use Rattle.guppy_affected.specs.Folders.{Holds, Belongs, depth}
-use Rattle.guppy_affected.specs.Affected.{IsOfWorkspace, IsEveryones, Touches, IsTouched, Affects, IsAffected}
+use Rattle.guppy_affected.specs.Folders.{Belongs, depth}
+use Rattle.guppy_affected.specs.Affected.{IsOfWorkspace, IsEveryones, Touches, IsTouched, IsAffected}
 use Rattle.guppy_affected.proofs.Owners.{Holds-member}
 
 -- numbers of which neither differs from the other are one

@@ -1,9 +1,11 @@
 -- Lists, place by place.
 use Rattle.std.proofs.Common.{◌≡◌, ◌∙◌, sym, refl, ap, subst, arith, ℕ, zero, suc, ◌<◌, ◌+◌, List, [], ◌∷◌, ◌++◌, get_or, length, map, take, All, Option, Some, None, slice_get, true, false}
-use Rattle.std.specs.Prelude.{MatchOption, IsSomeAnd, is_some}
-use Rattle.std.specs.List.{AllZip, Contains}
-use Rattle.std.proofs.lemmas.List.{take_more, map_push}
-use Rattle.std.proofs.lemmas.Option.{slice_get_within, get_or_from_slice_get}
+use Rattle.std.specs.Prelude.{MatchOption, IsSomeAnd, is_some, option_map}
+use Rattle.std.specs.Option.{ForSome}
+use Rattle.std.specs.List.{AllZip, Contains, range_with_len}
+use Rattle.std.proofs.lemmas.List.{take_more}
+use Rattle.std.proofs.lemmas.List.FromFn.{length-map-range_with_len, get_or-map-range_with_len}
+use Rattle.std.proofs.lemmas.Option.{slice_get_within, get_or_from_slice_get, slice_get-map}
 use Rattle.std.proofs.lemmas.List.Elements.{All-push}
 use Rattle.guppy_graph.specs.First.{IsFirstWithout}
 
@@ -99,8 +101,13 @@ in_some o P x is h = rw is at h
 pub not_all : {A : Type 0} (P : A → Type 0) (items : List A) (k : ℕ) → IsFirstWithout P items k → All P items → ⊥
 not_all P items k first all = first.lacks (All-slice_get P items k first.item all first.found)
 
--- lists with the same images, and one more of each
-pub map-take_more : {A B C : Type 0} (f : A → C) (g : B → C) (xs : List A) (ys : List B) (k : ℕ) (x : A) (y : B) → k < length ys → get_or ys k y ≡ y → map f xs ≡ map g (take k ys) → f x ≡ g y → map f (xs ++ x ∷ []) ≡ map g (take (k + 1) ys)
-map-take_more f g xs ys k x y within at same is =
-    let more : take (k + 1) ys ≡ take k ys ++ y ∷ [] = take_more ys k y within ∙ ap (λ e. take k ys ++ e ∷ []) at in
-    rw (more, map_push f xs x, map_push g (take k ys) y, same, is) refl
+-- where a list is that of f at the positions from 0 on, each item is f at its own
+pub each_listed : {X : Type 0} (f : ℕ → X) (n : ℕ) (xs : List X) → xs ≡ map f (range_with_len 0 n) → (p : ℕ) → ForSome (slice_get xs p) (λ x. x ≡ f p)
+each_listed f n xs same p x is =
+    let there : slice_get (map f (range_with_len 0 n)) p ≡ Some x = sym (ap (λ l. slice_get l p) same) ∙ is in
+    let below : p < n = rw (length-map-range_with_len f 0 n) at (slice_get_within (map f (range_with_len 0 n)) p x there) in
+    sym (get_or_from_slice_get (map f (range_with_len 0 n)) p x x there) ∙ get_or-map-range_with_len f 0 n p p x below (omega arith)
+
+-- the same of a list with images
+pub each_shown : {T X : Type 0} (v : T → X) (f : ℕ → X) (n : ℕ) (ts : List T) → map v ts ≡ map f (range_with_len 0 n) → (p : ℕ) → ForSome (slice_get ts p) (λ t. v t ≡ f p)
+each_shown v f n ts same p t is = each_listed f n (map v ts) same p (v t) (slice_get-map v ts p ∙ ap (option_map v) is)

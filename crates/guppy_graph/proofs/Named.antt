@@ -1,15 +1,13 @@
 -- Packages with an ID.
 use Rattle.std.proofs.Common.{◌≡◌, ◌∙◌, sym, ap, refl, arith, ℕ, zero, suc, ◌<◌, List, [], ◌∷◌, length, map, Option, Some, None, slice_get, true}
 use Rattle.std.specs.Prelude.{IsSomeAnd, option_map, is_some}
-use Rattle.std.specs.Option.{ForSome}
 use Rattle.std.specs.List.{range_with_len}
 use Rattle.std.specs.List.Sorted.{IsPermutation}
 use Rattle.std.specs.Ordering.{nat_cmp}
 use Rattle.std.specs.Cmp.Lexicographic.{slice_cmp}
-use Rattle.std.proofs.lemmas.Option.{slice_get-map}
 use Rattle.guppy_data.specs.declared.records.PackageRecord.{PackageRecord}
 use Rattle.guppy_graph.specs.Keys.{or_empty, HasKey, NoneBelow}
-use Rattle.guppy_graph.specs.Ids.{ids_of, id_at, HasId, IsKnown, DistinctBelow}
+use Rattle.guppy_graph.specs.Ids.{id_at, HasId, IsKnown, DistinctBelow}
 use Rattle.guppy_graph.specs.Indexes.{IsIdIndex}
 use Rattle.guppy_graph.proofs.Lists.{some_at}
 use Rattle.guppy_graph.proofs.Keying.{exact_there, exact_back, index_of_all}
@@ -37,18 +35,6 @@ of_own (Some r) some = refl
 -- each package has its own ID
 pub has_own_id : (packages : List PackageRecord) (p : ℕ) → p < length packages → HasId packages (or_empty (id_at packages p)) p
 has_own_id packages p within = let r = some_at packages p within in of_own (slice_get packages p) (rw r.1 refl)
-
-module _ {T : Type 0} (text : T → List ℕ) where
-  text_of : (o : Option T) (owner : Option PackageRecord) → option_map text o ≡ option_map (λ r. r.id) owner → ForSome o (λ t. text t ≡ or_empty (option_map (λ r. r.id) owner))
-  text_of None owner same t is = absurd (cc)
-  text_of (Some u) None same t is = absurd (cc)
-  text_of (Some u) (Some r) same t is = cc
-
-  -- where the texts are the IDs of the packages, each is that of the package at its position
-  pub each_text : (packages : List PackageRecord) (texts : List T) → map text texts ≡ ids_of packages → (p : ℕ) → ForSome (slice_get texts p) (λ t. text t ≡ or_empty (id_at packages p))
-  each_text packages texts same p =
-      text_of (slice_get texts p) (slice_get packages p)
-      (sym (slice_get-map text texts p) ∙ (ap (λ l. slice_get l p) same ∙ slice_get-map (λ (r : PackageRecord). r.id) packages p))
 
 one_id : (o : Option PackageRecord) (a b : List ℕ) → IsSomeAnd o (λ r. r.id ≡ a) → IsSomeAnd o (λ r. r.id ≡ b) → a ≡ b
 one_id None a b h k = absurd h

@@ -14,8 +14,8 @@ ghost use Rattle.guppy_graph.specs.Refused.{TellsFault, IsRefusal};
 use crate::hints::Hints;
 use crate::keyed::{first_repeat, index_from, index_of};
 use crate::keys::{
-    Ids, Names, Paths, TargetIds, first_repeated_id, first_repeated_name, first_repeated_target,
-    id_texts, position_of_id,
+    Id, Ids, Keys, Name, Path, TargetIds, first_repeated_id, first_repeated_name,
+    first_repeated_target, position_of_id, texts_of,
 };
 use guppy_core::Link;
 use guppy_data::{
@@ -25,6 +25,10 @@ use guppy_data::{
 use std::alloc::{AllocError, Global};
 
 const LIMIT: usize = 4_294_967_295;
+
+// For how many links the ends are guessed at a time. Records lie far apart, and so do their texts and the hints:
+// a loop that compares nothing waits for several of them at once.
+const GUESSES: usize = 64;
 
 /// Positions in the order of what they are looked up by.
 #[derive(Drop)]
@@ -190,8 +194,10 @@ fn index_by_path(
         × (fault ≡ ConstructFault.RepeatedWorkspacePath p)
         × IsFirstRepeat (HasPath packages.now) p)) }
 {
-    let by_path = index_from(alloc, &Paths(packages), by_id)?;
-    if let Some(package) = first_repeat(&Paths(packages), by_path.as_slice()) {
+    let texts = texts_of::<Path>(alloc, packages)?;
+    let paths: Keys<'_, Path> = Keys::listed(packages, texts.as_slice());
+    let by_path = index_from(alloc, &paths, by_id)?;
+    if let Some(package) = first_repeat(&paths, by_path.as_slice()) {
         return Err(ConstructFault::RepeatedWorkspacePath { package }.into());
     }
     Ok(by_path)
@@ -210,8 +216,10 @@ fn index_by_name(
         × (fault ≡ ConstructFault.RepeatedWorkspaceName p)
         × IsFirstRepeat (HasName packages.now) p)) }
 {
-    let by_name = index_from(alloc, &Names(packages), by_id)?;
-    if let Some(package) = first_repeated_name(packages, by_name.as_slice()) {
+    let texts = texts_of::<Name>(alloc, packages)?;
+    let names = Keys::listed(packages, texts.as_slice());
+    let by_name = index_from(alloc, &names, by_id)?;
+    if let Some(package) = first_repeated_name(&names, by_name.as_slice()) {
         return Err(ConstructFault::RepeatedWorkspaceName { package }.into());
     }
     Ok(by_name)
@@ -257,6 +265,15 @@ fn indexes_of(alloc: Global, ids: &Ids<'_>, workspace: &WorkspaceRecord) -> Resu
     })
 }
 
+// Guesses at the positions of the ends of the first records, so many.
+fn guesses_of(hints: &Hints, records: &[LinkRecord]) -> [(usize, usize); GUESSES] {
+    let mut guesses = [(0, 0); GUESSES];
+    for (guess, entry) in guesses.iter_mut().zip(records) {
+        *guess = (hints.guess(&entry.from), hints.guess(&entry.to));
+    }
+    guesses
+}
+
 // The positions of the ends of the records.
 fn ends_of(
     alloc: Global,
@@ -271,12 +288,17 @@ fn ends_of(
         × IsFirstWithout (AreEndsKnown ids.now.packages.now) records.now link)) }
 {
     let mut ends = Vec::with_capacity(alloc, records.len())?;
-    let by_id = indexes.by_id.as_slice();
+    let (hints, by_id) = (&indexes.hints, indexes.by_id.as_slice());
+    let mut guesses = [(0, 0); GUESSES];
     for (number, entry) in records.iter().enumerate() {
-        let Some(from) = indexes.hints.find(ids, by_id, &entry.from) else {
+        if number % GUESSES == 0 {
+            guesses = guesses_of(hints, &records[number..]);
+        }
+        let (from_guess, to_guess) = guesses[number % GUESSES];
+        let Some(from) = hints.find_from(ids, by_id, &entry.from, from_guess) else {
             return Err(unknown_end(number));
         };
-        let Some(to) = indexes.hints.find(ids, by_id, &entry.to) else {
+        let Some(to) = hints.find_from(ids, by_id, &entry.to, to_guess) else {
             return Err(unknown_end(number));
         };
         ends.push(Link { from, to, edge: () })?;
@@ -307,7 +329,7 @@ pub(crate) fn indexes_and_ends(
     if packages.len() > LIMIT {
         return Err(ConstructFault::TooManyPackages.into());
     }
-    let texts = id_texts(alloc, packages)?;
+    let texts = texts_of::<Id>(alloc, packages)?;
     let ids = Ids::listed(packages, texts.as_slice());
     let indexes = indexes_of(alloc, &ids, workspace)?;
     if links.len() > LIMIT {

@@ -8,6 +8,9 @@ use std::alloc::{AllocError, Global};
 // How many places of the table are looked at for one ID.
 const TRIES: usize = 8;
 
+// How many places the table has for each package: so many that most IDs have their first place to themselves.
+const ROOM: usize = 4;
+
 // A place with no hint: the position of no package.
 const NO_HINT: u32 = u32::MAX;
 
@@ -50,7 +53,7 @@ impl Hints {
     {
         let count = ids.packages.len();
         let mut hints = Hints {
-            table: vec![in alloc; NO_HINT; 2 * count + TRIES + 1]?,
+            table: vec![in alloc; NO_HINT; ROOM * count + TRIES + 1]?,
         };
         for position in 0..count {
             hints.put(ids.text_at(position), position as u32);
@@ -74,6 +77,11 @@ impl Hints {
                 return;
             }
         }
+    }
+
+    /// The position that is most likely the ID's. Nothing is compared.
+    pub(crate) fn guess(&self, id: &PackageId) -> usize {
+        self.table[self.first_place(id.repr())] as usize
     }
 
     // The package with the ID, if there is a hint at it.
@@ -102,5 +110,24 @@ impl Hints {
             Some(position) => Some(position),
             None => position_of_id(ids, by_id, id),
         }
+    }
+
+    /// The same, where the guess is compared before all.
+    pub(crate) fn find_from(
+        &self,
+        ids: &Ids<'_>,
+        by_id: &[usize],
+        id: &PackageId,
+        guess: usize,
+    ) -> Option<usize>
+        requires { IsIdIndex ids.now.packages.now by_id.now }
+        ensures { let packages = ids.now.packages.now in
+            MatchOption result (NoneBelow (HasId packages) id.now (length packages))
+            (HasId packages id.now) }
+    {
+        if ids.has_id(guess, id.repr()) {
+            return Some(guess);
+        }
+        self.find(ids, by_id, id)
     }
 }

@@ -1,9 +1,13 @@
 //! The keys of packages and build targets: IDs, paths and names of workspace members, target IDs.
-ghost use Rattle.std.specs.Prelude.{◌≡◌, ◌↔◌, ℕ, length, map, slice_get, is_some, IsTrue, IfOk, MatchOption};
+ghost use Rattle.std.specs.Prelude.{◌≡◌, ◌↔◌, ℕ, List, Option, length, map, slice_get, is_some, IsTrue, IfOk, MatchOption};
 ghost use Rattle.std.specs.Option.{ForSome};
+ghost use Rattle.std.specs.Cmp.{IsTotalOrder};
+ghost use Rattle.std.specs.List.{range_with_len};
+ghost use Rattle.std.specs.declared.cmp.Ordering.{Ordering};
 ghost use Rattle.guppy_data.specs.Utf8Path.{path_text};
+ghost use Rattle.guppy_data.specs.declared.records.PackageRecord.{PackageRecord};
 ghost use Rattle.guppy_graph.specs.Keys.{or_empty, NoneBelow, IsFirstWith, DifferBelow, IsFirstRepeat};
-ghost use Rattle.guppy_graph.specs.Ids.{ids_of, id_at, HasId};
+ghost use Rattle.guppy_graph.specs.Ids.{id_at, HasId};
 ghost use Rattle.guppy_graph.specs.Members.{path_at, name_at, HasPath, HasName, IsMemberPath, IsMemberName};
 ghost use Rattle.guppy_graph.specs.Targets.{HasTarget};
 ghost use Rattle.guppy_graph.specs.Indexes.{IsIdIndex, IsPathIndex, IsNameIndex, IsTargetIndex};
@@ -14,24 +18,50 @@ use guppy_data::{
 };
 use std::alloc::{AllocError, Global};
 use std::cmp::Ordering;
+use std::marker::PhantomData;
 
-/// Packages by their IDs. The texts of the IDs may stand in a list, so that many comparisons read no
-/// records, which lie far apart.
-#[derive(Clone, Copy)]
-pub(crate) struct Ids<'a> {
-    pub(crate) packages: &'a [PackageRecord],
-    texts: &'a [&'a str],
-    ghost own: { (p : ℕ) → ForSome (slice_get texts.now p)
-        (λ text. text.now ≡ or_empty (id_at packages.now p)) },
+/// What packages are looked up by: a text that a package may have, and an order of such texts.
+pub(crate) trait Key {
+    /// The text at the position, if there is one.
+    ghost text_at: { List PackageRecord → ℕ → Option (List ℕ) };
+
+    ghost order: { List ℕ → List ℕ → Ordering };
+
+    ghost total: { IsTotalOrder order };
+
+    fn is_at(packages: &[PackageRecord], position: usize) -> bool
+        ensures { result ≡ is_some (text_at packages.now position) };
+
+    /// The text at the position, and the empty one where there is none.
+    fn text_at(packages: &[PackageRecord], position: usize) -> &str
+        ensures { result.now ≡ or_empty (text_at packages.now position) };
+
+    fn compare(text: &str, other: &str) -> Ordering
+        ensures { result ≡ order text.now other.now };
 }
 
-/// Workspace members by their paths.
-#[derive(Clone, Copy)]
-pub(crate) struct Paths<'a>(pub(crate) &'a [PackageRecord]);
+/// The IDs of packages.
+pub(crate) struct Id;
 
-/// Workspace members by their names.
-#[derive(Clone, Copy)]
-pub(crate) struct Names<'a>(pub(crate) &'a [PackageRecord]);
+/// The paths of workspace members.
+pub(crate) struct Path;
+
+/// The names of workspace members.
+pub(crate) struct Name;
+
+/// Packages by one of their keys. The texts may stand in a list, so that many comparisons read no records,
+/// which lie far apart.
+#[derive(Drop)]
+pub(crate) struct Keys<'a, K: Key> {
+    pub(crate) packages: &'a [PackageRecord],
+    texts: &'a [&'a str],
+    key: PhantomData<K>,
+    ghost own: { (p : ℕ) → ForSome (slice_get texts.now p)
+        (λ text. text.now ≡ or_empty (K.text_at packages.now p)) },
+}
+
+/// Packages by their IDs.
+pub(crate) type Ids<'a> = Keys<'a, Id>;
 
 /// Build targets of one package by their IDs.
 #[derive(Clone, Copy)]
@@ -92,46 +122,58 @@ fn is_member_at(packages: &[PackageRecord], position: usize) -> bool
     }
 }
 
-/// The texts of the packages' IDs.
-pub(crate) fn id_texts(alloc: Global, packages: &[PackageRecord]) -> Result<Vec<&str>, AllocError>
-    ensures { IfOk result (λ texts. map (λ text. text.now) texts.items ≡ ids_of packages.now) }
+/// The texts of the packages.
+pub(crate) fn texts_of<K: Key>(
+    alloc: Global,
+    packages: &[PackageRecord],
+) -> Result<Vec<&str>, AllocError>
+    ensures { IfOk result (λ texts. map (λ text. text.now) texts.items
+        ≡ map (λ p. or_empty (K.text_at packages.now p)) (range_with_len 0 (length packages.now))) }
 {
     let mut texts = Vec::with_capacity(alloc, packages.len())?;
-    for record in packages.iter() {
-        texts.push(record.id.repr())?;
+    for position in 0..packages.len() {
+        texts.push(K::text_at(packages, position))?;
     }
     Ok(texts)
 }
 
-impl<'a> Ids<'a> {
+impl<'a, K: Key> Keys<'a, K> {
     /// The packages alone.
-    pub(crate) fn new(packages: &'a [PackageRecord]) -> Ids<'a>
+    pub(crate) fn new(packages: &'a [PackageRecord]) -> Self
         ensures { result.packages.now ≡ packages.entry.now }
     {
-        Ids {
+        Keys {
             packages,
             texts: &[],
+            key: PhantomData,
         }
     }
 
-    /// The packages, and the texts of their IDs.
-    pub(crate) fn listed(packages: &'a [PackageRecord], texts: &'a [&'a str]) -> Ids<'a>
-        requires { map (λ text. text.now) texts.now ≡ ids_of packages.now }
+    /// The packages, and their texts.
+    pub(crate) fn listed(packages: &'a [PackageRecord], texts: &'a [&'a str]) -> Self
+        requires { map (λ text. text.now) texts.now
+            ≡ map (λ p. or_empty (K.text_at packages.now p)) (range_with_len 0 (length packages.now)) }
         ensures { result.packages.now ≡ packages.entry.now }
     {
-        Ids { packages, texts }
+        Keys {
+            packages,
+            texts,
+            key: PhantomData,
+        }
     }
 
-    /// The ID at the position, and the empty text past the end.
+    /// The text at the position, and the empty one where there is none.
     pub(crate) fn text_at(&self, position: usize) -> &str
-        ensures { result.now ≡ or_empty (id_at self.now.packages.now position) }
+        ensures { result.now ≡ or_empty (K.text_at self.now.packages.now position) }
     {
         match self.texts.get(position) {
             Some(text) => text,
-            None => id_at(self.packages, position),
+            None => K::text_at(self.packages, position),
         }
     }
+}
 
+impl Keys<'_, Id> {
     /// Whether the package at the position has the ID.
     pub(crate) fn has_id(&self, position: usize, id: &str) -> bool
         ensures { IsTrue result ↔ HasId self.now.packages.now id.now position }
@@ -160,7 +202,8 @@ pub(crate) fn position_of_path(
     ensures { MatchOption result (¬ IsMemberPath packages.now (path_text path.entry))
         (HasPath packages.now (path_text path.entry)) }
 {
-    position_of(&Paths(packages), by_path, path.as_str())
+    let paths: Keys<'_, Path> = Keys::new(packages);
+    position_of(&paths, by_path, path.as_str())
 }
 
 /// The member with the name.
@@ -173,7 +216,8 @@ pub(crate) fn position_of_name(
     ensures { MatchOption result (¬ IsMemberName packages.now name.now)
         (HasName packages.now name.now) }
 {
-    position_of(&Names(packages), by_name, name)
+    let names: Keys<'_, Name> = Keys::new(packages);
+    position_of(&names, by_name, name)
 }
 
 /// The first package with the ID of an earlier one.
@@ -187,12 +231,13 @@ pub(crate) fn first_repeated_id(ids: &Ids<'_>, by_id: &[usize]) -> Option<usize>
 }
 
 /// The first workspace member with the name of an earlier one.
-pub(crate) fn first_repeated_name(packages: &[PackageRecord], by_name: &[usize]) -> Option<usize>
-    requires { IsNameIndex packages.now by_name.now }
-    ensures { MatchOption result (DifferBelow (HasName packages.now) (length packages.now))
-        (IsFirstRepeat (HasName packages.now)) }
+pub(crate) fn first_repeated_name(names: &Keys<'_, Name>, by_name: &[usize]) -> Option<usize>
+    requires { IsNameIndex names.now.packages.now by_name.now }
+    ensures { let packages = names.now.packages.now in
+        MatchOption result (DifferBelow (HasName packages) (length packages))
+        (IsFirstRepeat (HasName packages)) }
 {
-    first_repeat(&Names(packages), by_name)
+    first_repeat(names, by_name)
 }
 
 /// The first target with the ID of an earlier one.
@@ -204,104 +249,107 @@ pub(crate) fn first_repeated_target(targets: &[BuildTargetRecord], index: &[usiz
     first_repeat(&TargetIds(targets), index)
 }
 
-impl Keyed for Ids<'_> {
-    ghost use Rattle.std.specs.Prelude.{length};
+impl Key for Id {
     ghost use Rattle.std.specs.Ordering.{nat_cmp};
     ghost use Rattle.std.specs.Cmp.Lexicographic.{slice_cmp};
     ghost use Rattle.std.proofs.lemmas.Cmp.{nat_list_cmp_total};
     ghost use Rattle.guppy_graph.specs.Ids.{id_at};
 
-    ghost count = { λ s. length s.packages.now };
-
-    ghost key_at = { λ s p. id_at s.packages.now p };
+    ghost text_at = { id_at };
 
     ghost order = { slice_cmp nat_cmp };
 
     ghost total = { nat_list_cmp_total };
+
+    fn is_at(packages: &[PackageRecord], position: usize) -> bool {
+        packages.get(position).is_some()
+    }
+
+    fn text_at(packages: &[PackageRecord], position: usize) -> &str {
+        id_at(packages, position)
+    }
+
+    fn compare(text: &str, other: &str) -> Ordering {
+        text.cmp(other)
+    }
+}
+
+impl Key for Path {
+    ghost use Rattle.guppy_data.specs.Path.{path_cmp};
+    ghost use Rattle.guppy_graph.specs.Members.{path_at};
+    ghost use Rattle.guppy_graph.specs.PathOrder.{path_total};
+
+    ghost text_at = { path_at };
+
+    ghost order = { path_cmp };
+
+    ghost total = { path_total };
+
+    fn is_at(packages: &[PackageRecord], position: usize) -> bool {
+        is_member_at(packages, position)
+    }
+
+    fn text_at(packages: &[PackageRecord], position: usize) -> &str {
+        path_at(packages, position).as_str()
+    }
+
+    fn compare(text: &str, other: &str) -> Ordering {
+        Utf8Path::new(text).cmp(&Utf8Path::new(other))
+    }
+}
+
+impl Key for Name {
+    ghost use Rattle.std.specs.Ordering.{nat_cmp};
+    ghost use Rattle.std.specs.Cmp.Lexicographic.{slice_cmp};
+    ghost use Rattle.std.proofs.lemmas.Cmp.{nat_list_cmp_total};
+    ghost use Rattle.guppy_graph.specs.Members.{name_at};
+
+    ghost text_at = { name_at };
+
+    ghost order = { slice_cmp nat_cmp };
+
+    ghost total = { nat_list_cmp_total };
+
+    fn is_at(packages: &[PackageRecord], position: usize) -> bool {
+        is_member_at(packages, position)
+    }
+
+    fn text_at(packages: &[PackageRecord], position: usize) -> &str {
+        name_at(packages, position)
+    }
+
+    fn compare(text: &str, other: &str) -> Ordering {
+        text.cmp(other)
+    }
+}
+
+impl<K: Key> Keyed for Keys<'_, K> {
+    ghost use Rattle.std.specs.Prelude.{length};
+
+    ghost count = { λ s. length s.packages.now };
+
+    ghost key_at = { λ s p. K.text_at s.packages.now p };
+
+    ghost order = { K.order };
+
+    ghost total = { K.total };
 
     fn position_count(&self) -> usize {
         self.packages.len()
     }
 
     fn has_key(&self, position: usize) -> bool {
-        self.packages.get(position).is_some()
+        K::is_at(self.packages, position)
     }
 
     fn compare(&self, a: usize, b: usize) -> Ordering {
-        self.text_at(a).cmp(self.text_at(b))
+        K::compare(self.text_at(a), self.text_at(b))
     }
 }
 
-impl KeyedByText for Ids<'_> {
+impl<K: Key> KeyedByText for Keys<'_, K> {
     fn compare_to(&self, position: usize, text: &str) -> Ordering {
-        self.text_at(position).cmp(text)
-    }
-}
-
-impl Keyed for Paths<'_> {
-    ghost use Rattle.std.specs.Prelude.{length};
-    ghost use Rattle.guppy_data.specs.Path.{path_cmp};
-    ghost use Rattle.guppy_graph.specs.Members.{path_at};
-    ghost use Rattle.guppy_graph.specs.PathOrder.{path_total};
-
-    ghost count = { λ s. length s.0.now };
-
-    ghost key_at = { λ s p. path_at s.0.now p };
-
-    ghost order = { path_cmp };
-
-    ghost total = { path_total };
-
-    fn position_count(&self) -> usize {
-        self.0.len()
-    }
-
-    fn has_key(&self, position: usize) -> bool {
-        is_member_at(self.0, position)
-    }
-
-    fn compare(&self, a: usize, b: usize) -> Ordering {
-        path_at(self.0, a).cmp(&path_at(self.0, b))
-    }
-}
-
-impl KeyedByText for Paths<'_> {
-    fn compare_to(&self, position: usize, text: &str) -> Ordering {
-        path_at(self.0, position).cmp(&Utf8Path::new(text))
-    }
-}
-
-impl Keyed for Names<'_> {
-    ghost use Rattle.std.specs.Prelude.{length};
-    ghost use Rattle.std.specs.Ordering.{nat_cmp};
-    ghost use Rattle.std.specs.Cmp.Lexicographic.{slice_cmp};
-    ghost use Rattle.std.proofs.lemmas.Cmp.{nat_list_cmp_total};
-    ghost use Rattle.guppy_graph.specs.Members.{name_at};
-
-    ghost count = { λ s. length s.0.now };
-
-    ghost key_at = { λ s p. name_at s.0.now p };
-
-    ghost order = { slice_cmp nat_cmp };
-
-    ghost total = { nat_list_cmp_total };
-
-    fn position_count(&self) -> usize {
-        self.0.len()
-    }
-
-    fn has_key(&self, position: usize) -> bool {
-        is_member_at(self.0, position)
-    }
-
-    fn compare(&self, a: usize, b: usize) -> Ordering {
-        name_at(self.0, a).cmp(name_at(self.0, b))
-    }
-}
-
-impl KeyedByText for Names<'_> {
-    fn compare_to(&self, position: usize, text: &str) -> Ordering {
-        name_at(self.0, position).cmp(text)
+        K::compare(self.text_at(position), text)
     }
 }
 

@@ -2,7 +2,7 @@
 ghost use Rattle.std.specs.Prelude.{◌≡◌, unwrap_or};
 ghost use Rattle.std.specs.Option.{option_copied};
 
-use crate::fault::{MetadataFault, TextFault};
+use crate::fault::{Misfit, TextFault};
 use crate::object::{Object, requirement_of};
 use guppy_data::DependencyKind;
 use indexmap::IndexSet;
@@ -53,19 +53,19 @@ impl<'a> Declared<'a> {
 }
 
 /// The section that the text in the member `kind` names; `normal` where there is none.
-pub(crate) fn section_of(object: Object<'_>) -> Result<DependencyKind, MetadataFault> {
+pub(crate) fn section_of(object: Object<'_>) -> Result<DependencyKind, Misfit> {
     match object.optional_text("kind")? {
         None | Some("normal") => Ok(DependencyKind::Normal),
         Some("dev") => Ok(DependencyKind::Development),
         Some("build") => Ok(DependencyKind::Build),
         Some(_) => {
             let why = TextFault::NoDependencyKind;
-            Err(MetadataFault::bad_text(object.alloc, "kind", why))
+            Err(Misfit::bad_text(object.alloc, "kind", why))
         }
     }
 }
 
-fn declared_of(dependency: Object<'_>) -> Result<Declared<'_>, MetadataFault> {
+fn declared_of(dependency: Object<'_>) -> Result<Declared<'_>, Misfit> {
     let requirement = dependency.text("req")?;
     Ok(Declared {
         name: dependency.text("name")?,
@@ -85,7 +85,7 @@ fn declared_of(dependency: Object<'_>) -> Result<Declared<'_>, MetadataFault> {
 pub(crate) fn declared_dependencies(
     alloc: Global,
     items: &[Value],
-) -> Result<Vec<Declared<'_>>, MetadataFault> {
+) -> Result<Vec<Declared<'_>>, Misfit> {
     let mut declared = Vec::with_capacity(alloc, items.len())?;
     for (index, item) in items.iter().enumerate() {
         let dependency = Object::of_item(alloc, "dependencies", index, item)?;

@@ -1,6 +1,7 @@
 //! Why there are no records, and where in the JSON.
 ghost use Rattle.std.specs.Prelude.{◌≡◌};
-ghost use Rattle.guppy_metadata.specs.declared.fault.MetadataFault.TheVariants.{OutOfMemory};
+ghost use Rattle.guppy_metadata.specs.declared.fault.Misfit.TheVariants.{OutOfMemory};
+ghost use Rattle.guppy_metadata.specs.Fault.{IsNotJson};
 
 use std::alloc::{AllocError, AllocFailed, Global};
 use std::fmt;
@@ -19,6 +20,16 @@ pub enum MetadataFault {
     /// The text at this place isn't one that may stand there.
     BadText(String, TextFault),
     /// A request for memory was refused.
+    OutOfMemory,
+}
+
+/// Why JSON says no records: a `MetadataFault`, but that the text is no JSON.
+#[derive(Drop)]
+pub(crate) enum Misfit {
+    NotResolved,
+    Missing(String),
+    WrongKind(String, Kind),
+    BadText(String, TextFault),
     OutOfMemory,
 }
 
@@ -59,41 +70,39 @@ fn joined(alloc: Global, step: &str, inner: &str) -> Result<String, AllocError> 
     }
 }
 
-impl MetadataFault {
+impl Misfit {
     /// Nothing stands at the member of this name.
     pub(crate) fn missing(alloc: Global, name: &str) -> Self {
         match String::from_str(alloc, name) {
-            Ok(place) => MetadataFault::Missing(place),
-            Err(_) => MetadataFault::OutOfMemory,
+            Ok(place) => Misfit::Missing(place),
+            Err(_) => Misfit::OutOfMemory,
         }
     }
 
     /// The member of this name, or the value itself where the name is empty, is no `wanted`.
     pub(crate) fn wrong_kind(alloc: Global, name: &str, wanted: Kind) -> Self {
         match String::from_str(alloc, name) {
-            Ok(place) => MetadataFault::WrongKind(place, wanted),
-            Err(_) => MetadataFault::OutOfMemory,
+            Ok(place) => Misfit::WrongKind(place, wanted),
+            Err(_) => Misfit::OutOfMemory,
         }
     }
 
     /// The text in the member of this name is a bad one.
     pub(crate) fn bad_text(alloc: Global, name: &str, why: TextFault) -> Self {
         match String::from_str(alloc, name) {
-            Ok(place) => MetadataFault::BadText(place, why),
-            Err(_) => MetadataFault::OutOfMemory,
+            Ok(place) => Misfit::BadText(place, why),
+            Err(_) => Misfit::OutOfMemory,
         }
     }
 
     fn try_within(self, alloc: Global, step: &str) -> Result<Self, AllocError> {
         Ok(match self {
-            MetadataFault::Missing(place) => {
-                MetadataFault::Missing(joined(alloc, step, place.as_str())?)
+            Misfit::Missing(place) => { Misfit::Missing(joined(alloc, step, place.as_str())?) }
+            Misfit::WrongKind(place, wanted) => {
+                Misfit::WrongKind(joined(alloc, step, place.as_str())?, wanted)
             }
-            MetadataFault::WrongKind(place, wanted) => {
-                MetadataFault::WrongKind(joined(alloc, step, place.as_str())?, wanted)
-            }
-            MetadataFault::BadText(place, why) => {
-                MetadataFault::BadText(joined(alloc, step, place.as_str())?, why)
+            Misfit::BadText(place, why) => {
+                Misfit::BadText(joined(alloc, step, place.as_str())?, why)
             }
             other => other,
         })
@@ -103,7 +112,7 @@ impl MetadataFault {
     pub(crate) fn within(self, alloc: Global, name: &str) -> Self {
         match self.try_within(alloc, name) {
             Ok(fault) => fault,
-            Err(_) => MetadataFault::OutOfMemory,
+            Err(_) => Misfit::OutOfMemory,
         }
     }
 
@@ -111,7 +120,7 @@ impl MetadataFault {
     pub(crate) fn within_item(self, alloc: Global, name: &str, index: usize) -> Self {
         match format!(in alloc; "{name}[{index}]") {
             Ok(step) => self.within(alloc, step.as_str()),
-            Err(_) => MetadataFault::OutOfMemory,
+            Err(_) => Misfit::OutOfMemory,
         }
     }
 }
@@ -154,18 +163,32 @@ impl fmt::Display for TextFault {
 
 impl std::error::Error for MetadataFault {}
 
-impl From<AllocError> for MetadataFault {
-    ghost from_gives = { λ _ fault. fault ≡ OutOfMemory };
+impl From<Misfit> for MetadataFault {
+    ghost from_gives = { λ _ fault. ¬ IsNotJson fault };
 
-    fn from(_error: AllocError) -> Self {
-        MetadataFault::OutOfMemory
+    fn from(misfit: Misfit) -> Self {
+        match misfit {
+            Misfit::NotResolved => MetadataFault::NotResolved,
+            Misfit::Missing(place) => MetadataFault::Missing(place),
+            Misfit::WrongKind(place, wanted) => MetadataFault::WrongKind(place, wanted),
+            Misfit::BadText(place, why) => MetadataFault::BadText(place, why),
+            Misfit::OutOfMemory => MetadataFault::OutOfMemory,
+        }
     }
 }
 
-impl<T: Drop> From<AllocFailed<T>> for MetadataFault {
+impl From<AllocError> for Misfit {
+    ghost from_gives = { λ _ fault. fault ≡ OutOfMemory };
+
+    fn from(_error: AllocError) -> Self {
+        Misfit::OutOfMemory
+    }
+}
+
+impl<T: Drop> From<AllocFailed<T>> for Misfit {
     ghost from_gives = { λ _ fault. fault ≡ OutOfMemory };
 
     fn from(_error: AllocFailed<T>) -> Self {
-        MetadataFault::OutOfMemory
+        Misfit::OutOfMemory
     }
 }

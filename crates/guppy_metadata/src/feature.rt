@@ -3,7 +3,7 @@ ghost use Rattle.std.specs.Prelude.{◌≡◌, IfOk};
 ghost use Rattle.guppy_data.specs.Texts.{named_feature_text};
 ghost use Rattle.guppy_metadata.specs.Feature.{NamesDependency, IsFeature};
 
-use crate::fault::MetadataFault;
+use crate::fault::Misfit;
 use crate::object::{Object, items_of, texts_of};
 use guppy_data::NamedFeatureDep;
 use indexmap::IndexMap;
@@ -56,7 +56,7 @@ fn features_of(alloc: Global, texts: &[&str]) -> Result<Vec<NamedFeatureDep>, Al
 /// The named features that the members of an object are, in their order.
 pub(crate) fn named_features(
     features: Object<'_>,
-) -> Result<IndexMap<String, Vec<NamedFeatureDep>>, MetadataFault> {
+) -> Result<IndexMap<String, Vec<NamedFeatureDep>>, Misfit> {
     let alloc = features.alloc;
     let mut named = IndexMap::new(alloc);
     for (name, value) in features.members.iter() {

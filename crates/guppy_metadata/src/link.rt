@@ -4,7 +4,7 @@ ghost use Rattle.std.specs.Option.{option_copied};
 ghost use Rattle.guppy_data.specs.Platform.{recorded_status, with_spec};
 
 use crate::declared::{Declared, section_of};
-use crate::fault::{MetadataFault, TextFault};
+use crate::fault::{Misfit, TextFault};
 use crate::object::{Object, optional_copy};
 use crate::package::Package;
 use guppy_data::{
@@ -46,7 +46,7 @@ struct Resolved<'a> {
     usages: Vec<Usage<'a>>,
 }
 
-fn usage_of(usage: Object<'_>) -> Result<Usage<'_>, MetadataFault> {
+fn usage_of(usage: Object<'_>) -> Result<Usage<'_>, Misfit> {
     Ok(Usage {
         section: section_of(usage)?,
         target: usage.optional_text("target")?,
@@ -54,7 +54,7 @@ fn usage_of(usage: Object<'_>) -> Result<Usage<'_>, MetadataFault> {
 }
 
 // The usages that the items of the list `dep_kinds` are.
-fn usages_of(alloc: Global, items: &[Value]) -> Result<Vec<Usage<'_>>, MetadataFault> {
+fn usages_of(alloc: Global, items: &[Value]) -> Result<Vec<Usage<'_>>, Misfit> {
     let mut usages = Vec::with_capacity(alloc, items.len())?;
     for (index, item) in items.iter().enumerate() {
         let usage = Object::of_item(alloc, "dep_kinds", index, item)?;
@@ -66,7 +66,7 @@ fn usages_of(alloc: Global, items: &[Value]) -> Result<Vec<Usage<'_>>, MetadataF
     Ok(usages)
 }
 
-fn resolved_of(dependency: Object<'_>) -> Result<Resolved<'_>, MetadataFault> {
+fn resolved_of(dependency: Object<'_>) -> Result<Resolved<'_>, Misfit> {
     Ok(Resolved {
         name: dependency.text("name")?,
         id: dependency.text("pkg")?,
@@ -263,7 +263,7 @@ fn link_of(
     packages: Packages<'_, '_>,
     from: &str,
     dependency: Object<'_>,
-) -> Result<LinkRecord, MetadataFault> {
+) -> Result<LinkRecord, Misfit> {
     let alloc = dependency.alloc;
     let resolved = resolved_of(dependency)?;
     let ends = (packages.with_id(from), packages.with_id(resolved.id));
@@ -276,7 +276,7 @@ fn link_of(
         Some(link) => Ok(link),
         None => {
             let why = TextFault::NoDependency;
-            Err(MetadataFault::bad_text(alloc, "pkg", why))
+            Err(Misfit::bad_text(alloc, "pkg", why))
         }
     }
 }
@@ -286,7 +286,7 @@ fn add_links(
     links: &mut Vec<LinkRecord>,
     packages: Packages<'_, '_>,
     node: Object<'_>,
-) -> Result<(), MetadataFault> {
+) -> Result<(), Misfit> {
     let alloc = node.alloc;
     let from = node.text("id")?;
     for (index, item) in node.items("deps")?.iter().enumerate() {
@@ -304,7 +304,7 @@ pub(crate) fn links_of(
     alloc: Global,
     packages: Packages<'_, '_>,
     items: &[Value],
-) -> Result<Vec<LinkRecord>, MetadataFault> {
+) -> Result<Vec<LinkRecord>, Misfit> {
     let mut links = Vec::new(alloc);
     for (index, item) in items.iter().enumerate() {
         let node = Object::of_item(alloc, "nodes", index, item)?;

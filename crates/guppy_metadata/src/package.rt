@@ -1,7 +1,7 @@
 //! Packages.
 
 use crate::declared::{Declared, declared_dependencies, optional_names};
-use crate::fault::MetadataFault;
+use crate::fault::Misfit;
 use crate::feature::named_features;
 use crate::object::{Object, version_of};
 use crate::path::folder_from;
@@ -43,7 +43,7 @@ fn source_of(
     package: Object<'_>,
     is_member: bool,
     root: Utf8Path<'_>,
-) -> Result<PackageSourceRecord, MetadataFault> {
+) -> Result<PackageSourceRecord, Misfit> {
     let alloc = package.alloc;
     let manifest_path = Utf8Path::new(package.text("manifest_path")?);
     if is_member {
@@ -64,7 +64,7 @@ fn bare_record(
     package: Object<'_>,
     members: &IndexSet<&str>,
     root: Utf8Path<'_>,
-) -> Result<PackageRecord, MetadataFault> {
+) -> Result<PackageRecord, Misfit> {
     let alloc = package.alloc;
     let id = package.text("id")?;
     let source = source_of(package, members.contains(id), root)?;
@@ -81,7 +81,7 @@ fn bare_record(
     ))
 }
 
-fn optional_path(package: Object<'_>, name: &str) -> Result<Option<Utf8PathBuf>, MetadataFault> {
+fn optional_path(package: Object<'_>, name: &str) -> Result<Option<Utf8PathBuf>, Misfit> {
     match package.optional_copied_text(name)? {
         Some(path) => Ok(Some(Utf8PathBuf::new(path))),
         None => Ok(None),
@@ -89,7 +89,7 @@ fn optional_path(package: Object<'_>, name: &str) -> Result<Option<Utf8PathBuf>,
 }
 
 // Fills in what is told of a package for people.
-fn describe(record: &mut PackageRecord, package: Object<'_>) -> Result<(), MetadataFault> {
+fn describe(record: &mut PackageRecord, package: Object<'_>) -> Result<(), Misfit> {
     record.authors = package.copied_texts("authors")?;
     record.description = package.optional_copied_text("description")?;
     record.license = package.optional_copied_text("license")?;
@@ -103,7 +103,7 @@ fn describe(record: &mut PackageRecord, package: Object<'_>) -> Result<(), Metad
     Ok(())
 }
 
-fn publish_of(package: Object<'_>) -> Result<PackagePublishRecord, MetadataFault> {
+fn publish_of(package: Object<'_>) -> Result<PackagePublishRecord, Misfit> {
     match package.optional("publish") {
         Some(_) => {
             let registries = package.copied_texts("publish")?;
@@ -125,7 +125,7 @@ fn whole_version(alloc: Global, text: &str) -> Result<String, AllocError> {
     Ok(whole)
 }
 
-fn rust_version(package: Object<'_>) -> Result<Option<Version>, MetadataFault> {
+fn rust_version(package: Object<'_>) -> Result<Option<Version>, Misfit> {
     let Some(text) = package.optional_text("rust_version")? else {
         return Ok(None);
     };
@@ -135,7 +135,7 @@ fn rust_version(package: Object<'_>) -> Result<Option<Version>, MetadataFault> {
 }
 
 // Fills in what is told of a package for Cargo.
-fn fill(record: &mut PackageRecord, package: Object<'_>) -> Result<(), MetadataFault> {
+fn fill(record: &mut PackageRecord, package: Object<'_>) -> Result<(), Misfit> {
     let alloc = package.alloc;
     record.metadata_table = package.copied_value("metadata")?;
     record.links = package.optional_copied_text("links")?;
@@ -154,7 +154,7 @@ fn package_of<'a>(
     package: Object<'a>,
     members: &IndexSet<&str>,
     root: Utf8Path<'_>,
-) -> Result<Package<'a>, MetadataFault> {
+) -> Result<Package<'a>, Misfit> {
     let alloc = package.alloc;
     let id = package.text("id")?;
     let declared = declared_dependencies(alloc, package.items("dependencies")?)?;
@@ -175,7 +175,7 @@ pub(crate) fn packages_of<'a>(
     items: &'a [Value],
     members: &IndexSet<&str>,
     root: Utf8Path<'_>,
-) -> Result<Vec<Package<'a>>, MetadataFault> {
+) -> Result<Vec<Package<'a>>, Misfit> {
     let mut packages = Vec::with_capacity(alloc, items.len())?;
     for (index, item) in items.iter().enumerate() {
         let package = Object::of_item(alloc, "packages", index, item)?;

@@ -1,9 +1,9 @@
 //! All records.
-ghost use Rattle.std.specs.Prelude.{◌≡◌, ◌≢◌, None, IsSome, IfOk, OnOk, IfErr};
+ghost use Rattle.std.specs.Prelude.{◌≡◌, None, IsSome, IfOk, OnOk, IfErr};
 ghost use Rattle.serde_json.specs.Read.{read};
-ghost use Rattle.guppy_metadata.specs.declared.fault.MetadataFault.TheVariants.{OutOfMemory};
+ghost use Rattle.guppy_metadata.specs.Fault.{IsNotJson};
 
-use crate::fault::MetadataFault;
+use crate::fault::{MetadataFault, Misfit};
 use crate::link::{Packages, links_of};
 use crate::object::Object;
 use crate::package::{Package, package_records, packages_of, positions_of};
@@ -51,7 +51,7 @@ impl Records {
 // The value that the JSON is.
 fn value_of(alloc: Global, json: &str) -> Result<Value, MetadataFault>
     ensures json { OnOk result (IsSome (read json.now)) }
-    ensures no_json { IfErr result (λ fault. fault ≢ OutOfMemory → read json.now ≡ None) }
+    ensures no_json { IfErr result (λ fault. IsNotJson fault → read json.now ≡ None) }
 {
     match Value::from_str(alloc, json) {
         Ok(value) => Ok(value),
@@ -61,9 +61,9 @@ fn value_of(alloc: Global, json: &str) -> Result<Value, MetadataFault>
 }
 
 // The nodes of the resolved dependencies.
-fn nodes_of(metadata: Object<'_>) -> Result<&[Value], MetadataFault> {
+fn nodes_of(metadata: Object<'_>) -> Result<&[Value], Misfit> {
     if metadata.optional("resolve").is_none() {
-        return Err(MetadataFault::NotResolved);
+        return Err(Misfit::NotResolved);
     }
     let resolve = metadata.object("resolve")?;
     match resolve.items("nodes") {
@@ -78,7 +78,7 @@ fn links_between(
     packages: &[Package<'_>],
     members: &[&str],
     nodes: &[Value],
-) -> Result<Vec<LinkRecord>, MetadataFault> {
+) -> Result<Vec<LinkRecord>, Misfit> {
     let positions = positions_of(alloc, packages)?;
     check_members(alloc, members, &positions)?;
     let known = Packages {
@@ -96,13 +96,13 @@ fn packages_in<'a>(
     metadata: Object<'a>,
     members: &[&str],
     root: Utf8Path<'_>,
-) -> Result<Vec<Package<'a>>, MetadataFault> {
+) -> Result<Vec<Package<'a>>, Misfit> {
     let alloc = metadata.alloc;
     let members = set_of(alloc, members)?;
     packages_of(alloc, metadata.items("packages")?, &members, root)
 }
 
-fn records_in(metadata: Object<'_>) -> Result<Records, MetadataFault> {
+fn records_in(metadata: Object<'_>) -> Result<Records, Misfit> {
     let alloc = metadata.alloc;
     let nodes = nodes_of(metadata)?;
     let workspace = workspace_record(metadata)?;
@@ -125,11 +125,12 @@ fn records_in(metadata: Object<'_>) -> Result<Records, MetadataFault> {
 /// Time grows with the text, and of one package with its resolved times its declared dependencies. Takes
 /// memory for what the text says and for the records.
 pub fn records_of(alloc: Global, json: &str) -> Result<Records, MetadataFault>
-    ensures { OnOk result (IsSome (read json.now)) }
+    ensures json { OnOk result (IsSome (read json.now)) }
+    ensures no_json { IfErr result (λ fault. IsNotJson fault → read json.now ≡ None) }
 {
     let value = value_of(alloc, json)?;
     match Object::new(alloc, &value) {
-        Ok(metadata) => records_in(metadata),
-        Err(fault) => Err(fault.within(alloc, "the JSON")),
+        Ok(metadata) => Ok(records_in(metadata)?),
+        Err(misfit) => Err(misfit.within(alloc, "the JSON").into()),
     }
 }

@@ -1,6 +1,6 @@
 //! Build targets.
 
-use crate::fault::MetadataFault;
+use crate::fault::Misfit;
 use crate::object::Object;
 use guppy_data::{
     BuildTargetKindRecord, BuildTargetRecord, OwnedBuildTargetId, SortedSet, Utf8PathBuf,
@@ -33,15 +33,15 @@ fn kind_of(id: &OwnedBuildTargetId, crate_types: Vec<String>) -> BuildTargetKind
 }
 
 // The first of the target's kinds; a library has one for each of its crate types.
-fn first_kind(target: Object<'_>) -> Result<&str, MetadataFault> {
+fn first_kind(target: Object<'_>) -> Result<&str, Misfit> {
     let kinds = target.texts("kind")?;
     match kinds.first() {
         Some(kind) => Ok(*kind),
-        None => Err(MetadataFault::missing(target.alloc, "kind[0]")),
+        None => Err(Misfit::missing(target.alloc, "kind[0]")),
     }
 }
 
-fn build_target(target: Object<'_>) -> Result<BuildTargetRecord, MetadataFault> {
+fn build_target(target: Object<'_>) -> Result<BuildTargetRecord, Misfit> {
     let name = target.copied_text("name")?;
     let (id, lib_name) = id_of(first_kind(target)?, name);
     let kind = kind_of(&id, target.copied_texts("crate_types")?);
@@ -62,7 +62,7 @@ fn build_target(target: Object<'_>) -> Result<BuildTargetRecord, MetadataFault> 
 pub(crate) fn build_targets(
     alloc: Global,
     items: &[Value],
-) -> Result<Vec<BuildTargetRecord>, MetadataFault> {
+) -> Result<Vec<BuildTargetRecord>, Misfit> {
     let mut targets = Vec::with_capacity(alloc, items.len())?;
     for (index, item) in items.iter().enumerate() {
         let target = Object::of_item(alloc, "targets", index, item)?;

@@ -1,6 +1,6 @@
 //! The workspace and its members.
 
-use crate::fault::{MetadataFault, TextFault};
+use crate::fault::{Misfit, TextFault};
 use crate::object::{Object, texts_of};
 use guppy_data::{PackageId, Utf8PathBuf, WorkspaceRecord};
 use indexmap::{IndexMap, IndexSet};
@@ -16,7 +16,7 @@ fn ids_of(alloc: Global, texts: &[&str]) -> Result<Vec<PackageId>, AllocError> {
 }
 
 // The path that Cargo builds on its way into, where it is another one than the target directory.
-fn build_directory(metadata: Object<'_>) -> Result<Option<Utf8PathBuf>, MetadataFault> {
+fn build_directory(metadata: Object<'_>) -> Result<Option<Utf8PathBuf>, Misfit> {
     let Some(path) = metadata.optional_text("build_directory")? else {
         return Ok(None);
     };
@@ -28,7 +28,7 @@ fn build_directory(metadata: Object<'_>) -> Result<Option<Utf8PathBuf>, Metadata
 }
 
 /// The record of the workspace.
-pub(crate) fn workspace_record(metadata: Object<'_>) -> Result<WorkspaceRecord, MetadataFault> {
+pub(crate) fn workspace_record(metadata: Object<'_>) -> Result<WorkspaceRecord, Misfit> {
     let alloc = metadata.alloc;
     let root = Utf8PathBuf::new(metadata.copied_text("workspace_root")?);
     let target_directory = Utf8PathBuf::new(metadata.copied_text("target_directory")?);
@@ -41,7 +41,7 @@ pub(crate) fn workspace_record(metadata: Object<'_>) -> Result<WorkspaceRecord, 
 }
 
 /// The IDs of the workspace's members.
-pub(crate) fn member_ids(metadata: Object<'_>) -> Result<Vec<&str>, MetadataFault> {
+pub(crate) fn member_ids(metadata: Object<'_>) -> Result<Vec<&str>, Misfit> {
     let items = metadata.items("workspace_members")?;
     texts_of(metadata.alloc, "workspace_members", items)
 }
@@ -60,10 +60,10 @@ pub(crate) fn check_members(
     alloc: Global,
     members: &[&str],
     positions: &IndexMap<&str, usize>,
-) -> Result<(), MetadataFault> {
+) -> Result<(), Misfit> {
     for (index, id) in members.iter().enumerate() {
         if !positions.contains_key(*id) {
-            let fault = MetadataFault::bad_text(alloc, "", TextFault::NoPackage);
+            let fault = Misfit::bad_text(alloc, "", TextFault::NoPackage);
             return Err(fault.within_item(alloc, "workspace_members", index));
         }
     }

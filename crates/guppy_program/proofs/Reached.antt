@@ -1,5 +1,5 @@
 -- What a query from a list of IDs reaches, and the IDs that a sorted set lists.
-use Rattle.std.proofs.Common.{◌≡◌, ◌∙◌, ◌↔◌, ℕ, Bool, true, List, [], ◌∷◌, length, map, take, drop, Contains, refl, sym, ap, subst, None, Ok, Err}
+use Rattle.std.proofs.Common.{◌≡◌, ◌∙◌, ◌↔◌, ℕ, Bool, true, List, [], ◌∷◌, length, map, take, drop, Contains, refl, sym, subst, None, Ok, Err}
 use Rattle.std.specs.Prelude.{Option, Result, IfOk, OnOk}
 use Rattle.std.specs.List.{AllByRecursion}
 use Rattle.std.specs.List.Sorted.{IsStrictlySortedBy}

@@ -27,16 +27,35 @@ fn ids_of(alloc: Global, words: &[String]) -> Result<Vec<PackageId>, AllocError>
     Ok(ids)
 }
 
-/// These IDs, one a line. Takes memory for the text alone.
+// The texts of the IDs. To sort these reads no records, which lie far apart.
+fn texts_of<'g>(alloc: Global, ids: &[&'g PackageId]) -> Result<Vec<&'g str>, AllocError>
+    ensures { IfOk result (λ texts. map (λ t. t.now) texts.items ≡ map (λ r. r.now) ids.now) }
+{
+    let mut texts = Vec::with_capacity(alloc, ids.len())?;
+    for id in ids {
+        texts.push(id.repr())?;
+    }
+    Ok(texts)
+}
+
+// These texts, one a line.
+fn lines_of_texts(alloc: Global, texts: &[&str]) -> Result<String, AllocError>
+    ensures { IfOk result (λ lines. string_bytes lines ≡ lines_of (map (λ t. t.now) texts.now)) }
+{
+    let mut lines = String::new(alloc);
+    for text in texts {
+        lines.push_str(text)?;
+        lines.push('\n')?;
+    }
+    Ok(lines)
+}
+
+/// These IDs, one a line. Takes memory for the text, and for a reference an ID.
 pub fn lines_of(alloc: Global, ids: &[&PackageId]) -> Result<String, AllocError>
     ensures { IfOk result (λ text. string_bytes text ≡ lines_of (map (λ r. r.now) ids.now)) }
 {
-    let mut text = String::new(alloc);
-    for id in ids {
-        text.push_str(id.repr())?;
-        text.push('\n')?;
-    }
-    Ok(text)
+    let texts = texts_of(alloc, ids)?;
+    lines_of_texts(alloc, texts.as_slice())
 }
 
 // The packages that those with these IDs reach in the direction.
@@ -69,8 +88,8 @@ fn reach(
     let ids = ids_of(alloc, words)?;
     let set = reached(graph, direction, &ids)?;
     let listed: Vec<&PackageId> = set.package_ids(direction).collect(alloc)?;
-    let sorted = SortedSet::new(listed);
-    Ok(lines_of(alloc, sorted.as_slice())?)
+    let sorted = SortedSet::new(texts_of(alloc, listed.as_slice())?);
+    Ok(lines_of_texts(alloc, sorted.as_slice())?)
 }
 
 fn truth_line(answer: bool) -> &'static str

@@ -1,4 +1,4 @@
-use Rattle.std.proofs.Common.{◌≡◌, ◌∙◌, ap, subst, true, map, Bor}
+use Rattle.std.proofs.Common.{◌≡◌, ◌∙◌, subst, true, map, Bor}
 use Rattle.std.specs.Prelude.{ℕ, MatchOption}
 use Rattle.std.proofs.lemmas.List.{map_push}
 use Rattle.guppy_data.specs.Path.{components}

@@ -1,8 +1,8 @@
-use Rattle.std.proofs.Common.{inl, inr, subst, sym, ap, ◌≡◌, ◌∙◌, true, Bor}
+use Rattle.std.proofs.Common.{inl, inr, subst, ap, ◌≡◌, ◌∙◌, true, Bor}
 use Rattle.guppy_data.specs.Utf8Path.{path_text}
 use Rattle.guppy.specs.Graph.{GraphData}
-use Rattle.guppy.specs.Query.{IsSetWhere, SetData}
-use Rattle.guppy.specs.Views.{graph_of, package_position}
+use Rattle.guppy.specs.Query.{IsSetWhere}
+use Rattle.guppy.specs.Views.{package_position}
 use Rattle.guppy_affected.specs.Affected.{IsOfWorkspace, Touches}
 use Rattle.guppy_affected.proofs.Found.{IfOk-along, where_along}
 use Rattle.guppy_affected.proofs.Touching.{Touches-all, Touches-owner}

@@ -9,14 +9,14 @@ returns-in_default-clause-err c =
     let found = slice_get_read c.args.records.now _ c.loop-number.number r refl c.loop-number-test.true c.index-records-number.is in
     rw c.unknown_end.ensures (c.loop-number.number, refl, unknown_from c.args.ids.now.packages.now c.args.records.now c.loop-number.number c.loop-number.ends.items r found c.loop-number.invariant c.in_default.ensures)
 
-pub returns-in_default-find-clause-err : goal.returns-in_default-find-clause-err
-returns-in_default-find-clause-err c =
+pub returns-in_default-find_from-clause-err : goal.returns-in_default-find_from-clause-err
+returns-in_default-find_from-clause-err c =
     let r = c.index-records-number.result in
     let found = slice_get_read c.args.records.now _ c.loop-number.number r refl c.loop-number-test.true c.index-records-number.is in
-    rw c.unknown_end-in_default-find.ensures (c.loop-number.number, refl, unknown_to c.args.ids.now.packages.now c.args.records.now c.loop-number.number c.loop-number.ends.items r found c.loop-number.invariant c.in_default-find.ensures)
+    rw c.unknown_end-in_default-find_from.ensures (c.loop-number.number, refl, unknown_to c.args.ids.now.packages.now c.args.records.now c.loop-number.number c.loop-number.ends.items r found c.loop-number.invariant c.in_default-find_from.ensures)
 
 pub loop-number-preserved : goal.loop-number-preserved
 loop-number-preserved c =
     let r = c.index-records-number.result in
     let found = slice_get_read c.args.records.now _ c.loop-number.number r refl c.loop-number-test.true c.index-records-number.is in
-    rw c.in_ok-push.ensures.items (ends_more c.args.ids.now.packages.now c.args.records.now c.loop-number.number c.loop-number.ends.items r c.in-Some.from c.in-Some-find.to found c.loop-number.invariant c.in-Some.ensures c.in-Some-find.ensures)
+    rw c.in_ok-push.ensures.items (ends_more c.args.ids.now.packages.now c.args.records.now c.loop-number.number c.loop-number.ends.items r c.in-Some.from c.in-Some-find_from.to found c.loop-number.invariant c.in-Some.ensures c.in-Some-find_from.ensures)

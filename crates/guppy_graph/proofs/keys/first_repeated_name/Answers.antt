@@ -9,7 +9,7 @@ use Rattle.guppy_graph.proofs.keys.first_repeated_name.Goals as goal
 
 pub returns : goal.returns
 returns c =
-    let packages = c.args.packages.now in
+    let packages = c.args.names.now.packages.now in
     let Has = HasKey (slice_cmp nat_cmp) (name_at packages) in
     MatchOption-along _ _ _ _ _
     (DifferBelow-along Has (HasName packages) (exact_there (name_at packages)) (exact_back (name_at packages)) (length packages))

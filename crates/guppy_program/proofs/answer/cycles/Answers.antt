@@ -1,4 +1,4 @@
-use Rattle.std.proofs.Common.{◌≡◌, ◌∙◌, ◌↔◌, sym, ap, subst, append_assoc, rules, ◌++◌, ◌∷◌, [], Bor, length, map, string_bytes}
+use Rattle.std.proofs.Common.{◌≡◌, ◌∙◌, ◌↔◌, sym, ap, subst, append_assoc, rules, ◌++◌, ◌∷◌, [], Bor, map, string_bytes}
 use Rattle.guppy.specs.Cycles.{AreCyclic, AreOnOne}
 use Rattle.guppy.specs.Graph.{GraphData, IsInOrder}
 use Rattle.guppy.specs.ListedCycles.{cycle_left, cycles_left, cycles_of}

@@ -1,4 +1,4 @@
-use Rattle.std.proofs.Common.{◌∙◌, refl, ap, subst, ℕ, List, Bor, map, length}
+use Rattle.std.proofs.Common.{◌∙◌, refl, ap, subst, ℕ, List, Bor, map}
 use Rattle.std.proofs.lemmas.Iterator.{items_from_drains}
 use Rattle.std.proofs.lemmas.Iterator.Consumers.{YieldsList-from_first}
 use Rattle.guppy.specs.Graph.{IsInOrder}

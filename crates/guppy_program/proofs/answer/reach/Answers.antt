@@ -16,7 +16,7 @@ returns-clause-ok c =
     let set = c.in_ok-set.set in
     let ran = c.in_ok-listed.ensures.ran in
     let given = items_from_drains ran.0 ran.1 (YieldsList-from_first (λ (r : Bor (List ℕ)). r.now) listed_ids_left {s = c.package_ids.result} (listed_ids_left c.package_ids.result) refl) in
-    let listed = ap (map (λ (r : Bor (List ℕ)). r.now)) ran.2.0 ∙ given ∙ c.package_ids.ensures.left in
+    let listed = c.in_ok-texts_of.ensures ∙ ap (map (λ (r : Bor (List ℕ)). r.now)) (c.as_slice.ensures.value ∙ ran.2.0) ∙ given ∙ c.package_ids.ensures.left in
     let count : length set.included ≡ length set.graph.packages = c.in_ok-set.ensures.count ∙ sym (ap (λ g. length g.packages) c.in_ok-set.ensures.graph) in
     let included = listed_is_included c.args.direction set count c.package_ids.ensures.ordered.order_is.listing in
     rw (← words_are) (record {
@@ -25,5 +25,5 @@ returns-clause-ok c =
       ascending = IsStrictlySortedBy-map (λ r. r.now) (slice_cmp nat_cmp) c.new-sorted.result c.new-sorted.ensures.sorted;
       exact = λ id. iff_trans (kept_ids _ (λ x y same. (bytes_eq-Decides x.now y.now).0 same) _ _ c.new-sorted.ensures.kept id)
           (iff_trans (subst (λ ids. Contains ids id ↔ IncludesId set id) (sym listed) (included id)) (c.in_ok-set.ensures.exact id));
-      printed = rw c.as_slice.ensures.items at c.in_ok-lines_of.ensures;
+      printed = rw c.as_slice-2.ensures.items at c.in_ok-lines_of_texts.ensures;
     })

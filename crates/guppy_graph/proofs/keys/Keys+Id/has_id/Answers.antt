@@ -2,7 +2,7 @@ use Rattle.std.proofs.Common.{rules, arith, ◌∙◌, sym, subst, ◌<◌, ◌�
 use Rattle.std.specs.Cmp.Lexicographic.{bytes_decides}
 use Rattle.guppy_graph.specs.Ids.{HasId}
 use Rattle.guppy_graph.proofs.Named.{has_own_id, id_is, within_of}
-use Rattle.guppy_graph.proofs.keys.Ids.has_id.Goals as goal
+use Rattle.guppy_graph.proofs.keys.Keys+Id.has_id.Goals as goal
 
 pub returns-then-position-self : goal.returns-then-position-self
 returns-then-position-self c =

@@ -1,0 +1,8 @@
+-- Faults of what is read.
+use Rattle.guppy_metadata.specs.declared.fault.MetadataFault.{MetadataFault}
+use Rattle.guppy_metadata.specs.declared.fault.MetadataFault.TheVariants.{NotJson}
+
+-- the text is blamed to be no JSON
+abbrev pub IsNotJson : MetadataFault → Type 0
+IsNotJson (NotJson error) = Unit {0}
+IsNotJson _ = ⊥
