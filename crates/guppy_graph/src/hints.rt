@@ -5,39 +5,42 @@ use crate::keys::{Ids, position_of_id};
 use guppy_data::PackageId;
 use std::alloc::{AllocError, Global};
 
-// How many places of the table are looked at for one ID.
-const TRIES: usize = 8;
+// How many places of the table are looked at for one hash.
+const TRIES: usize = 4;
 
 // How many places the table has for each package: so many that most IDs have their first place to themselves.
 const ROOM: usize = 4;
 
+// What the first hash of an ID is mixed with, and what the second one is.
+const FACTORS: [usize; 2] = [0x9E37_79B9_7F4A_7C15, 0xC2B2_AE3D_27D4_EB4F];
+
 // A place with no hint: the position of no package.
 const NO_HINT: u32 = u32::MAX;
 
-/// Positions of packages, each at one of the few places that its ID's hash names. A hint is believed only
-/// where the package there has the ID, so the table may hold anything.
+/// Positions of packages, each at one of the few places that the two hashes of its ID name. A hint is believed
+/// only where the package there has the ID, so the table may hold anything.
 #[derive(Drop)]
 pub(crate) struct Hints {
     table: Vec<u32>,
-    ghost room: { 8 < length table.items },
+    ghost room: { 4 < length table.items },
 }
 
 // A number made of the text, eight bytes at a time. No contract needs anything of it.
-fn hash_of(text: &str) -> usize {
+fn hash_of(text: &str, factor: usize) -> usize {
     let (words, rest) = text.as_bytes().as_chunks::<8>();
     let mut hash = 0;
     for word in words.iter() {
-        hash = mixed(hash ^ usize::from_le_bytes(*word));
+        hash = mixed(hash ^ usize::from_le_bytes(*word), factor);
     }
     for byte in rest.iter() {
         hash = hash.rotate_left(8) ^ usize::from(*byte);
     }
-    mixed(hash)
+    mixed(hash, factor)
 }
 
 // A number in which each bit of the given one shows in high bits and in low ones.
-fn mixed(number: usize) -> usize {
-    let product = number.wrapping_mul(0x9E37_79B9_7F4A_7C15);
+fn mixed(number: usize, factor: usize) -> usize {
+    let product = number.wrapping_mul(factor);
     product ^ product >> 32
 }
 
@@ -61,19 +64,29 @@ impl Hints {
         Ok(hints)
     }
 
-    // The first of the places for the ID.
-    fn first_place(&self, id: &str) -> usize
-        ensures { result + 8 < length self.now.table.items }
+    // The first of the places that one of the ID's hashes names.
+    fn first_place(&self, id: &str, factor: usize) -> usize
+        ensures { result + 4 < length self.now.table.items }
     {
-        hash_of(id) % (self.table.len() - TRIES)
+        hash_of(id, factor) % (self.table.len() - TRIES)
+    }
+
+    // Puts the position at the first of the places of the hash that is free, and tells whether there is one.
+    fn put_by(&mut self, id: &str, factor: usize, position: u32) -> bool {
+        let first = self.first_place(id, factor);
+        for place in first..first + TRIES {
+            if self.table[place] == NO_HINT {
+                self.table[place] = position;
+                return true;
+            }
+        }
+        false
     }
 
     // Puts the position at the first of the places for the ID that is free.
     fn put(&mut self, id: &str, position: u32) {
-        let first = self.first_place(id);
-        for place in first..first + TRIES {
-            if self.table[place] == NO_HINT {
-                self.table[place] = position;
+        for factor in FACTORS {
+            if self.put_by(id, factor, position) {
                 return;
             }
         }
@@ -81,17 +94,29 @@ impl Hints {
 
     /// The position that is most likely the ID's. Nothing is compared.
     pub(crate) fn guess(&self, id: &PackageId) -> usize {
-        self.table[self.first_place(id.repr())] as usize
+        self.table[self.first_place(id.repr(), FACTORS[0])] as usize
+    }
+
+    // The package with the ID, if there is a hint at it at a place of the hash.
+    fn hinted_by(&self, ids: &Ids<'_>, id: &str, factor: usize) -> Option<usize>
+        ensures { IfSome result (HasId ids.now.packages.now id.now) }
+    {
+        let first = self.first_place(id, factor);
+        for place in first..first + TRIES {
+            let position = self.table[place] as usize;
+            if ids.has_id(position, id) {
+                return Some(position);
+            }
+        }
+        None
     }
 
     // The package with the ID, if there is a hint at it.
     fn hinted(&self, ids: &Ids<'_>, id: &str) -> Option<usize>
         ensures { IfSome result (HasId ids.now.packages.now id.now) }
     {
-        let first = self.first_place(id);
-        for place in first..first + TRIES {
-            let position = self.table[place] as usize;
-            if ids.has_id(position, id) {
+        for factor in FACTORS {
+            if let Some(position) = self.hinted_by(ids, id, factor) {
                 return Some(position);
             }
         }
