@@ -77,19 +77,16 @@ fn link_record(
 ) -> Result<LinkRecord, AllocError>
     ensures { IfOk result (IsLinkOf (record { from = from.now; to = to.now; section = section })) }
 {
-    // All fields at once: a program that reads a million links shouldn't make each section twice.
-    Ok(LinkRecord {
-        from: id_of(alloc, from)?,
-        to: id_of(alloc, to)?,
-        dep_name: String::from_str(alloc, to)?,
-        resolved_name: String::from_str(alloc, to)?,
-        version_req: VersionReq::star(alloc),
-        registry: None,
-        path: None,
-        normal: section_requirement(alloc, section, DependencyKind::Normal),
-        build: section_requirement(alloc, section, DependencyKind::Build),
-        dev: section_requirement(alloc, section, DependencyKind::Development),
-    })
+    let from = id_of(alloc, from)?;
+    let dep_name = String::from_str(alloc, to)?;
+    let resolved_name = String::from_str(alloc, to)?;
+    let to = id_of(alloc, to)?;
+    let any = VersionReq::star(alloc);
+    let mut link = LinkRecord::new(alloc, from, to, dep_name, resolved_name, any);
+    link.normal = section_requirement(alloc, section, DependencyKind::Normal);
+    link.build = section_requirement(alloc, section, DependencyKind::Build);
+    link.dev = section_requirement(alloc, section, DependencyKind::Development);
+    Ok(link)
 }
 
 // The record of the workspace, which no line speaks of.
