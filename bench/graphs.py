@@ -76,14 +76,14 @@ TO_BYTES = bytes(BYTES[byte % len(BYTES)] for byte in range(256))
 
 
 def mixed(number):
-    """As guppy_graph's hints mix eight bytes of an ID."""
+    """As guppy_graph's hints mix eight bytes of an ID for the first of their two hashes."""
     product = number * 0x9E37_79B9_7F4A_7C15 % 2**64
     return product ^ product >> 32
 
 
 @functools.cache
 def pieces_without_hash(count):
-    """Pieces of an ID behind which its hash is 0, whatever pieces stand before."""
+    """Pieces of an ID behind which its first hash is 0, whatever pieces stand before."""
     picks = random.Random(count)
     pieces = []
     while len(pieces) < count:
@@ -95,7 +95,7 @@ def pieces_without_hash(count):
 
 
 def id_without_hash(i, count):
-    """One of count IDs, made of three pieces, that all have the hash 0."""
+    """One of count IDs, made of three pieces, whose first hash is 0."""
     side = round(count ** (1 / 3)) + 1
     pieces = pieces_without_hash(side)
     return pieces[i // side**2] + pieces[i // side % side] + pieces[i % side]
