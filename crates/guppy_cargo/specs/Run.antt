@@ -1,12 +1,18 @@
 -- What a run of the program does.
-use Rattle.std.specs.Prelude.{◌≡◌, ℕ, Bool, true, false, List, ◌++◌, Some, Result, Ok, Err}
+use Rattle.std.specs.Prelude.{◌≡◌, ◌⊎◌, ℕ, Bool, true, false, List, ◌++◌, Some, Result, Ok, Err}
+use Rattle.guppy_data.specs.declared.records.PackageRecord.{PackageRecord}
+use Rattle.guppy_data.specs.declared.records.LinkRecord.{LinkRecord}
+use Rattle.guppy_data.specs.declared.records.WorkspaceRecord.{WorkspaceRecord}
+use Rattle.guppy_data.specs.declared.texts.error.Error.{Error}
+use Rattle.guppy_data.specs.declared.texts.error.Error.TheVariants.{OutOfMemory}
 use Rattle.guppy.specs.Graph.{GraphData}
+use Rattle.guppy.specs.Refused.{IsRefusal as IsRecordsRefusal}
 use Rattle.guppy_input.specs.declared.fault.RunFault.TheVariants.{Library, InputFailed, OutputFailed}
 use Rattle.guppy_cargo.specs.declared.fault.CargoFault.{CargoFault}
 use Rattle.guppy_cargo.specs.declared.fault.CargoFault.TheVariants.{Run, Metadata, NoText}
 use Rattle.guppy_cargo.specs.declared.names.Names.{Names}
 use Rattle.guppy_cargo.specs.Asked.{CargoCommand, command_of}
-use Rattle.guppy_cargo.specs.Answer.{IsAnswer}
+use Rattle.guppy_cargo.specs.Answer.{IsAnswer, IsRefusal}
 
 -- the output is an answer to the command, of some graph and with some names
 pub record IsAnswerTo (command : CargoCommand) (output : List ℕ) : Type 0 where
@@ -24,12 +30,35 @@ abbrev pub IsBegun : List (List ℕ) → (List ℕ → Type 0) → Type 0
 IsBegun args P = (command : CargoCommand) × (command_of args ≡ Some command)
     × (front rest : List ℕ) × IsAnswerTo command (front ++ rest) × P front
 
--- no device and no argument is blamed
-abbrev pub IsOfInput : CargoFault → Type 0
-IsOfInput (Run (Library error)) = Unit {0}
-IsOfInput (Run fault) = ⊥
-IsOfInput (Metadata fault) = Unit {0}
-IsOfInput NoText = Unit {0}
+-- some records are refused so
+abbrev pub AreRefused : Error → Type 0
+AreRefused error = (packages : List PackageRecord) × (links : List LinkRecord)
+    × (workspace : WorkspaceRecord) × IsRecordsRefusal packages links workspace error
+
+-- the command is refused so, of some graph and with some names
+abbrev pub IsRefused : CargoCommand → Error → Type 0
+IsRefused command error =
+    (names : Names) × (graph : GraphData) × IsRefusal names command graph error
+
+-- memory ran out, or some records are refused so, or the command is
+abbrev pub HasCause : CargoCommand → Error → Type 0
+HasCause command error = (error ≡ OutOfMemory) ⊎ (AreRefused error ⊎ IsRefused command error)
+
+-- the arguments ask a command, and the error of the library has its cause
+abbrev pub IsLibraryRefusal : List (List ℕ) → Error → Type 0
+IsLibraryRefusal args error = (command : CargoCommand) × (command_of args ≡ Some command)
+    × HasCause command error
+
+-- no device and no argument is blamed, and an error of the library has its cause
+abbrev pub IsOfInput : CargoCommand → CargoFault → Type 0
+IsOfInput command (Run (Library error)) = HasCause command error
+IsOfInput command (Run fault) = ⊥
+IsOfInput command (Metadata fault) = Unit {0}
+IsOfInput command NoText = Unit {0}
+
+-- whatever the command
+abbrev pub IsOfEachInput : CargoFault → Type 0
+IsOfEachInput fault = (command : CargoCommand) → IsOfInput command fault
 
 abbrev pub is_input_fault : {T : Type 0} → Result T CargoFault → Bool
 is_input_fault (Err (Run InputFailed)) = true

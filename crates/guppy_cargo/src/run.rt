@@ -1,10 +1,11 @@
 //! The program, over any source and sink.
-ghost use Rattle.std.specs.Prelude.{◌≡◌, ◌↔◌, ◌++◌, ℕ, List, false, map, string_bytes, OnOk, IfOk, IfErr, IsNone, IsErrOf};
+ghost use Rattle.std.specs.Prelude.{◌≡◌, ◌↔◌, ◌++◌, ℕ, List, false, map, string_bytes, Err, OnOk, IfOk, IfErr, IsNone, IsErrOf};
 ghost use Rattle.std.specs.Io.KnownBytes.{Appends, IsAtEnd};
-ghost use Rattle.guppy_input.specs.declared.fault.RunFault.TheVariants.{BadArguments, OutputFailed};
+ghost use Rattle.guppy_input.specs.declared.fault.RunFault.TheVariants.{BadArguments, Library, OutputFailed};
+ghost use Rattle.guppy_data.specs.declared.texts.error.Error.{Error};
 ghost use Rattle.guppy_cargo.specs.declared.fault.CargoFault.TheVariants.{Run};
 ghost use Rattle.guppy_cargo.specs.Asked.{command_of, command_shown};
-ghost use Rattle.guppy_cargo.specs.Run.{IsAnswerTo, IsAnswered, IsBegun, IsOfInput, is_input_fault, is_output_fault, WritesNothing};
+ghost use Rattle.guppy_cargo.specs.Run.{HasCause, IsAnswerTo, IsAnswered, IsBegun, IsLibraryRefusal, IsOfEachInput, IsOfInput, is_input_fault, is_output_fault, WritesNothing};
 
 use crate::answer::answer;
 use crate::command::{CargoCommand, command_of};
@@ -21,7 +22,7 @@ use std::{mem, str};
 // The graph of the workspace that the text describes, and what its packages are called, which stands in the
 // graph for their IDs.
 fn load(alloc: Global, text: &str) -> Result<(PackageGraph, Names), CargoFault>
-    ensures { IfErr result IsOfInput }
+    ensures { IfErr result IsOfEachInput }
 {
     let Records {
         mut packages,
@@ -43,7 +44,7 @@ fn answer_input(
     input: &[u8],
 ) -> Result<String, CargoFault>
     ensures ok { IfOk result (λ text. IsAnswerTo (command_shown command.now) (string_bytes text)) }
-    ensures err { IfErr result IsOfInput }
+    ensures err { IfErr result (IsOfInput (command_shown command.now)) }
 {
     let Ok(text) = str::from_utf8(input) else {
         return Err(CargoFault::NoText);
@@ -67,6 +68,8 @@ fn answer_source<R: Source>(
     ensures end { OnOk result (IsAtEnd (R.left reader.new)) }
     ensures err { is_output_fault result ≡ false }
     ensures arguments { ¬ IsErrOf result (Run BadArguments) }
+    ensures library { (error : Error) → result ≡ Err (Run (Library error)) →
+        HasCause (command_shown command.now) error }
     ensures failed { R.has_failed reader.new ≡ is_input_fault result }
 {
     let input = read_all(alloc, reader)?;
@@ -113,6 +116,11 @@ pub fn run<R: Source, W: Sink>(
     ensures arguments { IsErrOf result (Run BadArguments)
         ↔ IsNone (command_of (map string_bytes args.now)) }
     ensures arguments_read { IsErrOf result (Run BadArguments) → reader.new ≡ reader.old }
+
+    // An error of the library tells a fault of some records, or of the command on some graph, or that
+    // memory ran out.
+    ensures library { (error : Error) → result ≡ Err (Run (Library error)) →
+        IsLibraryRefusal (map string_bytes args.now) error }
 
     // The devices are blamed exactly where they failed.
     ensures input_failed { R.has_failed reader.new ≡ is_input_fault result }
