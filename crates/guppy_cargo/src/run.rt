@@ -1,9 +1,11 @@
 //! The program, over any source and sink.
 ghost use Rattle.std.specs.Prelude.{◌≡◌, ◌↔◌, ◌++◌, ℕ, List, false, map, string_bytes, Err, OnOk, IfOk, IfErr, IsNone, IsErrOf};
 ghost use Rattle.std.specs.Io.KnownBytes.{Appends, IsAtEnd};
+ghost use Rattle.std.specs.Str.{IsUtf8};
+ghost use Rattle.guppy_program.specs.Run.{OfWholeInput};
 ghost use Rattle.guppy_input.specs.declared.fault.RunFault.TheVariants.{BadArguments, Library, OutputFailed};
 ghost use Rattle.guppy_data.specs.declared.texts.error.Error.{Error};
-ghost use Rattle.guppy_cargo.specs.declared.fault.CargoFault.TheVariants.{Run};
+ghost use Rattle.guppy_cargo.specs.declared.fault.CargoFault.TheVariants.{Run, NoText};
 ghost use Rattle.guppy_cargo.specs.Asked.{command_of, command_shown};
 ghost use Rattle.guppy_cargo.specs.Run.{HasCause, IsAnswerTo, IsAnswered, IsBegun, IsLibraryRefusal, IsOfEachInput, IsOfInput, is_input_fault, is_output_fault, WritesNothing};
 
@@ -22,7 +24,8 @@ use std::{mem, str};
 // The graph of the workspace that the text describes, and what its packages are called, which stands in the
 // graph for their IDs.
 fn load(alloc: Global, text: &str) -> Result<(PackageGraph, Names), CargoFault>
-    ensures { IfErr result IsOfEachInput }
+    ensures err { IfErr result IsOfEachInput }
+    ensures text { ¬ IsErrOf result NoText }
 {
     let Records {
         mut packages,
@@ -45,6 +48,7 @@ fn answer_input(
 ) -> Result<String, CargoFault>
     ensures ok { IfOk result (λ text. IsAnswerTo (command_shown command.now) (string_bytes text)) }
     ensures err { IfErr result (IsOfInput (command_shown command.now)) }
+    ensures text { IsErrOf result NoText → ¬ IsUtf8 input.now }
 {
     let Ok(text) = str::from_utf8(input) else {
         return Err(CargoFault::NoText);
@@ -70,6 +74,8 @@ fn answer_source<R: Source>(
     ensures arguments { ¬ IsErrOf result (Run BadArguments) }
     ensures library { (error : Error) → result ≡ Err (Run (Library error)) →
         HasCause (command_shown command.now) error }
+    ensures text { IsErrOf result NoText →
+        OfWholeInput (R.left reader.old) (R.left reader.new) (λ input. ¬ IsUtf8 input) }
     ensures failed { R.has_failed reader.new ≡ is_input_fault result }
 {
     let input = read_all(alloc, reader)?;
@@ -121,6 +127,10 @@ pub fn run<R: Source, W: Sink>(
     // memory ran out.
     ensures library { (error : Error) → result ≡ Err (Run (Library error)) →
         IsLibraryRefusal (map string_bytes args.now) error }
+
+    // All input was read, and it is no UTF-8.
+    ensures text { IsErrOf result NoText →
+        OfWholeInput (R.left reader.old) (R.left reader.new) (λ input. ¬ IsUtf8 input) }
 
     // The devices are blamed exactly where they failed.
     ensures input_failed { R.has_failed reader.new ≡ is_input_fault result }

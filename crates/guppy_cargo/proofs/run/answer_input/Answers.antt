@@ -6,7 +6,7 @@ use Rattle.guppy_cargo.proofs.run.answer_input.Goals as goal
 pub returns-in_err-graph-clause-err : goal.returns-in_err-graph-clause-err
 returns-in_err-graph-clause-err c =
     let passed_on = err_from_is_err_and c.from_residual.result c.from_residual.ensures.1 in
-    rw (passed_on.1, passed_on.2) (c.in_err-graph.ensures (command_shown c.args.command.now))
+    rw (passed_on.1, passed_on.2) (c.in_err-graph.ensures.err (command_shown c.args.command.now))
 
 pub returns-in_err-text-clause-err : goal.returns-in_err-text-clause-err
 returns-in_err-text-clause-err c =
