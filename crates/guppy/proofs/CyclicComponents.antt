@@ -1,6 +1,7 @@
 -- The components that are cycles, and the IDs of their packages.
 use Rattle.std.proofs.Common.{◌≡◌, ◌⊎◌, ◌∙◌, sym, ap, refl, subst, ⊎_elim, inl, inr, arith, ℕ, zero, suc, ◌<◌, Bool, true, false, cond, List, [], ◌∷◌, ◌++◌, length, All, Option, Some, None, map, slice_get}
-use Rattle.std.specs.Prelude.{◌==◌, ◌&&◌, MatchOption, IsSomeAnd, is_some, option_map}
+use Rattle.std.specs.Prelude.{◌==◌, ◌&&◌, MatchOption, IsSomeAnd, is_some}
+use Rattle.std.specs.Option.{option_and_then}
 use Rattle.std.specs.List.{Contains, filter, filter_map, cons_option}
 use Rattle.std.specs.Slice.Iter.{iter_rest}
 use Rattle.std.proofs.lemmas.Bool.{and_parts, and_from, or_cases, or_left, or_right, eqb-true, eq-eqb, ltb-true, lt-ltb, false_from_ne_true}
@@ -136,11 +137,11 @@ from_filter_map f (x ∷ xs) y h = ⊎_elim
     (λ rest. let later = from_filter_map f xs y rest in (later.0, Contains-append_right (x ∷ []) xs later.0 later.1, later.2))
     (optional_cases (f x) (filter_map f xs) y h)
 
-id_from_has : (o : Option PackageRecord) (id : List ℕ) → IsSomeAnd o (λ r. r.id ≡ id) → option_map (λ r. r.id) o ≡ Some id
+id_from_has : (o : Option PackageRecord) (id : List ℕ) → IsSomeAnd o (λ r. r.id ≡ id) → option_and_then (λ r. Some r.id) o ≡ Some id
 id_from_has None id h = absurd h
 id_from_has (Some r) id h = ap Some h
 
-has_from_id : (o : Option PackageRecord) (id : List ℕ) → option_map (λ r. r.id) o ≡ Some id → IsSomeAnd o (λ r. r.id ≡ id)
+has_from_id : (o : Option PackageRecord) (id : List ℕ) → option_and_then (λ r. Some r.id) o ≡ Some id → IsSomeAnd o (λ r. r.id ≡ id)
 has_from_id None id h = absurd (cc)
 has_from_id (Some r) id h = cc
 

@@ -1,6 +1,7 @@
 -- The lists of a set of packages.
 use Rattle.std.proofs.Common.{◌≡◌, ◌∙◌, sym, ap, refl, arith, ℕ, zero, suc, ◌<◌, List, [], ◌∷◌, length, Option, Some, None, map, All}
-use Rattle.std.specs.Prelude.{IsSomeAnd, option_map, slice_get}
+use Rattle.std.specs.Prelude.{IsSomeAnd, slice_get}
+use Rattle.std.specs.Option.{option_and_then}
 use Rattle.std.specs.List.{filter_map, cons_option}
 use Rattle.std.proofs.lemmas.List.Elements.{All-tail}
 use Rattle.guppy_data.specs.declared.records.PackageRecord.{PackageRecord}
@@ -14,7 +15,7 @@ use Rattle.guppy.specs.Views.{PackageData, package_in, package_data, graph_packa
 use Rattle.guppy.specs.Listed.{id_of, ids_at, listed_ids_left, listed_left}
 use Rattle.guppy.specs.Rooted.{roots_left, root_ids_left}
 
-id_found : (o : Option PackageRecord) (id : List ℕ) → IsSomeAnd o (λ r. id ≡ r.id) → option_map (λ r. r.id) o ≡ Some id
+id_found : (o : Option PackageRecord) (id : List ℕ) → IsSomeAnd o (λ r. id ≡ r.id) → option_and_then (λ r. Some r.id) o ≡ Some id
 id_found None id h = absurd h
 id_found (Some r) id h = ap Some (sym h)
 

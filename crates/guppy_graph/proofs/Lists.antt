@@ -1,10 +1,9 @@
 -- Lists, place by place.
 use Rattle.std.proofs.Common.{◌≡◌, ◌∙◌, sym, refl, ap, subst, arith, ℕ, zero, suc, ◌<◌, ◌+◌, List, [], ◌∷◌, ◌++◌, get_or, length, map, take, All, Option, Some, None, slice_get, true, false}
 use Rattle.std.specs.Prelude.{MatchOption, IsSomeAnd, is_some, option_map}
-use Rattle.std.specs.Option.{ForSome}
-use Rattle.std.specs.List.{AllZip, Contains, range_with_len}
+use Rattle.std.specs.Option.{ForSome, option_and_then}
+use Rattle.std.specs.List.{AllZip, Contains}
 use Rattle.std.proofs.lemmas.List.{take_more}
-use Rattle.std.proofs.lemmas.List.FromFn.{length-map-range_with_len, get_or-map-range_with_len}
 use Rattle.std.proofs.lemmas.Option.{slice_get_within, get_or_from_slice_get, slice_get-map}
 use Rattle.std.proofs.lemmas.List.Elements.{All-push}
 use Rattle.guppy_graph.specs.First.{IsFirstWithout}
@@ -101,13 +100,11 @@ in_some o P x is h = rw is at h
 pub not_all : {A : Type 0} (P : A → Type 0) (items : List A) (k : ℕ) → IsFirstWithout P items k → All P items → ⊥
 not_all P items k first all = first.lacks (All-slice_get P items k first.item all first.found)
 
--- where a list is that of f at the positions from 0 on, each item is f at its own
-pub each_listed : {X : Type 0} (f : ℕ → X) (n : ℕ) (xs : List X) → xs ≡ map f (range_with_len 0 n) → (p : ℕ) → ForSome (slice_get xs p) (λ x. x ≡ f p)
-each_listed f n xs same p x is =
-    let there : slice_get (map f (range_with_len 0 n)) p ≡ Some x = sym (ap (λ l. slice_get l p) same) ∙ is in
-    let below : p < n = rw (length-map-range_with_len f 0 n) at (slice_get_within (map f (range_with_len 0 n)) p x there) in
-    sym (get_or_from_slice_get (map f (range_with_len 0 n)) p x x there) ∙ get_or-map-range_with_len f 0 n p p x below (omega arith)
+own_image : {A X : Type 0} (f : A → Option X) (o : Option A) (x : Option X) → option_map f o ≡ Some x → x ≡ option_and_then f o
+own_image f None x is = absurd (cc)
+own_image f (Some y) x is = cc
 
--- the same of a list with images
-pub each_shown : {T X : Type 0} (v : T → X) (f : ℕ → X) (n : ℕ) (ts : List T) → map v ts ≡ map f (range_with_len 0 n) → (p : ℕ) → ForSome (slice_get ts p) (λ t. v t ≡ f p)
-each_shown v f n ts same p t is = each_listed f n (map v ts) same p (v t) (slice_get-map v ts p ∙ ap (option_map v) is)
+-- where two lists have the same images, each item of one has the image of the other's at its place
+pub each_image : {T A X : Type 0} (v : T → Option X) (f : A → Option X) (ts : List T) (items : List A) → map v ts ≡ map f items → (p : ℕ) → ForSome (slice_get ts p) (λ t. v t ≡ option_and_then f (slice_get items p))
+each_image v f ts items same p t is =
+    own_image f (slice_get items p) (v t) (sym (slice_get-map f items p) ∙ (ap (λ l. slice_get l p) (sym same) ∙ (slice_get-map v ts p ∙ ap (option_map v) is)))

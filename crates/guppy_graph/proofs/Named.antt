@@ -1,6 +1,7 @@
 -- Packages with an ID.
 use Rattle.std.proofs.Common.{◌≡◌, ◌∙◌, sym, refl, arith, ℕ, zero, suc, ◌<◌, List, [], ◌∷◌, length, Option, Some, None, slice_get, true}
-use Rattle.std.specs.Prelude.{IsSomeAnd, option_map, is_some}
+use Rattle.std.specs.Prelude.{IsSomeAnd, is_some}
+use Rattle.std.specs.Option.{option_and_then}
 use Rattle.std.specs.List.{range_with_len}
 use Rattle.std.specs.List.Sorted.{IsPermutation}
 use Rattle.std.specs.Ordering.{nat_cmp}
@@ -12,11 +13,11 @@ use Rattle.guppy_graph.specs.Indexes.{IsIdIndex}
 use Rattle.guppy_graph.proofs.Lists.{some_at}
 use Rattle.guppy_graph.proofs.Keying.{exact_there, exact_back, index_of_all}
 
-owner_there : (o : Option PackageRecord) (id : List ℕ) → IsSomeAnd (option_map (λ r. r.id) o) (λ own. own ≡ id) → IsSomeAnd o (λ r. r.id ≡ id)
+owner_there : (o : Option PackageRecord) (id : List ℕ) → IsSomeAnd (option_and_then (λ r. Some r.id) o) (λ own. own ≡ id) → IsSomeAnd o (λ r. r.id ≡ id)
 owner_there None id h = absurd h
 owner_there (Some r) id h = h
 
-owner_back : (o : Option PackageRecord) (id : List ℕ) → IsSomeAnd o (λ r. r.id ≡ id) → IsSomeAnd (option_map (λ r. r.id) o) (λ own. own ≡ id)
+owner_back : (o : Option PackageRecord) (id : List ℕ) → IsSomeAnd o (λ r. r.id ≡ id) → IsSomeAnd (option_and_then (λ r. Some r.id) o) (λ own. own ≡ id)
 owner_back None id h = absurd h
 owner_back (Some r) id h = h
 
@@ -28,13 +29,36 @@ module _ (packages : List PackageRecord) where
   pub id_back : (id : List ℕ) (p : ℕ) → HasId packages id p → HasKey (slice_cmp nat_cmp) (id_at packages) id p
   id_back id p h = exact_back (id_at packages) id p (owner_back (slice_get packages p) id h)
 
-of_own : (o : Option PackageRecord) → is_some o ≡ true → IsSomeAnd o (λ r. r.id ≡ or_empty (option_map (λ r. r.id) o))
+of_own : (o : Option PackageRecord) → is_some o ≡ true → IsSomeAnd o (λ r. r.id ≡ or_empty (option_and_then (λ r. Some r.id) o))
 of_own None some = absurd (cc)
 of_own (Some r) some = refl
 
 -- each package has its own ID
 pub has_own_id : (packages : List PackageRecord) (p : ℕ) → p < length packages → HasId packages (or_empty (id_at packages p)) p
 has_own_id packages p within = let r = some_at packages p within in of_own (slice_get packages p) (rw r.1 refl)
+
+none_owns : (o : Option PackageRecord) (id : List ℕ) → None ≡ option_and_then (λ r. Some r.id) o → IsSomeAnd o (λ r. r.id ≡ id) → ⊥
+none_owns None id is h = absurd h
+none_owns (Some r) id is h = absurd (cc)
+
+own_is : (o : Option PackageRecord) (own id : List ℕ) → Some own ≡ option_and_then (λ r. Some r.id) o → IsSomeAnd o (λ r. r.id ≡ id) → own ≡ id
+own_is None own id is h = absurd h
+own_is (Some r) own id is h = cc
+
+own_has : (o : Option PackageRecord) (own id : List ℕ) → Some own ≡ option_and_then (λ r. Some r.id) o → own ≡ id → IsSomeAnd o (λ r. r.id ≡ id)
+own_has None own id is same = absurd (cc)
+own_has (Some r) own id is same = cc
+
+-- where its key is this one, a position has the ID exactly where they are equal
+module _ (packages : List PackageRecord) (p : ℕ) (id : List ℕ) where
+  pub keyless : None ≡ id_at packages p → HasId packages id p → ⊥
+  keyless is h = none_owns (slice_get packages p) id is h
+
+  pub key_is : (own : List ℕ) → Some own ≡ id_at packages p → HasId packages id p → own ≡ id
+  key_is own is h = own_is (slice_get packages p) own id is h
+
+  pub key_has : (own : List ℕ) → Some own ≡ id_at packages p → own ≡ id → HasId packages id p
+  key_has own is same = own_has (slice_get packages p) own id is same
 
 one_id : (o : Option PackageRecord) (a b : List ℕ) → IsSomeAnd o (λ r. r.id ≡ a) → IsSomeAnd o (λ r. r.id ≡ b) → a ≡ b
 one_id None a b h k = absurd h

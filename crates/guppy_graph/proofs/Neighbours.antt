@@ -1,10 +1,11 @@
 -- Positions of equal keys are neighbours in an index.
-use Rattle.std.proofs.Common.{◌≡◌, ◌∙◌, sym, subst, ap, ℕ, zero, suc, ◌<◌, ◌≤◌, ◌+◌, ◌-◌, min, ltb, List, get_or, length, arith, true, false, Option, ⊎_elim}
+use Rattle.std.proofs.Common.{◌≡◌, ◌∙◌, sym, subst, ap, refl, ℕ, zero, suc, ◌<◌, ◌≤◌, ◌+◌, ◌-◌, min, ltb, List, get_or, length, arith, true, false, Option, ⊎_elim}
 use Rattle.std.specs.Prelude.{slice_index, MatchOption}
+use Rattle.std.specs.List.Sorted.{IsPermutation}
 use Rattle.std.specs.Bool.{then_some}
 use Rattle.std.specs.Cmp.{IsTotalOrder}
 use Rattle.std.specs.declared.cmp.Ordering.{Ordering}
-use Rattle.std.specs.declared.cmp.Ordering.TheVariants.{Equal}
+use Rattle.std.specs.declared.cmp.Ordering.TheVariants.{Less, Equal}
 use Rattle.std.specs.Ordering.{is_lt, is_eq, nat_cmp, ordering_reverse, eq_by_cmp}
 use Rattle.std.proofs.lemmas.Bool.{cases_lt, lt-ltb, le-ltb}
 use Rattle.std.proofs.lemmas.Cmp.{nat_cmp_total, tied_itself, tied_back}
@@ -12,7 +13,7 @@ use Rattle.std.proofs.lemmas.List.{get_or_default}
 use Rattle.std.proofs.lemmas.List.Elements.{Contains-get_or}
 use Rattle.std.proofs.lemmas.List.Sorted.{sorted_far}
 use Rattle.std.proofs.lemmas.Map.Keys.{apart_from_distinct}
-use Rattle.guppy_graph.specs.Keys.{or_empty, HasKey, HasKeyBefore, IsIndex, DifferBelow, IsRepeat, IsFirstRepeat}
+use Rattle.guppy_graph.specs.Keys.{or_empty, keyed, HasKey, HasKeyBefore, IsIndex, Rise, DifferBelow, IsRepeat, IsFirstRepeat}
 use Rattle.guppy_graph.proofs.Keying.{has_own, has_tie, tie_has, index_some, in_index}
 use Rattle.guppy_graph.proofs.Lookups.{Before, before_order, le_by_number, not_less, equal_of_both}
 use Rattle.guppy_graph.proofs.Ascending.{index_distinct}
@@ -99,6 +100,33 @@ module _ (order : List ℕ → List ℕ → Ordering) (o : IsTotalOrder order) (
           (λ (le : i ≤ j). omega arith)
           (cases_lt j i))
           (cases_lt i j)
+
+-- positions that have keys, of which those of neighbours ascend strictly
+module _ (order : List ℕ → List ℕ → Ordering) (o : IsTotalOrder order) (key_at : ℕ → Option (List ℕ)) (n : ℕ) (positions : List ℕ) (all : IsPermutation (keyed key_at n) positions) (rises : Rise order key_at positions) where
+  not_before : (a b : ℕ) → order (or_empty (key_at a)) (or_empty (key_at b)) ≡ Less → Before o (λ p. or_empty (key_at p)) b a ≡ false
+  not_before a b less =
+      let back : order (or_empty (key_at b)) (or_empty (key_at a)) ≡ ordering_reverse Less = o.antisymm (or_empty (key_at b)) (or_empty (key_at a)) ∙ ap ordering_reverse less in
+      rw back refl
+
+  -- they are an index
+  pub risen_index : IsIndex order key_at n positions
+  risen_index = record {
+    permutation = all;
+    ascends = λ k d low high. not_before (get_or positions k d) (get_or positions (k + 1) d) (rises k d high);
+  }
+
+  none_before : (place : ℕ) → 0 < place → place < length positions → HasKeyBefore order key_at positions place → n ≤ slice_index positions place
+  none_before zero after within tie = absurd (omega arith)
+  none_before (suc k) after within tied =
+      let at : suc k - 1 ≡ k = omega arith in
+      let next : k + 1 ≡ suc k = omega arith in
+      let tie : order (or_empty (key_at (get_or positions k 0))) (or_empty (key_at (get_or positions (suc k) 0))) ≡ Equal = rw at at tied in
+      let less : order (or_empty (key_at (get_or positions k 0))) (or_empty (key_at (get_or positions (suc k) 0))) ≡ Less = rw next at (rises k 0 (omega arith)) in
+      absurd (let e : Equal ≡ Less = sym tie ∙ less in cc)
+
+  -- and no two have one key
+  pub risen_differ : DifferBelow (HasKey order key_at) n
+  risen_differ = neighbours_differ order o key_at n positions risen_index n (omega arith) none_before
 
 -- the lowest position, of those at places before this one, that has the key of its neighbour, or n where none has
 pub record IsScanned (order : List ℕ → List ℕ → Ordering) (key_at : ℕ → Option (List ℕ)) (n : ℕ) (index : List ℕ) (place lowest : ℕ) : Type 0 where

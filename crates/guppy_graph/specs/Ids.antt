@@ -1,8 +1,8 @@
 -- The IDs of packages, and the positions that they name.
-use Rattle.std.specs.Prelude.{◌≡◌, ℕ, List, Option, option_map, slice_get, IsSomeAnd, map}
+use Rattle.std.specs.Prelude.{◌≡◌, ℕ, List, Option, Some, slice_get, IsSomeAnd, map}
 use Rattle.guppy_search.specs.declared.ix.index_type.PackageIx.{PackageIx}
 use Rattle.guppy_data.specs.declared.records.PackageRecord.{PackageRecord}
-use Rattle.guppy_graph.specs.Keys.{DifferBelow}
+use Rattle.guppy_graph.specs.Keys.{item_key, DifferBelow}
 
 -- the position that an index stands for
 abbrev pub ix_position : PackageIx → ℕ
@@ -14,7 +14,7 @@ ids_of packages = map (λ r. r.id) packages
 
 -- the ID of the package at the position
 abbrev pub id_at : List PackageRecord → ℕ → Option (List ℕ)
-id_at packages p = option_map (λ r. r.id) (slice_get packages p)
+id_at = item_key (λ r. Some r.id)
 
 -- the package at the position has the ID
 abbrev pub HasId : List PackageRecord → List ℕ → ℕ → Type 0

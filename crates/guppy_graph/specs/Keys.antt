@@ -1,11 +1,15 @@
 -- Keys of positions, and positions in the order of their keys.
-use Rattle.std.specs.Prelude.{◌≡◌, ℕ, ◌<◌, ◌-◌, List, [], filter, Option, is_some, IsSomeAnd, slice_index}
-use Rattle.std.specs.Option.{option_map_or}
-use Rattle.std.specs.List.{range_with_len}
+use Rattle.std.specs.Prelude.{◌≡◌, ℕ, ◌<◌, ◌-◌, List, [], length, filter, Option, is_some, IsSomeAnd, slice_get, slice_index}
+use Rattle.std.specs.Option.{option_and_then, option_map_or}
+use Rattle.std.specs.List.{AllAdjacentBelow, range_with_len}
 use Rattle.std.specs.List.Sorted.{IsPermutation, IsSortedBy}
 use Rattle.std.specs.declared.cmp.Ordering.{Ordering}
-use Rattle.std.specs.declared.cmp.Ordering.TheVariants.{Equal}
+use Rattle.std.specs.declared.cmp.Ordering.TheVariants.{Less, Equal}
 use Rattle.std.specs.Ordering.{is_lt, nat_cmp, on, then_cmp}
+
+-- the key of the item at the position
+abbrev pub item_key : {A : Type 0} → (A → Option (List ℕ)) → List A → ℕ → Option (List ℕ)
+item_key key items p = option_and_then key (slice_get items p)
 
 -- the key, and the empty one where there is none
 abbrev pub or_empty : Option (List ℕ) → List ℕ
@@ -24,6 +28,10 @@ module _ (order : List ℕ → List ℕ → Ordering) (key_at : ℕ → Option (
   abbrev pub Ascends : List ℕ → Type 0
   Ascends index =
       IsSortedBy (λ a b. is_lt (then_cmp (on (λ p. or_empty (key_at p)) order) nat_cmp a b)) index
+
+  -- the keys of neighbours ascend strictly
+  abbrev pub Rise : List ℕ → Type 0
+  Rise positions = AllAdjacentBelow (λ a b. order (or_empty (key_at a)) (or_empty (key_at b)) ≡ Less) positions (length positions)
 
   -- the position at the place has the key of the one before it in the index
   abbrev pub HasKeyBefore : List ℕ → ℕ → Type 0

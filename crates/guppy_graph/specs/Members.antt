@@ -1,6 +1,5 @@
 -- The members of the workspace, their paths and their names.
-use Rattle.std.specs.Prelude.{◌≡◌, ℕ, List, length, map, Option, option_map, slice_get, is_some, true, IsSomeAnd}
-use Rattle.std.specs.Option.{option_and_then}
+use Rattle.std.specs.Prelude.{◌≡◌, ℕ, List, length, map, Option, option_map, is_some, true, IsSomeAnd}
 use Rattle.std.specs.List.Sorted.{IsPermutation, IsStrictlySortedBy}
 use Rattle.std.specs.Ordering.{nat_cmp}
 use Rattle.std.specs.Cmp.Lexicographic.{slice_cmp}
@@ -8,7 +7,7 @@ use Rattle.std.specs.String.{string_bytes}
 use Rattle.guppy_data.specs.Path.{path_cmp}
 use Rattle.guppy_data.specs.declared.records.PackageRecord.{PackageRecord}
 use Rattle.guppy_data.specs.PackageSource.{workspace_path, recorded_origin}
-use Rattle.guppy_graph.specs.Keys.{or_empty, keyed, HasKey}
+use Rattle.guppy_graph.specs.Keys.{or_empty, item_key, keyed, HasKey}
 
 -- the path of a package that is in the workspace
 abbrev pub member_path : PackageRecord → Option (List ℕ)
@@ -20,11 +19,11 @@ member_name r = option_map (λ _. string_bytes r.name) (member_path r)
 
 -- the path of the member at the position
 abbrev pub path_at : List PackageRecord → ℕ → Option (List ℕ)
-path_at packages p = option_and_then member_path (slice_get packages p)
+path_at = item_key member_path
 
 -- the name of the member at the position
 abbrev pub name_at : List PackageRecord → ℕ → Option (List ℕ)
-name_at packages p = option_and_then member_name (slice_get packages p)
+name_at = item_key member_name
 
 -- the package at the position is a member with this path, as paths are equal
 abbrev pub HasPath : List PackageRecord → List ℕ → ℕ → Type 0

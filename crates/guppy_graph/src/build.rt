@@ -12,11 +12,12 @@ ghost use Rattle.guppy_graph.specs.Links.{AreEndsKnown, AreEndsOf};
 ghost use Rattle.guppy_graph.specs.Refused.{TellsFault, IsRefusal};
 
 use crate::hints::Hints;
-use crate::keyed::{first_repeat, index_from, index_of};
+use crate::keyed::index_from;
 use crate::keys::{
-    Id, Ids, Keys, Name, Path, TargetIds, first_repeated_id, first_repeated_name,
-    first_repeated_target, position_of_id, texts_of,
+    Id, Ids, Keys, Name, Path, index_by_id, index_by_name, index_by_target, position_of_id,
+    texts_of,
 };
+use crate::likely::likely_order;
 use guppy_core::Link;
 use guppy_data::{
     BuildTargetRecord, ConstructFault, Error, LinkRecord, OwnedBuildTargetId, PackageId,
@@ -56,35 +57,6 @@ impl Indexes {
         self.hints
             .find(&Ids::new(packages), self.by_id.as_slice(), id)
     }
-}
-
-// For each package, the places of its build targets by ID.
-fn target_indexes(alloc: Global, packages: &[PackageRecord]) -> Result<Vec<Vec<usize>>, AllocError>
-    ensures { IfOk result (λ indexes. AreTargetIndexes packages.now indexes.items) }
-{
-    let mut indexes = Vec::with_capacity(alloc, packages.len())?;
-    for record in packages.iter() {
-        indexes.push(index_of(alloc, &TargetIds(record.build_targets.as_slice()))?)?;
-    }
-    Ok(indexes)
-}
-
-// The first package and its first target with the ID of an earlier one.
-fn first_with_repeated_target(
-    packages: &[PackageRecord],
-    indexes: &[Vec<usize>],
-) -> Option<(usize, usize)>
-    requires { AreTargetIndexes packages.now indexes.now }
-    ensures { MatchOption result (All AreTargetsDistinct packages.now)
-        (λ p. IsFirstRepeatedTarget packages.now p.0 p.1) }
-{
-    for (position, record) in packages.iter().enumerate() {
-        let index = indexes[position].as_slice();
-        if let Some(target) = first_repeated_target(record.build_targets.as_slice(), index) {
-            return Some((position, target));
-        }
-    }
-    None
 }
 
 // Whether the target has the name that a library and a build script need.
@@ -138,7 +110,7 @@ fn first_unknown_member(ids: &Ids<'_>, by_id: &[usize], members: &[PackageId]) -
 }
 
 // The packages by ID, where no two have one ID.
-fn index_by_id(alloc: Global, ids: &Ids<'_>) -> Result<Vec<usize>, Error>
+fn distinct_ids(alloc: Global, ids: &Ids<'_>) -> Result<Vec<usize>, Error>
     ensures made { IfOk result (λ index. IsIdIndex ids.now.packages.now index.items) }
     ensures accepted { OnOk result (DifferBelow (HasId ids.now.packages.now)
         (length ids.now.packages.now)) }
@@ -146,26 +118,31 @@ fn index_by_id(alloc: Global, ids: &Ids<'_>) -> Result<Vec<usize>, Error>
         × (fault ≡ ConstructFault.RepeatedPackageId p)
         × IsFirstRepeat (HasId ids.now.packages.now) p)) }
 {
-    let by_id = index_of(alloc, ids)?;
-    if let Some(package) = first_repeated_id(ids, by_id.as_slice()) {
+    let likely = likely_order(alloc, ids)?;
+    let (by_id, repeat) = index_by_id(alloc, ids, likely.as_slice())?;
+    if let Some(package) = repeat {
         return Err(ConstructFault::RepeatedPackageId { package }.into());
     }
     Ok(by_id)
 }
 
 // For each package, the places of its build targets by ID, where no two of one package have one ID.
-fn indexes_by_target(alloc: Global, packages: &[PackageRecord]) -> Result<Vec<Vec<usize>>, Error>
+fn distinct_targets(alloc: Global, packages: &[PackageRecord]) -> Result<Vec<Vec<usize>>, Error>
     ensures made { IfOk result (λ indexes. AreTargetIndexes packages.now indexes.items) }
     ensures accepted { OnOk result (All AreTargetsDistinct packages.now) }
     ensures refused { IfErr result (TellsFault (λ fault. (p t : ℕ)
         × (fault ≡ ConstructFault.RepeatedBuildTarget p t)
         × IsFirstRepeatedTarget packages.now p t)) }
 {
-    let by_target = target_indexes(alloc, packages)?;
-    if let Some((package, target)) = first_with_repeated_target(packages, by_target.as_slice()) {
-        return Err(ConstructFault::RepeatedBuildTarget { package, target }.into());
+    let mut indexes = Vec::with_capacity(alloc, packages.len())?;
+    for (package, record) in packages.iter().enumerate() {
+        let (index, repeat) = index_by_target(alloc, record.build_targets.as_slice())?;
+        if let Some(target) = repeat {
+            return Err(ConstructFault::RepeatedBuildTarget { package, target }.into());
+        }
+        indexes.push(index)?;
     }
-    Ok(by_target)
+    Ok(indexes)
 }
 
 // Checks that each target has the name that it needs.
@@ -182,7 +159,7 @@ fn check_target_names(packages: &[PackageRecord]) -> Result<(), Error>
 }
 
 // The workspace members by path, where no two have one path.
-fn index_by_path(
+fn distinct_paths(
     alloc: Global,
     packages: &[PackageRecord],
     by_id: &[usize],
@@ -196,15 +173,15 @@ fn index_by_path(
 {
     let texts = texts_of::<Path>(alloc, packages)?;
     let paths: Keys<'_, Path> = Keys::listed(packages, texts.as_slice());
-    let by_path = index_from(alloc, &paths, by_id)?;
-    if let Some(package) = first_repeat(&paths, by_path.as_slice()) {
+    let (by_path, repeat) = index_from(alloc, &paths, by_id)?;
+    if let Some(package) = repeat {
         return Err(ConstructFault::RepeatedWorkspacePath { package }.into());
     }
     Ok(by_path)
 }
 
 // The workspace members by name, where no two have one name.
-fn index_by_name(
+fn distinct_names(
     alloc: Global,
     packages: &[PackageRecord],
     by_id: &[usize],
@@ -218,8 +195,8 @@ fn index_by_name(
 {
     let texts = texts_of::<Name>(alloc, packages)?;
     let names = Keys::listed(packages, texts.as_slice());
-    let by_name = index_from(alloc, &names, by_id)?;
-    if let Some(package) = first_repeated_name(&names, by_name.as_slice()) {
+    let (by_name, repeat) = index_by_name(alloc, &names, by_id)?;
+    if let Some(package) = repeat {
         return Err(ConstructFault::RepeatedWorkspaceName { package }.into());
     }
     Ok(by_name)
@@ -248,11 +225,11 @@ fn indexes_of(alloc: Global, ids: &Ids<'_>, workspace: &WorkspaceRecord) -> Resu
         (λ e. (links : List LinkRecord) → IsRefusal ids.now.packages.now links workspace.now e) }
 {
     let packages = ids.packages;
-    let by_id = index_by_id(alloc, ids)?;
-    let by_target = indexes_by_target(alloc, packages)?;
+    let by_id = distinct_ids(alloc, ids)?;
+    let by_target = distinct_targets(alloc, packages)?;
     check_target_names(packages)?;
-    let by_path = index_by_path(alloc, packages, by_id.as_slice())?;
-    let by_name = index_by_name(alloc, packages, by_id.as_slice())?;
+    let by_path = distinct_paths(alloc, packages, by_id.as_slice())?;
+    let by_name = distinct_names(alloc, packages, by_id.as_slice())?;
     let members = workspace.default_members.as_slice();
     check_members(ids, by_id.as_slice(), members)?;
     let hints = Hints::new(alloc, ids)?;

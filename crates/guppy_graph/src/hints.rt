@@ -59,7 +59,9 @@ impl Hints {
             table: vec![in alloc; NO_HINT; ROOM * count + TRIES + 1]?,
         };
         for position in 0..count {
-            hints.put(ids.text_at(position), position as u32);
+            if let Some(id) = ids.text_at(position) {
+                hints.put(id, position as u32);
+            }
         }
         Ok(hints)
     }

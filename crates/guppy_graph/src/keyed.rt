@@ -5,7 +5,7 @@ ghost use Rattle.std.specs.List.Sorted.{IsPermutation};
 ghost use Rattle.std.specs.declared.cmp.Ordering.{Ordering};
 ghost use Rattle.std.specs.Ordering.{nat_cmp, on, then_cmp, is_lt};
 ghost use Rattle.std.specs.Cmp.{IsTotalOrder};
-ghost use Rattle.guppy_graph.specs.Keys.{or_empty, keyed, HasKey, IsIndex, NoneBelow, IsFirstWith, DifferBelow, HasKeyBefore, IsFirstRepeat};
+ghost use Rattle.guppy_graph.specs.Keys.{or_empty, keyed, HasKey, IsIndex, NoneBelow, IsFirstWith, DifferBelow, HasKeyBefore, IsFirstRepeat, Rise};
 
 use std::alloc::{AllocError, Global};
 use std::cmp::Ordering;
@@ -88,12 +88,72 @@ fn sorted<S: Keyed>(source: &S, mut positions: Vec<usize>) -> Vec<usize>
     positions
 }
 
-/// The positions that have keys, in the order of the keys.
-pub(crate) fn index_of<S: Keyed>(alloc: Global, source: &S) -> Result<Vec<usize>, AllocError>
-    ensures { IfOk result (λ index. IsIndex S.order (S.key_at source.now)
-        (S.count source.now) index.items) }
+// Whether the keys ascend strictly in the order of these positions.
+fn rise<S: Keyed>(source: &S, positions: &[usize]) -> bool
+    ensures { IsTrue result → Rise S.order (S.key_at source.now) positions.now }
 {
-    Ok(sorted(source, keyed_positions(alloc, source)?))
+    positions.is_sorted_by(
+        |a: &usize, b: &usize| -> bool
+            ensures { result ≡ is_lt (S.order (or_empty (S.key_at source.entry.now a.now))
+                (or_empty (S.key_at source.entry.now b.now))) }
+        { source.compare(*a, *b).is_lt() },
+    )
+}
+
+// Whether the position at the place has the key of the one before it in the index.
+fn is_repeat<S: Keyed>(source: &S, index: &[usize], place: usize) -> bool
+    requires after { 0 < place }
+    requires within { place < length index.now }
+    ensures { IsTrue result ↔ HasKeyBefore S.order (S.key_at source.now) index.now place }
+{
+    source.compare(index[place - 1], index[place]).is_eq()
+}
+
+// The first position that has the key of an earlier one. Positions of equal keys are neighbours in the index.
+fn first_repeat<S: Keyed>(source: &S, index: &[usize]) -> Option<usize>
+    requires { IsIndex S.order (S.key_at source.now) (S.count source.now) index.now }
+    ensures { MatchOption result
+        (DifferBelow (HasKey S.order (S.key_at source.now)) (S.count source.now))
+        (IsFirstRepeat (HasKey S.order (S.key_at source.now))) }
+{
+    let mut lowest = source.position_count();
+    for place in 1..index.len() {
+        if is_repeat(source, index, place) {
+            lowest = lowest.min(index[place]);
+        }
+    }
+    (lowest < source.position_count()).then_some(lowest)
+}
+
+// Positions that have keys in the order of the keys, and the first that has the key of an earlier one. Where they
+// stand in that order already, they are compared once.
+fn indexed<S: Keyed>(source: &S, positions: Vec<usize>) -> (Vec<usize>, Option<usize>)
+    requires { IsPermutation (keyed (S.key_at source.now) (S.count source.now)) positions.items }
+    ensures index { IsIndex S.order (S.key_at source.now) (S.count source.now) result.0.items }
+    ensures repeat { MatchOption result.1
+        (DifferBelow (HasKey S.order (S.key_at source.now)) (S.count source.now))
+        (IsFirstRepeat (HasKey S.order (S.key_at source.now))) }
+{
+    if rise(source, positions.as_slice()) {
+        return (positions, None);
+    }
+    let index = sorted(source, positions);
+    let repeat = first_repeat(source, index.as_slice());
+    (index, repeat)
+}
+
+/// The positions that have keys, in the order of the keys, and the first that has the key of an earlier one.
+pub(crate) fn index_of<S: Keyed>(
+    alloc: Global,
+    source: &S,
+) -> Result<(Vec<usize>, Option<usize>), AllocError>
+    ensures index { IfOk result (λ made. IsIndex S.order (S.key_at source.now)
+        (S.count source.now) made.0.items) }
+    ensures repeat { IfOk result (λ made. MatchOption made.1
+        (DifferBelow (HasKey S.order (S.key_at source.now)) (S.count source.now))
+        (IsFirstRepeat (HasKey S.order (S.key_at source.now)))) }
+{
+    Ok(indexed(source, keyed_positions(alloc, source)?))
 }
 
 /// The same, made of all positions in another order. Where that is the order of the keys too, they are
@@ -102,12 +162,15 @@ pub(crate) fn index_from<S: Keyed>(
     alloc: Global,
     source: &S,
     positions: &[usize],
-) -> Result<Vec<usize>, AllocError>
+) -> Result<(Vec<usize>, Option<usize>), AllocError>
     requires { IsPermutation (range_with_len 0 (S.count source.now)) positions.now }
-    ensures { IfOk result (λ index. IsIndex S.order (S.key_at source.now)
-        (S.count source.now) index.items) }
+    ensures index { IfOk result (λ made. IsIndex S.order (S.key_at source.now)
+        (S.count source.now) made.0.items) }
+    ensures repeat { IfOk result (λ made. MatchOption made.1
+        (DifferBelow (HasKey S.order (S.key_at source.now)) (S.count source.now))
+        (IsFirstRepeat (HasKey S.order (S.key_at source.now)))) }
 {
-    Ok(sorted(source, keyed_of(alloc, source, positions)?))
+    Ok(indexed(source, keyed_of(alloc, source, positions)?))
 }
 
 /// The first position that has the text as its key.
@@ -127,29 +190,4 @@ pub(crate) fn position_of<S: KeyedByText>(source: &S, index: &[usize], text: &st
         Some(first) if source.compare_to(*first, text).is_eq() => Some(*first),
         _ => None,
     }
-}
-
-// Whether the position at the place has the key of the one before it in the index.
-fn is_repeat<S: Keyed>(source: &S, index: &[usize], place: usize) -> bool
-    requires after { 0 < place }
-    requires within { place < length index.now }
-    ensures { IsTrue result ↔ HasKeyBefore S.order (S.key_at source.now) index.now place }
-{
-    source.compare(index[place - 1], index[place]).is_eq()
-}
-
-/// The first position that has the key of an earlier one. Positions of equal keys are neighbours in the index.
-pub(crate) fn first_repeat<S: Keyed>(source: &S, index: &[usize]) -> Option<usize>
-    requires { IsIndex S.order (S.key_at source.now) (S.count source.now) index.now }
-    ensures { MatchOption result
-        (DifferBelow (HasKey S.order (S.key_at source.now)) (S.count source.now))
-        (IsFirstRepeat (HasKey S.order (S.key_at source.now))) }
-{
-    let mut lowest = source.position_count();
-    for place in 1..index.len() {
-        if is_repeat(source, index, place) {
-            lowest = lowest.min(index[place]);
-        }
-    }
-    (lowest < source.position_count()).then_some(lowest)
 }

@@ -1,18 +1,19 @@
 //! The keys of packages and build targets: IDs, paths and names of workspace members, target IDs.
-ghost use Rattle.std.specs.Prelude.{◌≡◌, ◌↔◌, ℕ, List, Option, length, map, slice_get, is_some, IsTrue, IfOk, MatchOption};
-ghost use Rattle.std.specs.Option.{ForSome};
+ghost use Rattle.std.specs.Prelude.{◌≡◌, ◌↔◌, ℕ, List, Option, length, map, slice_get, IsTrue, IfOk, MatchOption};
+ghost use Rattle.std.specs.Option.{ForSome, option_copied};
 ghost use Rattle.std.specs.Cmp.{IsTotalOrder};
 ghost use Rattle.std.specs.List.{range_with_len};
+ghost use Rattle.std.specs.List.Sorted.{IsPermutation};
 ghost use Rattle.std.specs.declared.cmp.Ordering.{Ordering};
 ghost use Rattle.guppy_data.specs.Utf8Path.{path_text};
 ghost use Rattle.guppy_data.specs.declared.records.PackageRecord.{PackageRecord};
-ghost use Rattle.guppy_graph.specs.Keys.{or_empty, NoneBelow, IsFirstWith, DifferBelow, IsFirstRepeat};
-ghost use Rattle.guppy_graph.specs.Ids.{id_at, HasId};
+ghost use Rattle.guppy_graph.specs.Keys.{or_empty, item_key, NoneBelow, IsFirstWith, DifferBelow, IsFirstRepeat};
+ghost use Rattle.guppy_graph.specs.Ids.{HasId};
 ghost use Rattle.guppy_graph.specs.Members.{path_at, name_at, HasPath, HasName, IsMemberPath, IsMemberName};
 ghost use Rattle.guppy_graph.specs.Targets.{HasTarget};
 ghost use Rattle.guppy_graph.specs.Indexes.{IsIdIndex, IsPathIndex, IsNameIndex, IsTargetIndex};
 
-use crate::keyed::{Keyed, KeyedByText, first_repeat, position_of};
+use crate::keyed::{Keyed, KeyedByText, index_from, index_of, position_of};
 use guppy_data::{
     BuildTargetId, BuildTargetRecord, PackageId, PackageRecord, PackageSourceRecord, Utf8Path,
 };
@@ -22,19 +23,15 @@ use std::marker::PhantomData;
 
 /// What packages are looked up by: a text that a package may have, and an order of such texts.
 pub(crate) trait Key {
-    /// The text at the position, if there is one.
-    ghost text_at: { List PackageRecord → ℕ → Option (List ℕ) };
+    /// The text of the package, if it has one.
+    ghost text_of: { PackageRecord → Option (List ℕ) };
 
     ghost order: { List ℕ → List ℕ → Ordering };
 
     ghost total: { IsTotalOrder order };
 
-    fn is_at(packages: &[PackageRecord], position: usize) -> bool
-        ensures { result ≡ is_some (text_at packages.now position) };
-
-    /// The text at the position, and the empty one where there is none.
-    fn text_at(packages: &[PackageRecord], position: usize) -> &str
-        ensures { result.now ≡ or_empty (text_at packages.now position) };
+    fn text_of(item: &PackageRecord) -> Option<&str>
+        ensures { option_copied result ≡ text_of item.now };
 
     fn compare(text: &str, other: &str) -> Ordering
         ensures { result ≡ order text.now other.now };
@@ -49,15 +46,15 @@ pub(crate) struct Path;
 /// The names of workspace members.
 pub(crate) struct Name;
 
-/// Packages by one of their keys. The texts may stand in a list, so that many comparisons read no records,
+/// Packages by one of their keys. The texts may stand in a list, so that looking at many of them reads no records,
 /// which lie far apart.
 #[derive(Drop)]
 pub(crate) struct Keys<'a, K: Key> {
     pub(crate) packages: &'a [PackageRecord],
-    texts: &'a [&'a str],
+    texts: &'a [Option<&'a str>],
     key: PhantomData<K>,
     ghost own: { (p : ℕ) → ForSome (slice_get texts.now p)
-        (λ text. text.now ≡ or_empty (K.text_at packages.now p)) },
+        (λ text. option_copied text ≡ item_key K.text_of packages.now p) },
 }
 
 /// Packages by their IDs.
@@ -66,16 +63,6 @@ pub(crate) type Ids<'a> = Keys<'a, Id>;
 /// Build targets of one package by their IDs.
 #[derive(Clone, Copy)]
 pub(crate) struct TargetIds<'a>(pub(crate) &'a [BuildTargetRecord]);
-
-// The ID at the position, and the empty text past the end.
-fn id_at(packages: &[PackageRecord], position: usize) -> &str
-    ensures { result.now ≡ or_empty (id_at packages.now position) }
-{
-    match packages.get(position) {
-        Some(record) => record.id.repr(),
-        None => "",
-    }
-}
 
 /// The path of the member at the position, and the empty path where there is none.
 pub fn path_at(packages: &[PackageRecord], position: usize) -> Utf8Path<'_>
@@ -108,17 +95,13 @@ pub fn name_at(packages: &[PackageRecord], position: usize) -> &str
     }
 }
 
-// Whether there is a member at the position.
-fn is_member_at(packages: &[PackageRecord], position: usize) -> bool
-    ensures path { result ≡ is_some (path_at packages.now position) }
-    ensures name { result ≡ is_some (name_at packages.now position) }
+// The text, and the empty one where there is none.
+fn or_empty(text: Option<&str>) -> &str
+    ensures { result.now ≡ or_empty (option_copied text.entry) }
 {
-    match packages.get(position) {
-        Some(record) => match record.source {
-            PackageSourceRecord::Workspace(_) => true,
-            PackageSourceRecord::Path(_) | PackageSourceRecord::External(_) => false,
-        },
-        None => false,
+    match text {
+        Some(text) => text,
+        None => "",
     }
 }
 
@@ -126,13 +109,12 @@ fn is_member_at(packages: &[PackageRecord], position: usize) -> bool
 pub(crate) fn texts_of<K: Key>(
     alloc: Global,
     packages: &[PackageRecord],
-) -> Result<Vec<&str>, AllocError>
-    ensures { IfOk result (λ texts. map (λ text. text.now) texts.items
-        ≡ map (λ p. or_empty (K.text_at packages.now p)) (range_with_len 0 (length packages.now))) }
+) -> Result<Vec<Option<&str>>, AllocError>
+    ensures { IfOk result (λ texts. map option_copied texts.items ≡ map K.text_of packages.now) }
 {
     let mut texts = Vec::with_capacity(alloc, packages.len())?;
-    for position in 0..packages.len() {
-        texts.push(K::text_at(packages, position))?;
+    for package in packages.iter() {
+        texts.push(K::text_of(package))?;
     }
     Ok(texts)
 }
@@ -150,9 +132,8 @@ impl<'a, K: Key> Keys<'a, K> {
     }
 
     /// The packages, and their texts.
-    pub(crate) fn listed(packages: &'a [PackageRecord], texts: &'a [&'a str]) -> Self
-        requires { map (λ text. text.now) texts.now
-            ≡ map (λ p. or_empty (K.text_at packages.now p)) (range_with_len 0 (length packages.now)) }
+    pub(crate) fn listed(packages: &'a [PackageRecord], texts: &'a [Option<&'a str>]) -> Self
+        requires { map option_copied texts.now ≡ map K.text_of packages.now }
         ensures { result.packages.now ≡ packages.entry.now }
     {
         Keys {
@@ -162,13 +143,13 @@ impl<'a, K: Key> Keys<'a, K> {
         }
     }
 
-    /// The text at the position, and the empty one where there is none.
-    pub(crate) fn text_at(&self, position: usize) -> &str
-        ensures { result.now ≡ or_empty (K.text_at self.now.packages.now position) }
+    /// The text of the package at the position, if there is one.
+    pub(crate) fn text_at(&self, position: usize) -> Option<&str>
+        ensures { option_copied result ≡ item_key K.text_of self.now.packages.now position }
     {
         match self.texts.get(position) {
-            Some(text) => text,
-            None => K::text_at(self.packages, position),
+            Some(text) => *text,
+            None => K::text_of(self.packages.get(position)?),
         }
     }
 }
@@ -178,7 +159,10 @@ impl Keys<'_, Id> {
     pub(crate) fn has_id(&self, position: usize, id: &str) -> bool
         ensures { IsTrue result ↔ HasId self.now.packages.now id.now position }
     {
-        position < self.packages.len() && self.text_at(position) == id
+        match self.text_at(position) {
+            Some(own) => own == id,
+            None => false,
+        }
     }
 }
 
@@ -220,53 +204,65 @@ pub(crate) fn position_of_name(
     position_of(&names, by_name, name)
 }
 
-/// The first package with the ID of an earlier one.
-pub(crate) fn first_repeated_id(ids: &Ids<'_>, by_id: &[usize]) -> Option<usize>
-    requires { IsIdIndex ids.now.packages.now by_id.now }
-    ensures { let packages = ids.now.packages.now in
-        MatchOption result (DifferBelow (HasId packages) (length packages))
-        (IsFirstRepeat (HasId packages)) }
+/// The packages by ID, and the first with the ID of an earlier one. They are sorted as they stand in this order, which
+/// may be any.
+pub(crate) fn index_by_id(
+    alloc: Global,
+    ids: &Ids<'_>,
+    likely: &[usize],
+) -> Result<(Vec<usize>, Option<usize>), AllocError>
+    requires { IsPermutation (range_with_len 0 (length ids.now.packages.now)) likely.now }
+    ensures index { IfOk result (λ made. IsIdIndex ids.now.packages.now made.0.items) }
+    ensures repeat { let packages = ids.now.packages.now in
+        IfOk result (λ made. MatchOption made.1 (DifferBelow (HasId packages) (length packages))
+        (IsFirstRepeat (HasId packages))) }
 {
-    first_repeat(ids, by_id)
+    index_from(alloc, ids, likely)
 }
 
-/// The first workspace member with the name of an earlier one.
-pub(crate) fn first_repeated_name(names: &Keys<'_, Name>, by_name: &[usize]) -> Option<usize>
-    requires { IsNameIndex names.now.packages.now by_name.now }
-    ensures { let packages = names.now.packages.now in
-        MatchOption result (DifferBelow (HasName packages) (length packages))
-        (IsFirstRepeat (HasName packages)) }
+/// The workspace members by name, and the first with the name of an earlier one. They are sorted as they stand in this
+/// order, which may be any.
+pub(crate) fn index_by_name(
+    alloc: Global,
+    names: &Keys<'_, Name>,
+    likely: &[usize],
+) -> Result<(Vec<usize>, Option<usize>), AllocError>
+    requires { IsPermutation (range_with_len 0 (length names.now.packages.now)) likely.now }
+    ensures index { IfOk result (λ made. IsNameIndex names.now.packages.now made.0.items) }
+    ensures repeat { let packages = names.now.packages.now in
+        IfOk result (λ made. MatchOption made.1 (DifferBelow (HasName packages) (length packages))
+        (IsFirstRepeat (HasName packages))) }
 {
-    first_repeat(names, by_name)
+    index_from(alloc, names, likely)
 }
 
-/// The first target with the ID of an earlier one.
-pub(crate) fn first_repeated_target(targets: &[BuildTargetRecord], index: &[usize]) -> Option<usize>
-    requires { IsTargetIndex targets.now index.now }
-    ensures { MatchOption result (DifferBelow (HasTarget targets.now) (length targets.now))
-        (IsFirstRepeat (HasTarget targets.now)) }
+/// The places of the targets by ID, and the first with the ID of an earlier one.
+pub(crate) fn index_by_target(
+    alloc: Global,
+    targets: &[BuildTargetRecord],
+) -> Result<(Vec<usize>, Option<usize>), AllocError>
+    ensures index { IfOk result (λ made. IsTargetIndex targets.now made.0.items) }
+    ensures repeat { IfOk result (λ made. MatchOption made.1
+        (DifferBelow (HasTarget targets.now) (length targets.now))
+        (IsFirstRepeat (HasTarget targets.now))) }
 {
-    first_repeat(&TargetIds(targets), index)
+    index_of(alloc, &TargetIds(targets))
 }
 
 impl Key for Id {
+    ghost use Rattle.std.specs.Prelude.{Some};
     ghost use Rattle.std.specs.Ordering.{nat_cmp};
     ghost use Rattle.std.specs.Cmp.Lexicographic.{slice_cmp};
     ghost use Rattle.std.proofs.lemmas.Cmp.{nat_list_cmp_total};
-    ghost use Rattle.guppy_graph.specs.Ids.{id_at};
 
-    ghost text_at = { id_at };
+    ghost text_of = { λ r. Some r.id };
 
     ghost order = { slice_cmp nat_cmp };
 
     ghost total = { nat_list_cmp_total };
 
-    fn is_at(packages: &[PackageRecord], position: usize) -> bool {
-        packages.get(position).is_some()
-    }
-
-    fn text_at(packages: &[PackageRecord], position: usize) -> &str {
-        id_at(packages, position)
+    fn text_of(item: &PackageRecord) -> Option<&str> {
+        Some(item.id.repr())
     }
 
     fn compare(text: &str, other: &str) -> Ordering {
@@ -276,21 +272,20 @@ impl Key for Id {
 
 impl Key for Path {
     ghost use Rattle.guppy_data.specs.Path.{path_cmp};
-    ghost use Rattle.guppy_graph.specs.Members.{path_at};
+    ghost use Rattle.guppy_graph.specs.Members.{member_path};
     ghost use Rattle.guppy_graph.specs.PathOrder.{path_total};
 
-    ghost text_at = { path_at };
+    ghost text_of = { member_path };
 
     ghost order = { path_cmp };
 
     ghost total = { path_total };
 
-    fn is_at(packages: &[PackageRecord], position: usize) -> bool {
-        is_member_at(packages, position)
-    }
-
-    fn text_at(packages: &[PackageRecord], position: usize) -> &str {
-        path_at(packages, position).as_str()
+    fn text_of(item: &PackageRecord) -> Option<&str> {
+        match &item.source {
+            PackageSourceRecord::Workspace(path) => Some(path.as_path().as_str()),
+            PackageSourceRecord::Path(_) | PackageSourceRecord::External(_) => None,
+        }
     }
 
     fn compare(text: &str, other: &str) -> Ordering {
@@ -302,20 +297,19 @@ impl Key for Name {
     ghost use Rattle.std.specs.Ordering.{nat_cmp};
     ghost use Rattle.std.specs.Cmp.Lexicographic.{slice_cmp};
     ghost use Rattle.std.proofs.lemmas.Cmp.{nat_list_cmp_total};
-    ghost use Rattle.guppy_graph.specs.Members.{name_at};
+    ghost use Rattle.guppy_graph.specs.Members.{member_name};
 
-    ghost text_at = { name_at };
+    ghost text_of = { member_name };
 
     ghost order = { slice_cmp nat_cmp };
 
     ghost total = { nat_list_cmp_total };
 
-    fn is_at(packages: &[PackageRecord], position: usize) -> bool {
-        is_member_at(packages, position)
-    }
-
-    fn text_at(packages: &[PackageRecord], position: usize) -> &str {
-        name_at(packages, position)
+    fn text_of(item: &PackageRecord) -> Option<&str> {
+        match item.source {
+            PackageSourceRecord::Workspace(_) => Some(item.name.as_str()),
+            PackageSourceRecord::Path(_) | PackageSourceRecord::External(_) => None,
+        }
     }
 
     fn compare(text: &str, other: &str) -> Ordering {
@@ -325,10 +319,11 @@ impl Key for Name {
 
 impl<K: Key> Keyed for Keys<'_, K> {
     ghost use Rattle.std.specs.Prelude.{length};
+    ghost use Rattle.guppy_graph.specs.Keys.{item_key};
 
     ghost count = { λ s. length s.packages.now };
 
-    ghost key_at = { λ s p. K.text_at s.packages.now p };
+    ghost key_at = { λ s p. item_key K.text_of s.packages.now p };
 
     ghost order = { K.order };
 
@@ -339,17 +334,17 @@ impl<K: Key> Keyed for Keys<'_, K> {
     }
 
     fn has_key(&self, position: usize) -> bool {
-        K::is_at(self.packages, position)
+        self.text_at(position).is_some()
     }
 
     fn compare(&self, a: usize, b: usize) -> Ordering {
-        K::compare(self.text_at(a), self.text_at(b))
+        K::compare(or_empty(self.text_at(a)), or_empty(self.text_at(b)))
     }
 }
 
 impl<K: Key> KeyedByText for Keys<'_, K> {
     fn compare_to(&self, position: usize, text: &str) -> Ordering {
-        K::compare(self.text_at(position), text)
+        K::compare(or_empty(self.text_at(position)), text)
     }
 }
 

@@ -5,6 +5,7 @@
 //!
 //! - `keyed`: positions sorted and looked up by any key;
 //! - `keys`: the keys, which are IDs, paths, names and target IDs;
+//! - `likely`: a guess at the order of IDs, to begin sorting from;
 //! - `hints`: packages found by ID, mostly with no search;
 //! - `build`: the checks of the records, and the indexes;
 //! - `dev_only`: which links are for development alone;
@@ -21,6 +22,7 @@ mod graph;
 mod hints;
 mod keyed;
 mod keys;
+mod likely;
 mod order;
 mod verify;
 

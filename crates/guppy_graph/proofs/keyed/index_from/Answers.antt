@@ -2,5 +2,5 @@ use Rattle.std.specs.Prelude.{is_some}
 use Rattle.guppy_graph.proofs.Permuting.{IsPermutation-filter}
 use Rattle.guppy_graph.proofs.keyed.index_from.Goals as goal
 
-pub sorted-requires : goal.sorted-requires
-sorted-requires g c = rw c.in_ok-keyed_of.ensures (IsPermutation-filter (λ p. is_some (g.S.Keyed.key_at c.args.source.now p)) _ _ c.requires)
+pub indexed-requires : goal.indexed-requires
+indexed-requires g c = rw c.in_ok-keyed_of.ensures (IsPermutation-filter (λ p. is_some (g.S.Keyed.key_at c.args.source.now p)) _ _ c.requires)

@@ -1,26 +1,27 @@
-use Rattle.std.proofs.Common.{rules, arith, ◌∙◌, sym, subst, ◌<◌, ◌≤◌, length}
+use Rattle.std.proofs.Common.{◌≡◌, ◌∙◌, sym, Some, None}
 use Rattle.std.specs.Cmp.Lexicographic.{bytes_decides}
-use Rattle.guppy_graph.specs.Ids.{HasId}
-use Rattle.guppy_graph.proofs.Named.{has_own_id, id_is, within_of}
+use Rattle.guppy_graph.specs.Ids.{id_at}
+use Rattle.guppy_graph.proofs.Named.{keyless, key_is, key_has}
 use Rattle.guppy_graph.proofs.keys.Keys+Id.has_id.Goals as goal
 
-pub returns-then-position-self : goal.returns-then-position-self
-returns-then-position-self c =
+pub returns-in-Some : goal.returns-in-Some
+returns-in-Some c =
     let packages = c.args.self.now.packages.now in
-    let position = c.args.position in
+    let p = c.args.position in
     let id = c.args.id.now in
-    let within : position < length packages = search rules in
-    let own = has_own_id packages position within in
-    let decides = bytes_decides c.text_at.result.now id in (
-      λ same. subst (λ text. HasId packages text position) (sym c.text_at.ensures ∙ decides.0 (sym c.eq.ensures ∙ same)) own,
-      λ has. c.eq.ensures ∙ decides.1 (c.text_at.ensures ∙ id_is packages _ id position own has),
+    let own = c.in-Some.own.now in
+    let is : Some own ≡ id_at packages p = rw c.in-Some.is at c.text_at.ensures in
+    let decides = bytes_decides own id in (
+      λ same. key_has packages p id own is (decides.0 (sym c.eq.ensures ∙ same)),
+      λ has. c.eq.ensures ∙ decides.1 (key_is packages p id own is has),
     )
 
-pub returns-else-position-self : goal.returns-else-position-self
-returns-else-position-self c =
+pub returns-in-None : goal.returns-in-None
+returns-in-None c =
     let packages = c.args.self.now.packages.now in
-    let position = c.args.position in
-    let past : length packages ≤ position = c.if-position-self.false in (
-      λ within. let less : position < length packages = search rules in absurd (omega arith),
-      λ has. let less = within_of packages c.args.id.now position has in absurd (omega arith),
+    let p = c.args.position in
+    let id = c.args.id.now in
+    let is : None ≡ id_at packages p = rw c.in-None.is at c.text_at.ensures in (
+      λ no. absurd (cc),
+      λ has. absurd (keyless packages p id is has),
     )

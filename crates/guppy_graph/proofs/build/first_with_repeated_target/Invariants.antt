@@ -1,6 +1,0 @@
-use Rattle.std.proofs.Common.{All, take}
-use Rattle.guppy_graph.specs.Targets.{AreTargetsDistinct}
-use Rattle.guppy_graph.proofs.build.first_with_repeated_target.Given as goal
-
-abbrev pub invariant-loop-position : goal.invariant-loop-position
-invariant-loop-position l = All AreTargetsDistinct (take l.position l.packages)
