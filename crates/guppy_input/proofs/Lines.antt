@@ -1,16 +1,32 @@
 -- The first line of a text, and what the reading of one more line keeps.
-use Rattle.std.proofs.Common.{◌≡◌, ℕ, ◌+◌, ◌<◌, Bool, true, false, cond, List, [], ◌∷◌, ◌++◌, length, take, drop, refl, ◌∙◌, ap, arith, Some, None, suc, zero, rules}
+use Rattle.std.proofs.Common.{◌≡◌, ℕ, ◌+◌, ◌<◌, Bool, true, false, cond, List, [], ◌∷◌, ◌++◌, length, take, drop, get_or, Option, refl, ◌∙◌, ap, arith, Some, None, suc, zero, rules}
 use Rattle.std.specs.Prelude.{◌==◌, position, nat_lt, not, slice_get}
 use Rattle.std.specs.List.{slice_split, position_or_len}
 use Rattle.std.specs.Str.Lines.{lines, lines_of_parts, strip_carriage_return}
 use Rattle.std.proofs.lemmas.List.Splits.{slice_split_first}
 use Rattle.std.proofs.lemmas.Option.{cond_some}
 use borrow.Author.Tests.{ltb-true, ltb-false}
-use Rattle.std.proofs.lemmas.List.Sums.{prefix_len-le-length}
+use Rattle.std.proofs.lemmas.Bool.{false_from_ne_true, lt-ltb, le-ltb}
+use Rattle.std.proofs.lemmas.List.Sums.{prefix_len-le-length, position_or_len_is}
+use Rattle.memchr.specs.Find.{IsFirstByte}
 use Rattle.guppy_input.proofs.Cuts.{split_none, split_some}
 
 abbrev is_newline : ℕ → Bool
 is_newline b = b == 10
+
+-- the first place of a byte is its position
+pub first_byte : (test : ℕ → Bool) (text : List ℕ) (r : Option ℕ) → IsFirstByte test text r → r ≡ position test text
+first_byte test text None nowhere =
+    let end : position_or_len test text ≡ length text =
+    position_or_len_is test text (length text) 0 (omega arith) (λ k below. false_from_ne_true (test (get_or text k 0)) (nowhere k (omega arith) below)) (λ l. absurd (omega arith)) in
+    let past : nat_lt (length text) (length text) ≡ false = le-ltb (length text) (length text) (omega arith) in
+    rw (end, past) refl
+first_byte test text (Some i) (here, passes) =
+    let high = here.high in
+    let first : position_or_len test text ≡ i =
+    position_or_len_is test text i 0 (omega arith) (λ k below. false_from_ne_true (test (get_or text k 0)) (here.before k (omega arith) below)) (λ l. passes) in
+    let within : nat_lt i (length text) ≡ true = lt-ltb i (length text) high in
+    rw (first, within) refl
 
 -- a part that is not the last is a line
 lines_more : (x ys : List ℕ) → lines_of_parts (x ∷ slice_split is_newline ys) ≡ strip_carriage_return x ∷ lines ys

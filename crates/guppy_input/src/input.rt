@@ -9,12 +9,13 @@ ghost use Rattle.guppy_input.specs.Reading.{AddsStatements, IsLineFault, IsReadi
 use crate::fault::RunFault;
 use crate::records::Records;
 use crate::statements::statement_of;
+use memchr::memchr;
 use std::alloc::Global;
 
 fn newline_in(text: &[u8]) -> Option<usize>
     ensures { result ≡ position (λ b. b == 10) text.now }
 {
-    text.iter().position(|b| *b == b'\n')
+    memchr(b'\n', text)
 }
 
 fn without_carriage_return(line: &[u8]) -> &[u8]

@@ -1,7 +1,7 @@
 //! What a line says.
-ghost use Rattle.std.specs.Prelude.{◌≡◌, ◌∷◌, option_map};
+ghost use Rattle.std.specs.Prelude.{◌≡◌, ◌∷◌, codes, option_map};
 ghost use Rattle.std.specs.Option.{option_copied};
-ghost use Rattle.guppy_input.specs.Text.{section_of, words, words_after, statement_of, statement_of_text};
+ghost use Rattle.guppy_input.specs.Text.{section_of, words, words_after, statement_of, statement_of_words, statement_of_text};
 ghost use Rattle.guppy_input.specs.Shown.{statement_shown};
 
 use guppy_data::DependencyKind;
@@ -39,35 +39,39 @@ fn cut(text: &str) -> (&str, Option<&str>)
     }
 }
 
-#[tactic(auto, using(crate::proofs::Cuts::words_more))]
+// What a line says that begins with `package` and a space, behind which this stands.
+fn package_of(text: &str) -> Option<Statement<'_>>
+    ensures { option_map statement_shown result
+        ≡ statement_of_words (codes "package" ∷ words text.now) }
+{
+    let (id, rest) = cut(text);
+    if id.is_empty() || rest.is_some() {
+        return None;
+    }
+    Some(Statement::Package(id))
+}
+
+// What a line says that begins with `link` and a space, behind which this stands.
+fn link_of(text: &str) -> Option<Statement<'_>>
+    ensures { option_map statement_shown result
+        ≡ statement_of_words (codes "link" ∷ words text.now) }
+{
+    let (from, rest) = cut(text);
+    let (to, rest) = cut(rest?);
+    let section = section_of(rest?)?;
+    if from.is_empty() || to.is_empty() {
+        return None;
+    }
+    Some(Statement::Link(from, to, section))
+}
+
 fn statement_of_text(text: &str) -> Option<Statement<'_>>
     ensures { option_map statement_shown result ≡ statement_of_text text.now }
 {
-    let (first, rest) = cut(text);
-    let (second, rest) = cut(rest?);
-    if second.is_empty() {
-        return None;
+    if let Some(words) = text.strip_prefix("package ") {
+        return package_of(words);
     }
-    let Some(rest) = rest else {
-        return if first == "package" {
-            Some(Statement::Package(second))
-        } else {
-            None
-        };
-    };
-    let (third, rest) = cut(rest);
-    let (fourth, rest) = cut(rest?);
-    if first != "link" {
-        return None;
-    }
-    if third.is_empty() {
-        return None;
-    }
-    if let Some(_) = rest {
-        return None;
-    }
-    let section = section_of(fourth)?;
-    Some(Statement::Link(second, third, section))
+    link_of(text.strip_prefix("link ")?)
 }
 
 /// What a line says, if it says anything. Takes time linear in the line's length, and no memory.
