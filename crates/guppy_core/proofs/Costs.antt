@@ -1,12 +1,11 @@
 -- What positions cost, and what a search still costs.
-use Rattle.std.proofs.Common.{◌≡◌, ℕ, suc, zero, ◌+◌, ◌-◌, ◌<◌, ◌≤◌, Bool, true, false, cond, List, [], ◌∷◌, ◌++◌, length, get_or, replicate, refl, ap, arith, ⊎_elim}
+use Rattle.std.proofs.Common.{◌≡◌, ℕ, suc, zero, ◌+◌, ◌<◌, ◌≤◌, Bool, true, false, cond, List, [], ◌∷◌, ◌++◌, length, replicate, refl, ap, arith, ⊎_elim}
 use Rattle.std.proofs.Math.ListN.{set}
-use Rattle.std.specs.Prelude.{◌==◌, All}
-use Rattle.std.proofs.lemmas.Bool.{eqb-true, eqb-false}
+use Rattle.std.specs.Prelude.{◌==◌}
+use Rattle.std.proofs.lemmas.Bool.{eqb-true}
 use Rattle.guppy_search.specs.declared.ix.direction.DependencyDirection.{DependencyDirection}
-use Rattle.guppy_search.specs.declared.ix.direction.DependencyDirection.TheVariants.{Forward}
 use Rattle.guppy_search.specs.declared.graph_core.link.Link.{Link}
-use Rattle.guppy_search.specs.Links.{EndsBelow, near_end, numbers_where, links_at}
+use Rattle.guppy_search.specs.Links.{near_end, numbers_where, links_at}
 use Rattle.guppy_search.specs.IxSet.{has}
 use Rattle.guppy_core.specs.Mark.{Marks}
 use Rattle.guppy_core.specs.Cost.{missing_cost}
@@ -75,18 +74,6 @@ one_at_most x i (suc n) =
       | false ↦ λ e. omega (arith, one_at_most x (i + 1) n)
     ] refl
 
-zeros : (i n : ℕ) → cost_from (λ _. 0) i n ≡ 0
-zeros i zero = refl
-zeros i (suc n) = omega (arith, zeros (i + 1) n)
-
-one_at_here : (x i n : ℕ) → i ≤ x → x < i + n → cost_from (one_at x) i n ≡ 1
-one_at_here x i zero low high = absurd (omega arith)
-one_at_here x i (suc n) low high =
-    elim (x == i) as (λ b. (x == i) ≡ b → cond b 1 0 + cost_from (one_at x) (i + 1) n ≡ 1) [
-      | true ↦ λ e. let s = eqb-true x i e in let h : x < i + 1 = omega arith in omega (arith, one_at_past x (i + 1) n h)
-      | false ↦ λ e. let apart = eqb-false x i e in let low' : i + 1 ≤ x = omega arith in let high' : x < i + 1 + n = omega arith in omega (arith, one_at_here x (i + 1) n low' high')
-    ] refl
-
 module _ {A : Type 0} (key : A → ℕ) where
   -- the number of those with the key p
   abbrev pub tally : List A → ℕ → ℕ
@@ -112,16 +99,6 @@ module _ {A : Type 0} (key : A → ℕ) where
       let s = split (tally (x ∷ xs)) (one_at (key x)) (tally xs) (λ p. refl) i n in
       let a = one_at_most (key x) i n in
       let b = tallies xs i n in
-      omega arith
-
-  -- they are as many where all keys are below n
-  tallies_all : (xs : List A) (n : ℕ) → ((k : ℕ) (d : A) → k < length xs → key (get_or xs k d) < n) → cost_from (tally xs) 0 n ≡ length xs
-  tallies_all [] n below = zeros 0 n
-  tallies_all (x ∷ xs) n below =
-      let s = split (tally (x ∷ xs)) (one_at (key x)) (tally xs) (λ p. refl) 0 n in
-      let first : key x < n = below 0 x (omega arith) in
-      let one : cost_from (one_at (key x)) 0 n ≡ 1 = one_at_here (key x) 0 n (omega arith) (omega arith) in
-      let rest = tallies_all xs n (λ k d h. below (suc k) d (omega arith)) in
       omega arith
 
   same_cost : (f h : ℕ → ℕ) → ((p : ℕ) → f p ≡ h p) → (i n : ℕ) → cost_from f i n ≡ cost_from h i n
@@ -157,23 +134,3 @@ fits_below a b h k = omega arith
 
 pub one_more : (a b : ℕ) → (a + b) + 1 ≡ a + (b + 1)
 one_more a b = omega arith
-
--- no more links leave the positions than there are
-pub degrees_few : {E : Type 0} (d : DependencyDirection) (links : List (Link E)) (n : ℕ) → cost_from (degree d links) 0 n ≤ length links
-degrees_few {E} d links n =
-    let key : Link E → ℕ = λ l. near_end d l in
-    let b = same_cost key (degree d links) (tally key links) (λ p. length-numbers_where key 0 links p) 0 n in
-    let c = tallies key links 0 n in
-    omega arith
-
--- as many links leave the positions of a graph as there are
-pub degrees_all : {E : Type 0} (links : List (Link E)) (n : ℕ) → All (EndsBelow n) links → cost_from (degree Forward links) 0 n ≡ length links
-degrees_all {E} links n ends =
-    let key : Link E → ℕ = λ l. near_end Forward l in
-    let b = same_cost key (degree Forward links) (tally key links) (λ p. length-numbers_where key 0 links p) 0 n in
-    let c = tallies_all key links n (λ k d h. (ends k d h).0) in
-    omega arith
-
--- of the positions from i on, the first is paid
-pub cost_from-next : (cost : ℕ → ℕ) (i n : ℕ) → i < n → cost_from cost i (n - i) ≡ cost i + cost_from cost (i + 1) (n - (i + 1))
-cost_from-next cost i n h = let e : n - i ≡ suc (n - (i + 1)) = omega arith in rw e refl

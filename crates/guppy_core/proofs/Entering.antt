@@ -1,40 +1,45 @@
--- The positions that kept links enter, found position by position.
-use Rattle.std.proofs.Common.{◌≡◌, ◌↔◌, ℕ, ◌≤◌, Bool, true, false, List, length, sym, ◌∙◌, subst, arith, ⊎_elim}
+-- The positions that kept links enter, found link by link.
+use Rattle.std.proofs.Common.{◌≡◌, ◌↔◌, ℕ, ◌<◌, ◌≤◌, Bool, true, false, List, length, refl, sym, ap, ◌∙◌, arith, ⊎_elim}
+use Rattle.std.specs.Prelude.{Some, slice_get}
 use Rattle.std.proofs.lemmas.Bool.{cases_eq, cases_Bool}
+use Rattle.std.proofs.lemmas.Option.{slice_get_within}
 use Rattle.guppy_search.specs.declared.graph_core.link.Link.{Link}
 use Rattle.guppy_search.specs.declared.ix.direction.DependencyDirection.TheVariants.{Forward}
 use Rattle.guppy_search.specs.Reach.{Step}
 use Rattle.guppy_search.specs.IxSet.{has, IsIn}
 use Rattle.guppy_core.specs.Listing.{Stands, IsAbsence}
-use Rattle.guppy_core.specs.Topo.{IsSteppedTo, IsIndexRoot, LeadsAway}
-use Rattle.guppy_core.proofs.Costs.{degree}
-use Rattle.guppy_core.proofs.Finishing.{LinkTo, Looked, step_at, step_place, looked_link, looked_only, looked_none}
-use Rattle.guppy_core.proofs.Gathering.{IsNamed}
+use Rattle.guppy_core.specs.Topo.{IsSteppedTo, IsIndexRoot}
 
--- what place k of the links that leave x names: the end of a kept one that leads away
-abbrev pub LeadsAwayAt : {E : Type 0} → (E → Bool) → List (Link E) → ℕ → ℕ → ℕ → Type 0
-LeadsAwayAt keep links x k = LeadsAway (λ a. LinkTo Forward keep links a k) x
+-- the link n is kept, and leads to p from another position
+abbrev pub EntersAt : {E : Type 0} → (E → Bool) → List (Link E) → ℕ → ℕ → Type 0
+EntersAt {E} keep links n p = (l : Link E) × (slice_get links n ≡ Some l) × (keep l.edge ≡ true) × (l.to ≡ p) × (l.from ≡ p → ⊥)
 
-module _ {E : Type 0} (keep : E → Bool) (links : List (Link E)) (x : ℕ) where
-  module _ (k v : ℕ) (b : Bool) (l : Looked Forward keep links x k v b) where
-    pub leads_one : b ≡ true → (v ≡ x → ⊥) → (p : ℕ) → LeadsAwayAt keep links x k p ↔ (p ≡ v)
-    leads_one keeps apart p = (
-      λ t. looked_only Forward keep links x k v b l p t.0,
-      λ e. subst (LeadsAwayAt keep links x k) (sym e) (looked_link Forward keep links x k v b l keeps, λ q. apart (sym q)),
+module _ {E : Type 0} (keep : E → Bool) (links : List (Link E)) where
+  module _ (n : ℕ) (link : Link E) (found : slice_get links n ≡ Some link) where
+    same_link : (l : Link E) → slice_get links n ≡ Some l → l ≡ link
+    same_link l f = let f' = found in cc
+
+    pub enters_one : keep link.edge ≡ true → (link.from ≡ link.to → ⊥) → (p : ℕ) → EntersAt keep links n p ↔ (p ≡ link.to)
+    enters_one keeps apart p = (
+      λ t. sym t.3 ∙ ap (λ (l : Link E). l.to) (same_link t.0 t.1),
+      λ e. (link, found, keeps, sym e, λ own. apart (own ∙ e)),
     )
 
-    pub leads_back : v ≡ x → (p : ℕ) → LeadsAwayAt keep links x k p → ⊥
-    leads_back e p t = t.1 (sym (looked_only Forward keep links x k v b l p t.0 ∙ e))
+    pub enters_itself : link.from ≡ link.to → (p : ℕ) → EntersAt keep links n p → ⊥
+    enters_itself own p t = t.4 (ap (λ (l : Link E). l.from) (same_link t.0 t.1) ∙ (own ∙ (ap (λ (l : Link E). l.to) (sym (same_link t.0 t.1)) ∙ t.3)))
 
-    pub leads_dropped : b ≡ false → (p : ℕ) → LeadsAwayAt keep links x k p → ⊥
-    leads_dropped drops p t = looked_none Forward keep links x k v b l drops p t.0
+    pub enters_dropped : keep link.edge ≡ false → (p : ℕ) → EntersAt keep links n p → ⊥
+    enters_dropped drops p t = absurd (let yes = ap (λ (l : Link E). keep l.edge) (sym (same_link t.0 t.1)) ∙ t.2 in let no = drops in cc)
 
-  -- all places together name where kept links lead away
-  pub leads_all : (i : ℕ) → degree Forward links x ≤ i → (p : ℕ) → LeadsAway (Step Forward keep links) x p ↔ IsNamed (LeadsAwayAt keep links x) i p
-  leads_all i all p = (
-    λ t. let at = step_place Forward keep links x p t.0 in (at.0, (let l = at.1 in omega arith), (at.2, t.1)),
-    λ t. (step_at Forward keep links x t.0 p t.2.0, t.2.1),
+  -- all links together name where kept links lead from another position
+  pub entered_is : (p : ℕ) → ((n : ℕ) × EntersAt keep links n p) ↔ IsSteppedTo (Step Forward keep links) p
+  entered_is p = (
+    λ t. (t.1.0.from, (record { number = t.0; link = t.1.0; found = t.1.1; near = refl; far = t.1.3; kept = t.1.2 }, t.1.4)),
+    λ t. let step = t.1.0 in (step.number, (step.link, step.found, step.kept, step.far, λ own. t.1.1 (sym step.near ∙ own))),
   )
+
+  pub enters_within : (i : ℕ) → length links ≤ i → (n p : ℕ) → EntersAt keep links n p → n < i
+  enters_within i all n p t = let low = slice_get_within links n t.0 t.1 in omega arith
 
 -- those to which no step leads from another
 pub root_or_entered : (R : ℕ → ℕ → Type 0) (n : ℕ) (s : List Bool) (list : List ℕ) → length s ≡ n → ((p : ℕ) → IsIn s p ↔ IsSteppedTo R p) → IsAbsence s (length s) list → (p : ℕ) → Stands list p ↔ IsIndexRoot R n p

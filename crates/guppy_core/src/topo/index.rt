@@ -6,7 +6,7 @@ ghost use Rattle.guppy_core.specs.Listing.{IsListing, place_in};
 ghost use Rattle.guppy_core.specs.Topo.{IsTopo, HasNoCycle, LeadsOn};
 
 use crate::topo::finish::finish_order;
-use crate::topo::lists::{absent, link_count, places, set_of};
+use crate::topo::lists::{absent, places, set_of};
 use crate::topo::roots::roots;
 use guppy_search::{CountedGraph, GraphSpec, IndexType, IxSet};
 use std::alloc::AllocError;
@@ -126,7 +126,7 @@ fn order_of<G: GraphSpec, F: Fn(&G::Edge) -> bool>(
 {
     let alloc = graph.alloc();
     let count = graph.node_count();
-    let mut notes = vec![in alloc; true; link_count(graph)]?;
+    let mut notes = vec![in alloc; true; graph.link_count()]?;
     let starts = roots(graph, keep, &mut notes)?;
     let mut order = finish_order(graph, starts.as_slice(), notes.as_slice())?;
     order.reverse();

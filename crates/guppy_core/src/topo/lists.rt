@@ -1,20 +1,9 @@
-ghost use Rattle.std.specs.Prelude.{◌≡◌, ◌↔◌, ℕ, ◌<◌, ◌≤◌, ◌^◌, List, length, IfOk, All};
+ghost use Rattle.std.specs.Prelude.{◌≡◌, ◌↔◌, ℕ, ◌<◌, ◌^◌, length, IfOk, All};
 ghost use Rattle.guppy_search.specs.IxSet.{IsIn};
 ghost use Rattle.guppy_core.specs.Listing.{Stands, IsAbsence, IsOnce, IsInverse};
 
-use guppy_search::{CountedGraph, DependencyDirection, GraphSpec, IxSet};
+use guppy_search::{GraphSpec, IxSet};
 use std::alloc::{AllocError, Global};
-
-/// How many links there are.
-pub(crate) fn link_count<G: GraphSpec>(graph: &CountedGraph<'_, G>) -> usize
-    ensures { result ≡ length graph.now.graph.links }
-{
-    let mut count = 0;
-    for position in 0..graph.node_count() {
-        count += graph.leaving_at(position, DependencyDirection::Forward);
-    }
-    count
-}
 
 /// The set of the positions in the list.
 pub(crate) fn set_of<G: GraphSpec>(

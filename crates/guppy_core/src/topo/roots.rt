@@ -1,51 +1,14 @@
-ghost use Rattle.std.specs.Prelude.{◌≡◌, ◌↔◌, ◌⊎◌, ℕ, ◌+◌, ◌<◌, ◌≤◌, ◌^◌, Bool, length, IfOk, All};
+ghost use Rattle.std.specs.Prelude.{◌≡◌, ◌↔◌, ℕ, ◌+◌, ◌<◌, ◌≤◌, ◌^◌, Bool, length, IfOk, All};
 ghost use Rattle.guppy_search.specs.declared.ix.direction.DependencyDirection.TheVariants.{Forward};
 ghost use Rattle.guppy_search.specs.IxSet.{IsIn};
-ghost use Rattle.guppy_search.specs.Links.{links_at};
 ghost use Rattle.guppy_search.specs.Reach.{Step};
 ghost use Rattle.guppy_core.specs.Listing.{Stands};
-ghost use Rattle.guppy_core.specs.Noted.{AreNoted, AreNotedBelow};
-ghost use Rattle.guppy_core.specs.Topo.{IsSteppedTo, IsIndexRoot, LeadsAway};
+ghost use Rattle.guppy_core.specs.Noted.{AreNoted};
+ghost use Rattle.guppy_core.specs.Topo.{IsSteppedTo, IsIndexRoot};
 
 use crate::topo::lists::absent;
-use guppy_search::{CountedGraph, DependencyDirection, GraphSpec, IxSet};
+use guppy_search::{CountedGraph, GraphSpec, IxSet};
 use std::alloc::AllocError;
-
-/// Puts the other positions into the set to which kept links lead from this one, and notes of each
-/// link that leaves it whether it is kept.
-fn enter_from<G: GraphSpec, F: Fn(&G::Edge) -> bool>(
-    graph: &mut CountedGraph<'_, G>,
-    position: usize,
-    keep: &F,
-    notes: &mut [bool],
-    set: &mut IxSet<G>,
-)
-    ghost kept: { G.Edge → Bool }
-    requires position { position < length graph.old.graph.nodes }
-    requires count { length set.old ≡ length graph.old.graph.nodes }
-    requires room { graph.old.looks + length
-        (links_at Forward graph.old.graph.links position) < 2 ^ 64 }
-    requires callable { F.IsAlwaysCallable keep.now }
-    requires keeps { (e : _) (b : Bool) → F.post keep.now e b → b ≡ kept e.now }
-    requires notes { length notes.old ≡ length graph.old.graph.links }
-    requires noted { AreNotedBelow kept graph.old.graph.links position notes.old }
-    ensures noted { AreNotedBelow kept graph.old.graph.links (position + 1) notes.new }
-    ensures count { length set.new ≡ length graph.old.graph.nodes }
-    ensures members { (p : ℕ) → IsIn set.new p
-        ↔ (IsIn set.old p ⊎ LeadsAway (Step Forward kept graph.old.graph.links) position p) }
-    ensures looks { graph.new.looks
-        ≡ graph.old.looks + length (links_at Forward graph.old.graph.links position) }
-    ensures graph { graph.new.graph ≡ graph.old.graph }
-{
-    for k in 0..graph.leaving_at(position, DependencyDirection::Forward) {
-        let (number, far, edge) = graph.look_at(position, DependencyDirection::Forward, k);
-        let is_kept = keep(edge);
-        notes[number] = is_kept;
-        if is_kept && far != position {
-            set.insert_position(far);
-        }
-    }
-}
 
 /// The positions to which a kept link leads from another one. Notes of each link whether it is kept.
 fn entered<G: GraphSpec, F: Fn(&G::Edge) -> bool>(
@@ -66,8 +29,13 @@ fn entered<G: GraphSpec, F: Fn(&G::Edge) -> bool>(
     ensures graph { graph.new.graph ≡ graph.old.graph }
 {
     let mut set = IxSet::empty(graph.alloc(), graph.node_count())?;
-    for position in 0..graph.node_count() {
-        enter_from(graph, position, keep, notes, &mut set);
+    for number in 0..graph.link_count() {
+        let link = graph.link(number);
+        let is_kept = keep(link.edge);
+        notes[number] = is_kept;
+        if is_kept && link.from != link.to {
+            set.insert_position(link.to);
+        }
     }
     Ok(set)
 }

@@ -1,9 +1,9 @@
 ghost use Rattle.std.specs.Prelude.{◌≡◌, ℕ, ◌<◌, ◌+◌, ◌^◌, length, Some, slice_get, slice_index};
 ghost use Rattle.guppy_search.specs.declared.graph_core.link.Link.{Link};
 ghost use Rattle.guppy_search.specs.Graph.{IsGraph};
-ghost use Rattle.guppy_search.specs.Links.{links_at, near_end, far_end};
+ghost use Rattle.guppy_search.specs.Links.{links_at, near_end, far_end, seen_link};
 
-use crate::graph_core::Graph;
+use crate::graph_core::{Graph, Link};
 use crate::ix::{DependencyDirection, GraphSpec, IndexType};
 use std::alloc::Global;
 use std::marker::Model;
@@ -45,6 +45,13 @@ impl<'a, G: GraphSpec> CountedGraph<'a, G> {
         ensures graph { IsGraph self.now.graph }
     {
         self.graph.node_count()
+    }
+
+    /// How many links there are. It counts no look.
+    pub fn link_count(&self) -> usize
+        ensures { result ≡ length self.now.graph.links }
+    {
+        self.graph.link_count()
     }
 
     /// The allocator that the graph's memory comes from.
@@ -123,8 +130,22 @@ impl<'a, G: GraphSpec> CountedGraph<'a, G> {
     {
         let number = self.graph.links_at(position, direction)[k];
         let far_end = self.graph.far_ends_at(position, direction)[k];
+        let link = self.link(number);
+        (number, far_end as usize, link.edge)
+    }
+
+    /// The link with the number. It counts as one look, kept or not.
+    ///
+    /// The number is below the link count, and `looks` below the greatest u64.
+    pub fn link(&mut self, number: usize) -> Link<&'a G::Edge>
+        requires number { number < length self.old.graph.links }
+        requires room { self.old.looks + 1 < 2 ^ 64 }
+        ensures link { slice_get self.old.graph.links number ≡ Some (seen_link result) }
+        ensures counted { self.new ≡ record self.old { looks = self.old.looks + 1 } }
+        ensures graph { IsGraph self.new.graph }
+    {
         let link = self.graph.link(number);
         self.looks += 1;
-        (number, far_end as usize, link.edge)
+        link
     }
 }

@@ -1,76 +1,59 @@
-use Rattle.std.proofs.Common.{◌+◌, ◌<◌, ◌≤◌, ◌-◌, ◌^◌, false, length, replicate, refl, sym, subst, ◌∙◌, arith, rules}
+use Rattle.std.proofs.Common.{◌≡◌, ℕ, ◌<◌, ◌≤◌, false, length, sym, ◌∙◌, arith}
 use Rattle.std.proofs.Math.ListN.{length-replicate}
-use Rattle.guppy_search.proofs.Exits.{if_ok}
-use Rattle.guppy_search.specs.declared.ix.direction.DependencyDirection.TheVariants.{Forward, Reverse}
-use Rattle.guppy_core.proofs.Costs.{degree, degrees_few, cost_from-next}
+use Rattle.std.proofs.lemmas.Option.{slice_get_within}
+use Rattle.guppy_search.specs.declared.ix.direction.DependencyDirection.TheVariants.{Forward}
+use Rattle.guppy_search.specs.Links.{seen_link}
 use Rattle.guppy_search.proofs.Searching.{far_end_below}
-use Rattle.guppy_core.proofs.Gathering.{gathered_none, gathered_more, gathered_whole}
-use Rattle.guppy_core.proofs.Noting.{noted_first, noted_last}
+use Rattle.guppy_core.proofs.Costs.{one_more}
+use Rattle.guppy_core.proofs.Entering.{EntersAt, enters_one, enters_itself, enters_dropped, entered_is, enters_within}
+use Rattle.guppy_core.proofs.Gathering.{gathered_one, gathered_skipped, gathered_whole}
+use Rattle.guppy_core.proofs.Noting.{noted_more, noted_last}
+use Rattle.guppy_core.proofs.topo.roots.entered.Goals.{then-is_kept+then-link, else-is_kept, else-is_kept-via-then-is_kept+else-link, else-is_kept-via-else-is_kept}
 use Rattle.guppy_core.proofs.topo.roots.entered.Goals as goal
 
-pub loop-position-init : goal.loop-position-init
-loop-position-init g c =
+pub loop-number-preserved : goal.loop-number-preserved
+loop-number-preserved g c =
     let graph = c.args.graph.now.graph in
-    rw (c.in_ok-set.ensures, c.node_count.ensures.count) (record {
-      entered = gathered_none _ (replicate (length graph.nodes) false);
-      noted = noted_first g.kept graph.links c.args.notes.now;
-      graph = refl;
-      paid = let few = degrees_few {E = g.row.G-Edge.Denot} Forward graph.links (length graph.nodes - 0) in omega arith;
-    })
+    let number = c.loop-number.number in
+    let entered = c.loop-number.invariant.entered in
+    let link = seen_link c.link-link.result in
+    let found = rw c.loop-number.invariant.graph at c.link-link.ensures.link in
+    let is : c.keep-is_kept.result ≡ g.kept link.edge = c.requires.1.1.1.1.1.1.1.0 _ _ c.keep-is_kept.ensures in
+    let within : number < length c.loop-number.notes = let low = slice_get_within graph.links number link found in let count = c.requires.1.1.1.1.1.1.1.1 in let same = c.loop-number.auto.notes in omega arith in
+    let noted = noted_more g.kept graph.links number c.loop-number.notes c.loop-number.invariant.noted link c.keep-is_kept.result found is within in
+    elim c.if-is_kept.branch [
+      | then-is_kept+then-link w ↦
+          let below : link.to < length c.loop-number.set = let low = far_end_below Forward graph.links (length graph.nodes) number link found c.node_count.ensures.graph.ends in let size = entered.size ∙ length-replicate (length graph.nodes) false in omega arith in
+          rw (w.set-is, w.insert_position.ensures.after, c.link-link.ensures.counted) (record {
+            entered = gathered_one number c.loop-number.set entered link.to below (enters_one g.kept graph.links number link found (sym is ∙ w.if-is_kept.true) w.if-link.true);
+            noted = noted;
+            graph = c.loop-number.invariant.graph;
+            looked = rw c.loop-number.invariant.looked (one_more _ _);
+          })
+      | else-is_kept w ↦
+          let none : (p : ℕ) → EntersAt g.kept graph.links number p → ⊥ = elim w.else-is_kept.branch [
+            | else-is_kept-via-then-is_kept+else-link w' ↦ enters_itself g.kept graph.links number link found w'.if-link.false
+            | else-is_kept-via-else-is_kept w' ↦ enters_dropped g.kept graph.links number link found (sym is ∙ w'.if-is_kept.false)
+          ] in
+          rw (w.set-is, c.link-link.ensures.counted) (record {
+            entered = gathered_skipped number c.loop-number.set entered none;
+            noted = noted;
+            graph = c.loop-number.invariant.graph;
+            looked = rw c.loop-number.invariant.looked (one_more _ _);
+          })
+    ]
 
-pub loop-position-preserved : goal.loop-position-preserved
-loop-position-preserved g c =
-    let graph = c.args.graph.now.graph in
-    let n = length graph.nodes in
-    let i = c.loop-position.position in
-    let e = rw c.loop-position.invariant.graph at c.enter_from.ensures in
-    let count = c.node_count-position-end.ensures.count in
-    let below : c.loop-position.position < length graph.nodes = let t = c.loop-position-test.true in omega arith in
-    record {
-      entered = gathered_more i c.loop-position.set c.loop-position.invariant.entered c.enter_from.new.set (e.count ∙ sym (c.loop-position.invariant.entered.size ∙ length-replicate n false)) e.members;
-      noted = e.noted;
-      graph = e.graph;
-      paid =
-          let next = cost_from-next (degree {E = g.row.G-Edge.Denot} Forward graph.links) i n below in
-          let before = c.loop-position.invariant.paid in
-          let looks = e.looks in
-          omega arith;
-    }
+pub returns-clause-noted : goal.returns-clause-noted
+returns-clause-noted g c =
+    let links = c.args.graph.now.graph.links in
+    let all : length links ≤ c.loop-number.number = let count = c.link_count-number-end.ensures in let t = c.loop-number-test.false in omega arith in
+    noted_last g.kept links c.loop-number.number c.loop-number.notes c.loop-number.invariant.noted all
 
 pub returns-clause-members : goal.returns-clause-members
 returns-clause-members g c =
     let graph = c.args.graph.now.graph in
-    let count = c.node_count-position-end.ensures.count in
-    let all : length graph.nodes ≤ c.loop-position.position = let t = c.loop-position-test.false in omega arith in
-    gathered_whole _ (length graph.nodes) c.loop-position.position c.loop-position.set c.loop-position.invariant.entered
-    (λ a p t. let low = subst (λ z. z < length graph.nodes) t.0.near (far_end_below Reverse graph.links (length graph.nodes) t.0.number t.0.link t.0.found c.node_count-position-end.ensures.graph.ends) in omega arith)
-
-pub returns-clause-count : goal.returns-clause-count
-returns-clause-count g c = c.loop-position.invariant.entered.size ∙ length-replicate (length c.args.graph.now.graph.nodes) false
-
-pub returns-clause-noted : goal.returns-clause-noted
-returns-clause-noted g c =
-    let graph = c.args.graph.now.graph in
-    let all : length graph.nodes ≤ c.loop-position.position = let count = c.node_count-position-end.ensures.count in let t = c.loop-position-test.false in omega arith in
-    noted_last g.kept graph.links c.loop-position.position (length graph.nodes) c.loop-position.notes c.loop-position.invariant.noted c.node_count-position-end.ensures.graph.ends all
-
-pub enter_from-requires : goal.enter_from-requires
-enter_from-requires g c κs within =
-    let graph = c.args.graph.now.graph in
-    let inv = c.loop-position.invariant in
-    let below : c.loop-position.position < length c.args.graph.now.graph.nodes = let count = c.node_count-position-end.ensures.count in let t = c.loop-position-test.true in omega arith in
-    let room : c.loop-position.graph.looks + degree {E = g.row.G-Edge.Denot} Forward c.args.graph.now.graph.links c.loop-position.position < 2 ^ 64 =
-    let next = cost_from-next (degree {E = g.row.G-Edge.Denot} Forward graph.links) c.loop-position.position (length graph.nodes) below in
-    let paid = inv.paid in
-    let few = c.requires.1.1.1.1.1.0 in
-    omega arith in
-    (within.0, (within.1.0, (within.1.1.0, (within.1.1.1.0, (within.1.1.1.1, (rw inv.graph below, (rw inv.graph (inv.entered.size ∙ length-replicate (length graph.nodes) false), (rw inv.graph room, (search rules, (search rules, (rw inv.graph (c.loop-position.auto.notes ∙ c.requires.1.1.1.1.1.1.1.1), rw inv.graph inv.noted)))))))))))
-
-pub returns-in_err-set-clause-count : goal.returns-in_err-set-clause-count
-returns-in_err-set-clause-count g c = if_ok _ _ c.from_residual.ensures.0
-
-pub returns-in_err-set-clause-members : goal.returns-in_err-set-clause-members
-returns-in_err-set-clause-members g c = if_ok _ _ c.from_residual.ensures.0
-
-pub returns-in_err-set-clause-noted : goal.returns-in_err-set-clause-noted
-returns-in_err-set-clause-noted g c = if_ok _ _ c.from_residual.ensures.0
+    let all : length graph.links ≤ c.loop-number.number = let count = c.link_count-number-end.ensures in let t = c.loop-number-test.false in omega arith in
+    λ p.
+    let is = gathered_whole _ (length graph.nodes) c.loop-number.number c.loop-number.set c.loop-number.invariant.entered (enters_within g.kept graph.links c.loop-number.number all) p in
+    let steps = entered_is g.kept graph.links p in
+    (λ h. steps.0 (is.0 h), λ t. is.1 (steps.1 t))
