@@ -1,13 +1,13 @@
 -- Packages with an ID.
-use Rattle.std.proofs.Common.{◌≡◌, ◌∙◌, sym, refl, arith, ℕ, zero, suc, ◌<◌, List, [], ◌∷◌, length, Option, Some, None, slice_get, true}
-use Rattle.std.specs.Prelude.{IsSomeAnd, is_some}
+use Rattle.std.proofs.Common.{◌≡◌, ◌∙◌, sym, refl, arith, ℕ, zero, suc, ◌<◌, List, [], ◌∷◌, length, Option, Some, None, slice_get}
+use Rattle.std.specs.Prelude.{IsSomeAnd}
 use Rattle.std.specs.Option.{option_and_then}
 use Rattle.std.specs.List.{range_with_len}
 use Rattle.std.specs.List.Sorted.{IsPermutation}
 use Rattle.std.specs.Ordering.{nat_cmp}
 use Rattle.std.specs.Cmp.Lexicographic.{slice_cmp}
 use Rattle.guppy_data.specs.declared.records.PackageRecord.{PackageRecord}
-use Rattle.guppy_graph.specs.Keys.{or_empty, HasKey, NoneBelow}
+use Rattle.guppy_graph.specs.Keys.{HasKey, NoneBelow}
 use Rattle.guppy_graph.specs.Ids.{id_at, HasId, IsKnown, DistinctBelow}
 use Rattle.guppy_graph.specs.Indexes.{IsIdIndex}
 use Rattle.guppy_graph.proofs.Lists.{some_at}
@@ -28,14 +28,6 @@ module _ (packages : List PackageRecord) where
 
   pub id_back : (id : List ℕ) (p : ℕ) → HasId packages id p → HasKey (slice_cmp nat_cmp) (id_at packages) id p
   id_back id p h = exact_back (id_at packages) id p (owner_back (slice_get packages p) id h)
-
-of_own : (o : Option PackageRecord) → is_some o ≡ true → IsSomeAnd o (λ r. r.id ≡ or_empty (option_and_then (λ r. Some r.id) o))
-of_own None some = absurd (cc)
-of_own (Some r) some = refl
-
--- each package has its own ID
-pub has_own_id : (packages : List PackageRecord) (p : ℕ) → p < length packages → HasId packages (or_empty (id_at packages p)) p
-has_own_id packages p within = let r = some_at packages p within in of_own (slice_get packages p) (rw r.1 refl)
 
 none_owns : (o : Option PackageRecord) (id : List ℕ) → None ≡ option_and_then (λ r. Some r.id) o → IsSomeAnd o (λ r. r.id ≡ id) → ⊥
 none_owns None id is h = absurd h

@@ -12,10 +12,10 @@ ghost use Rattle.guppy_graph.specs.Links.{AreEndsKnown, AreEndsOf};
 ghost use Rattle.guppy_graph.specs.Refused.{TellsFault, IsRefusal};
 
 use crate::hints::Hints;
+use crate::joined::{ids_in, joined_ids};
 use crate::keyed::index_from;
 use crate::keys::{
-    Id, Ids, Keys, Name, Path, index_by_id, index_by_name, index_by_target, position_of_id,
-    texts_of,
+    Ids, Keys, Name, Path, index_by_id, index_by_name, index_by_target, position_of_id, texts_of,
 };
 use crate::likely::likely_order;
 use guppy_core::Link;
@@ -306,7 +306,8 @@ pub(crate) fn indexes_and_ends(
     if packages.len() > LIMIT {
         return Err(ConstructFault::TooManyPackages.into());
     }
-    let texts = texts_of::<Id>(alloc, packages)?;
+    let joined = joined_ids(alloc, packages)?;
+    let texts = ids_in(alloc, packages, joined.as_str())?;
     let ids = Ids::listed(packages, texts.as_slice());
     let indexes = indexes_of(alloc, &ids, workspace)?;
     if links.len() > LIMIT {

@@ -68,31 +68,16 @@ pub(crate) struct TargetIds<'a>(pub(crate) &'a [BuildTargetRecord]);
 pub fn path_at(packages: &[PackageRecord], position: usize) -> Utf8Path<'_>
     ensures { path_text result ≡ or_empty (path_at packages.now position) }
 {
-    match packages.get(position) {
-        Some(
-            PackageRecord {
-                source: PackageSourceRecord::Workspace(path),
-                ..
-            },
-        ) => path.as_path(),
-        _ => Utf8Path::new(""),
-    }
+    let paths: Keys<'_, Path> = Keys::new(packages);
+    Utf8Path::new(or_empty(paths.text_at(position)))
 }
 
 /// The name of the member at the position, and the empty text where there is none.
 pub fn name_at(packages: &[PackageRecord], position: usize) -> &str
     ensures { result.now ≡ or_empty (name_at packages.now position) }
 {
-    match packages.get(position) {
-        Some(
-            PackageRecord {
-                source: PackageSourceRecord::Workspace(_),
-                name,
-                ..
-            },
-        ) => name.as_str(),
-        _ => "",
-    }
+    let names: Keys<'_, Name> = Keys::new(packages);
+    or_empty(names.text_at(position))
 }
 
 // The text, and the empty one where there is none.
@@ -144,7 +129,7 @@ impl<'a, K: Key> Keys<'a, K> {
     }
 
     /// The text of the package at the position, if there is one.
-    pub(crate) fn text_at(&self, position: usize) -> Option<&str>
+    pub(crate) fn text_at(&self, position: usize) -> Option<&'a str>
         ensures { option_copied result ≡ item_key K.text_of self.now.packages.now position }
     {
         match self.texts.get(position) {
@@ -204,8 +189,8 @@ pub(crate) fn position_of_name(
     position_of(&names, by_name, name)
 }
 
-/// The packages by ID, and the first with the ID of an earlier one. They are sorted as they stand in this order, which
-/// may be any.
+/// The packages by ID, and the first with the ID of an earlier one. Sorting begins from the likely order, and is soon
+/// done where that is the right one.
 pub(crate) fn index_by_id(
     alloc: Global,
     ids: &Ids<'_>,
@@ -220,20 +205,20 @@ pub(crate) fn index_by_id(
     index_from(alloc, ids, likely)
 }
 
-/// The workspace members by name, and the first with the name of an earlier one. They are sorted as they stand in this
-/// order, which may be any.
+/// The workspace members by name, and the first with the name of an earlier one. Sorting begins from the order of the
+/// IDs, and is soon done where names go with them.
 pub(crate) fn index_by_name(
     alloc: Global,
     names: &Keys<'_, Name>,
-    likely: &[usize],
+    by_id: &[usize],
 ) -> Result<(Vec<usize>, Option<usize>), AllocError>
-    requires { IsPermutation (range_with_len 0 (length names.now.packages.now)) likely.now }
+    requires { IsPermutation (range_with_len 0 (length names.now.packages.now)) by_id.now }
     ensures index { IfOk result (λ made. IsNameIndex names.now.packages.now made.0.items) }
     ensures repeat { let packages = names.now.packages.now in
         IfOk result (λ made. MatchOption made.1 (DifferBelow (HasName packages) (length packages))
         (IsFirstRepeat (HasName packages))) }
 {
-    index_from(alloc, names, likely)
+    index_from(alloc, names, by_id)
 }
 
 /// The places of the targets by ID, and the first with the ID of an earlier one.

@@ -5,6 +5,7 @@
 //!
 //! - `keyed`: positions sorted and looked up by any key;
 //! - `keys`: the keys, which are IDs, paths, names and target IDs;
+//! - `joined`: IDs copied behind one another, so that many of them are compared soon;
 //! - `likely`: a guess at the order of IDs, to begin sorting from;
 //! - `hints`: packages found by ID, mostly with no search;
 //! - `build`: the checks of the records, and the indexes;
@@ -20,6 +21,7 @@ mod dev_only;
 mod firm_cycle;
 mod graph;
 mod hints;
+mod joined;
 mod keyed;
 mod keys;
 mod likely;

@@ -8,12 +8,11 @@ use std::alloc::{AllocError, Global};
 
 // The beginning that both have.
 fn shared<'a>(front: &'a [u8], text: &[u8]) -> &'a [u8] {
-    for place in 0..front.len() {
-        if text.get(place) != Some(&front[place]) {
-            return &front[..place];
-        }
-    }
-    front
+    let alike = front
+        .iter()
+        .zip(text)
+        .take_while(|(own, other)| own == other);
+    front.get(..alike.count()).unwrap_or(front)
 }
 
 // How many bytes all IDs begin with.
