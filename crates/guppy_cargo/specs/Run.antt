@@ -8,6 +8,7 @@ use Rattle.guppy_data.specs.declared.texts.error.Error.TheVariants.{OutOfMemory}
 use Rattle.guppy.specs.Graph.{GraphData}
 use Rattle.guppy.specs.Refused.{IsRefusal as IsRecordsRefusal}
 use Rattle.guppy_input.specs.declared.fault.RunFault.TheVariants.{Library, InputFailed, OutputFailed}
+use Rattle.guppy_metadata.specs.Fault.{IsNotJson}
 use Rattle.guppy_cargo.specs.declared.fault.CargoFault.{CargoFault}
 use Rattle.guppy_cargo.specs.declared.fault.CargoFault.TheVariants.{Run, Metadata, NoText}
 use Rattle.guppy_cargo.specs.declared.names.Names.{Names}
@@ -48,6 +49,12 @@ HasCause command error = (error ≡ OutOfMemory) ⊎ (AreRefused error ⊎ IsRef
 abbrev pub IsLibraryRefusal : List (List ℕ) → Error → Type 0
 IsLibraryRefusal args error = (command : CargoCommand) × (command_of args ≡ Some command)
     × HasCause command error
+
+-- the input is blamed to be no JSON
+abbrev pub BlamesJson : CargoFault → Type 0
+BlamesJson (Metadata fault) = IsNotJson fault
+BlamesJson (Run fault) = ⊥
+BlamesJson NoText = ⊥
 
 -- no device and no argument is blamed, and an error of the library has its cause
 abbrev pub IsOfInput : CargoCommand → CargoFault → Type 0

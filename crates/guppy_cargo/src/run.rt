@@ -1,13 +1,14 @@
 //! The program, over any source and sink.
-ghost use Rattle.std.specs.Prelude.{◌≡◌, ◌↔◌, ◌++◌, ℕ, List, false, map, string_bytes, Err, OnOk, IfOk, IfErr, IsNone, IsErrOf};
-ghost use Rattle.std.specs.Io.KnownBytes.{Appends, IsAtEnd};
+ghost use Rattle.std.specs.Prelude.{◌≡◌, ◌↔◌, ◌++◌, ℕ, List, None, false, map, string_bytes, Err, OnOk, IfOk, IfErr, IsSome, IsNone, IsErrOf};
+ghost use Rattle.std.specs.Io.KnownBytes.{Appends};
 ghost use Rattle.std.specs.Str.{IsUtf8};
+ghost use Rattle.serde_json.specs.Read.{read};
 ghost use Rattle.guppy_program.specs.Run.{OfWholeInput};
 ghost use Rattle.guppy_input.specs.declared.fault.RunFault.TheVariants.{BadArguments, Library, OutputFailed};
 ghost use Rattle.guppy_data.specs.declared.texts.error.Error.{Error};
 ghost use Rattle.guppy_cargo.specs.declared.fault.CargoFault.TheVariants.{Run, NoText};
 ghost use Rattle.guppy_cargo.specs.Asked.{command_of, command_shown};
-ghost use Rattle.guppy_cargo.specs.Run.{HasCause, IsAnswerTo, IsAnswered, IsBegun, IsLibraryRefusal, IsOfEachInput, IsOfInput, is_input_fault, is_output_fault, WritesNothing};
+ghost use Rattle.guppy_cargo.specs.Run.{BlamesJson, HasCause, IsAnswerTo, IsAnswered, IsBegun, IsLibraryRefusal, IsOfEachInput, IsOfInput, is_input_fault, is_output_fault, WritesNothing};
 
 use crate::answer::answer;
 use crate::command::{CargoCommand, command_of};
@@ -24,7 +25,9 @@ use std::{mem, str};
 // The graph of the workspace that the text describes, and what its packages are called, which stands in the
 // graph for their IDs.
 fn load(alloc: Global, text: &str) -> Result<(PackageGraph, Names), CargoFault>
+    ensures json { OnOk result (IsSome (read text.now)) }
     ensures err { IfErr result IsOfEachInput }
+    ensures no_json { IfErr result (λ fault. BlamesJson fault → read text.now ≡ None) }
     ensures text { ¬ IsErrOf result NoText }
 {
     let Records {
@@ -47,7 +50,9 @@ fn answer_input(
     input: &[u8],
 ) -> Result<String, CargoFault>
     ensures ok { IfOk result (λ text. IsAnswerTo (command_shown command.now) (string_bytes text)) }
+    ensures json { OnOk result (IsSome (read input.now)) }
     ensures err { IfErr result (IsOfInput (command_shown command.now)) }
+    ensures no_json { IfErr result (λ fault. BlamesJson fault → read input.now ≡ None) }
     ensures text { IsErrOf result NoText → ¬ IsUtf8 input.now }
 {
     let Ok(text) = str::from_utf8(input) else {
@@ -69,11 +74,14 @@ fn answer_source<R: Source>(
 ) -> Result<String, CargoFault>
     requires { R.has_failed reader.old ≡ false }
     ensures ok { IfOk result (λ text. IsAnswerTo (command_shown command.now) (string_bytes text)) }
-    ensures end { OnOk result (IsAtEnd (R.left reader.new)) }
+    ensures json { OnOk result
+        (OfWholeInput (R.left reader.old) (R.left reader.new) (λ input. IsSome (read input))) }
     ensures err { is_output_fault result ≡ false }
     ensures arguments { ¬ IsErrOf result (Run BadArguments) }
     ensures library { (error : Error) → result ≡ Err (Run (Library error)) →
         HasCause (command_shown command.now) error }
+    ensures no_json { IfErr result (λ fault. BlamesJson fault →
+        OfWholeInput (R.left reader.old) (R.left reader.new) (λ input. read input ≡ None)) }
     ensures text { IsErrOf result NoText →
         OfWholeInput (R.left reader.old) (R.left reader.new) (λ input. ¬ IsUtf8 input) }
     ensures failed { R.has_failed reader.new ≡ is_input_fault result }
@@ -113,8 +121,9 @@ pub fn run<R: Source, W: Sink>(
     requires input_works { R.has_failed reader.old ≡ false }
     requires output_works { W.has_failed writer.old ≡ false }
 
-    // All input was read, and what was written is an answer to the arguments.
-    ensures end { OnOk result (IsAtEnd (R.left reader.new)) }
+    // All input was read, it is JSON, and what was written is an answer to the arguments.
+    ensures json { OnOk result
+        (OfWholeInput (R.left reader.old) (R.left reader.new) (λ input. IsSome (read input))) }
     ensures ok { OnOk result (IsAnswered (map string_bytes args.now)
         (Appends (W.written writer.old) (W.written writer.new))) }
 
@@ -127,6 +136,10 @@ pub fn run<R: Source, W: Sink>(
     // memory ran out.
     ensures library { (error : Error) → result ≡ Err (Run (Library error)) →
         IsLibraryRefusal (map string_bytes args.now) error }
+
+    // All input was read, and it is no JSON.
+    ensures no_json { IfErr result (λ fault. BlamesJson fault →
+        OfWholeInput (R.left reader.old) (R.left reader.new) (λ input. read input ≡ None)) }
 
     // All input was read, and it is no UTF-8.
     ensures text { IsErrOf result NoText →
