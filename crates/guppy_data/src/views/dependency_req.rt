@@ -38,7 +38,7 @@ impl<'g> DependencyReq<'g> {
             ((recorded_status (seen_req self.entry).required.build_if ≡ Never)
             × (recorded_status (seen_req self.entry).optional.build_if ≡ Never)) }
     {
-        !self.status().is_never()
+        !self.req.required.build_if.is_never() || !self.req.optional.build_if.is_never()
     }
 
     /// Where the dependency is built.
