@@ -1,1 +1,2 @@
 pub mod Features
+pub mod Fitting

@@ -59,7 +59,10 @@ pub(crate) fn named_features(
 ) -> Result<IndexMap<String, Vec<NamedFeatureDep>>, Misfit> {
     let alloc = features.alloc;
     let mut named = IndexMap::new(alloc);
-    for (name, value) in features.members.iter() {
+    let Some(members) = features.value.as_object() else {
+        return Ok(named);
+    };
+    for (name, value) in members.iter() {
         let items = items_of(alloc, name.as_str(), value)?;
         let texts = texts_of(alloc, name.as_str(), items)?;
         let switched_on = features_of(alloc, texts.as_slice())?;

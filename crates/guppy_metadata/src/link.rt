@@ -1,7 +1,11 @@
 //! Links, of what packages declare and what is resolved.
-ghost use Rattle.std.specs.Prelude.{◌≡◌, if◌then◌else◌, true, false, IfOk, OnOk};
+ghost use Rattle.std.specs.Prelude.{◌≡◌, ◌++◌, ℕ, List, if◌then◌else◌, true, false, map, IfOk, OnOk, IfSome};
 ghost use Rattle.std.specs.Option.{option_copied};
+ghost use Rattle.guppy_data.specs.declared.records.LinkRecord.{LinkRecord};
 ghost use Rattle.guppy_data.specs.Platform.{recorded_status, with_spec};
+ghost use Rattle.serde_json.specs.View.{view};
+ghost use Rattle.guppy_metadata.specs.Links.{Joins, IsResolved, IsLink, AreLinksOf, AreLinksOfAll};
+ghost use Rattle.guppy_metadata.specs.Members.{data_of};
 
 use crate::declared::{Declared, section_of};
 use crate::fault::{Misfit, TextFault};
@@ -66,7 +70,9 @@ fn usages_of(alloc: Global, items: &[Value]) -> Result<Vec<Usage<'_>>, Misfit> {
     Ok(usages)
 }
 
-fn resolved_of(dependency: Object<'_>) -> Result<Resolved<'_>, Misfit> {
+fn resolved_of(dependency: Object<'_>) -> Result<Resolved<'_>, Misfit>
+    ensures { IfOk result (λ r. IsResolved (data_of dependency.entry) r.id.now r.name.now) }
+{
     Ok(Resolved {
         name: dependency.text("name")?,
         id: dependency.text("pkg")?,
@@ -189,7 +195,9 @@ fn add_declared(
     alloc: Global,
     link: &mut LinkRecord,
     declared: &Declared<'_>,
-) -> Result<(), AllocError> {
+) -> Result<(), AllocError>
+    ensures { (from to name : List ℕ) → Joins from to name link.old → Joins from to name link.new }
+{
     if link.registry.is_none() {
         link.registry = optional_copy(alloc, declared.registry)?;
     }
@@ -210,7 +218,9 @@ fn bare_link(
     resolved: &Resolved<'_>,
     dep_name: &str,
     requirement: VersionReq,
-) -> Result<LinkRecord, AllocError> {
+) -> Result<LinkRecord, AllocError>
+    ensures { IfOk result (Joins from.now resolved.now.id.now resolved.now.name.now) }
+{
     Ok(LinkRecord::new(
         alloc,
         PackageId::new(String::from_str(alloc, from)?),
@@ -228,7 +238,10 @@ fn link_with(
     from: &str,
     resolved: &Resolved<'_>,
     declared: &Declared<'_>,
-) -> Result<LinkRecord, AllocError> {
+) -> Result<LinkRecord, AllocError>
+    requires { IfSome link (Joins from.now resolved.now.id.now resolved.now.name.now) }
+    ensures { IfOk result (Joins from.now resolved.now.id.now resolved.now.name.now) }
+{
     let mut link = match link {
         Some(link) => link,
         None => {
@@ -247,7 +260,10 @@ fn link_of_fitting(
     declared: &[Declared<'_>],
     resolved: &Resolved<'_>,
     package: &Package<'_>,
-) -> Result<Option<LinkRecord>, AllocError> {
+) -> Result<Option<LinkRecord>, AllocError>
+    ensures { IfOk result (λ link. IfSome link
+        (Joins from.now resolved.now.id.now resolved.now.name.now)) }
+{
     let mut link = None;
     for dependency in declared {
         if fits(dependency, from, resolved, package) {
@@ -263,7 +279,9 @@ fn link_of(
     packages: Packages<'_, '_>,
     from: &str,
     dependency: Object<'_>,
-) -> Result<LinkRecord, Misfit> {
+) -> Result<LinkRecord, Misfit>
+    ensures { IfOk result (IsLink from.now (data_of dependency.entry)) }
+{
     let alloc = dependency.alloc;
     let resolved = resolved_of(dependency)?;
     let ends = (packages.with_id(from), packages.with_id(resolved.id));
@@ -286,7 +304,10 @@ fn add_links(
     links: &mut Vec<LinkRecord>,
     packages: Packages<'_, '_>,
     node: Object<'_>,
-) -> Result<(), Misfit> {
+) -> Result<(), Misfit>
+    ensures { OnOk result ((row : List LinkRecord) × (links.new.items ≡ links.old.items ++ row)
+        × AreLinksOf (data_of node.entry) row) }
+{
     let alloc = node.alloc;
     let from = node.text("id")?;
     for (index, item) in node.items("deps")?.iter().enumerate() {
@@ -304,7 +325,9 @@ pub(crate) fn links_of(
     alloc: Global,
     packages: Packages<'_, '_>,
     items: &[Value],
-) -> Result<Vec<LinkRecord>, Misfit> {
+) -> Result<Vec<LinkRecord>, Misfit>
+    ensures { IfOk result (λ links. AreLinksOfAll (map view items.now) links.items) }
+{
     let mut links = Vec::new(alloc);
     for (index, item) in items.iter().enumerate() {
         let node = Object::of_item(alloc, "nodes", index, item)?;

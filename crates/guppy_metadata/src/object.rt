@@ -1,19 +1,28 @@
 //! The members of a JSON object. A fault's place is the one that it has from the object.
+ghost use Rattle.std.specs.Prelude.{◌≡◌, IfOk, Ok, map, option_map, string_bytes};
+ghost use Rattle.std.specs.Option.{option_copied};
+ghost use Rattle.semver.specs.Identifiers.{parts_of};
+ghost use Rattle.semver.specs.Parse.{version_parts};
+ghost use Rattle.serde_json.specs.Data.{string, array};
+ghost use Rattle.serde_json.specs.View.{view, items_view};
+ghost use Rattle.guppy_metadata.specs.Members.{data_of};
 
 use crate::fault::{Kind, Misfit, TextFault};
 use semver::{Version, VersionReq};
-use serde_json::{Map, Value};
+use serde_json::Value;
 use std::alloc::{AllocError, Global};
 
 /// A JSON object, and the allocator that what is read of it is taken from.
 #[derive(Clone, Copy)]
 pub(crate) struct Object<'a> {
     pub(crate) alloc: Global,
-    pub(crate) members: &'a Map<String, Value>,
+    pub(crate) value: &'a Value,
 }
 
 // The text that the member of this name has.
-fn text_of<'a>(alloc: Global, name: &str, value: &'a Value) -> Result<&'a str, Misfit> {
+fn text_of<'a>(alloc: Global, name: &str, value: &'a Value) -> Result<&'a str, Misfit>
+    ensures { IfOk result (λ text. view value.now ≡ string text.now) }
+{
     match value.as_str() {
         Some(text) => Ok(text),
         None => Err(Misfit::wrong_kind(alloc, name, Kind::Text)),
@@ -25,7 +34,9 @@ pub(crate) fn items_of<'a>(
     alloc: Global,
     name: &str,
     value: &'a Value,
-) -> Result<&'a [Value], Misfit> {
+) -> Result<&'a [Value], Misfit>
+    ensures { IfOk result (λ items. view value.now ≡ array (items_view items.now)) }
+{
     match value.as_array() {
         Some(items) => Ok(items.as_slice()),
         None => Err(Misfit::wrong_kind(alloc, name, Kind::List)),
@@ -38,7 +49,9 @@ fn item_text<'a>(
     name: &str,
     index: usize,
     item: &'a Value,
-) -> Result<&'a str, Misfit> {
+) -> Result<&'a str, Misfit>
+    ensures { IfOk result (λ text. view item.now ≡ string text.now) }
+{
     match item.as_str() {
         Some(text) => Ok(text),
         None => {
@@ -53,7 +66,10 @@ pub(crate) fn texts_of<'a>(
     alloc: Global,
     name: &str,
     items: &'a [Value],
-) -> Result<Vec<&'a str>, Misfit> {
+) -> Result<Vec<&'a str>, Misfit>
+    ensures { IfOk result (λ texts. map view items.now
+        ≡ map string (map (λ text. text.now) texts.items)) }
+{
     let mut texts = Vec::with_capacity(alloc, items.len())?;
     for (index, item) in items.iter().enumerate() {
         let text = item_text(alloc, name, index, item)?;
@@ -63,7 +79,10 @@ pub(crate) fn texts_of<'a>(
 }
 
 /// Copies of texts.
-pub(crate) fn copies_of(alloc: Global, texts: &[&str]) -> Result<Vec<String>, AllocError> {
+pub(crate) fn copies_of(alloc: Global, texts: &[&str]) -> Result<Vec<String>, AllocError>
+    ensures { IfOk result
+        (λ copies. map string_bytes copies.items ≡ map (λ text. text.now) texts.now) }
+{
     let mut copies = Vec::with_capacity(alloc, texts.len())?;
     for text in texts {
         copies.push(String::from_str(alloc, text)?)?;
@@ -72,10 +91,9 @@ pub(crate) fn copies_of(alloc: Global, texts: &[&str]) -> Result<Vec<String>, Al
 }
 
 /// A copy of a text, where there is one.
-pub(crate) fn optional_copy(
-    alloc: Global,
-    text: Option<&str>,
-) -> Result<Option<String>, AllocError> {
+pub(crate) fn optional_copy(alloc: Global, text: Option<&str>) -> Result<Option<String>, AllocError>
+    ensures { IfOk result (λ copy. option_map string_bytes copy ≡ option_copied text.entry) }
+{
     match text {
         Some(text) => Ok(Some(String::from_str(alloc, text)?)),
         None => Ok(None),
@@ -88,7 +106,9 @@ fn is_memory(error: semver::Error) -> bool {
 }
 
 /// The version that the text in the member of this name is.
-pub(crate) fn version_of(alloc: Global, name: &str, text: &str) -> Result<Version, Misfit> {
+pub(crate) fn version_of(alloc: Global, name: &str, text: &str) -> Result<Version, Misfit>
+    ensures { IfOk result (λ version. version_parts text.now ≡ Ok (parts_of version)) }
+{
     match Version::parse(alloc, text) {
         Ok(version) => Ok(version),
         Err(error) if is_memory(error) => Err(Misfit::OutOfMemory),
@@ -112,11 +132,21 @@ pub(crate) fn requirement_of(alloc: Global, name: &str, text: &str) -> Result<Ve
 }
 
 impl<'a> Object<'a> {
+    ghost use Rattle.std.specs.Prelude.{◌≡◌, IfOk, Some, map, option_map, unwrap_or, string_bytes};
+    ghost use Rattle.std.specs.Option.{option_copied};
+    ghost use Rattle.serde_json.specs.Data.{null, string, array};
+    ghost use Rattle.serde_json.specs.Find.{get};
+    ghost use Rattle.serde_json.specs.View.{view, items_view};
+    ghost use Rattle.guppy_metadata.specs.Members.{data_of, present, IsText, AreItems, AreTexts};
+
     /// The object that a value is.
-    pub(crate) fn new(alloc: Global, value: &'a Value) -> Result<Self, Misfit> {
-        match value.as_object() {
-            Some(members) => Ok(Object { alloc, members }),
-            None => Err(Misfit::wrong_kind(alloc, "", Kind::Object)),
+    pub(crate) fn new(alloc: Global, value: &'a Value) -> Result<Self, Misfit>
+        ensures { IfOk result (λ object. data_of object ≡ view value.now) }
+    {
+        if value.is_object() {
+            Ok(Object { alloc, value })
+        } else {
+            Err(Misfit::wrong_kind(alloc, "", Kind::Object))
         }
     }
 
@@ -126,7 +156,9 @@ impl<'a> Object<'a> {
         name: &str,
         index: usize,
         item: &'a Value,
-    ) -> Result<Self, Misfit> {
+    ) -> Result<Self, Misfit>
+        ensures { IfOk result (λ object. data_of object ≡ view item.now) }
+    {
         match Object::new(alloc, item) {
             Ok(object) => Ok(object),
             Err(fault) => Err(fault.within_item(alloc, name, index)),
@@ -134,35 +166,48 @@ impl<'a> Object<'a> {
     }
 
     /// The member of this name, where there is one that isn't null.
-    pub(crate) fn optional(self, name: &str) -> Option<&'a Value> {
-        match self.members.get(name) {
+    pub(crate) fn optional(self, name: &str) -> Option<&'a Value>
+        ensures { option_map (λ value. view value.now) result ≡ present name.now (data_of self.entry) }
+    {
+        match self.value.get(name) {
             None | Some(Value::Null) => None,
             Some(value) => Some(value),
         }
     }
 
     /// The member of this name.
-    pub(crate) fn required(self, name: &str) -> Result<&'a Value, Misfit> {
-        match self.members.get(name) {
+    pub(crate) fn required(self, name: &str) -> Result<&'a Value, Misfit>
+        ensures { IfOk result (λ value. get name.now (data_of self.entry) ≡ Some (view value.now)) }
+    {
+        match self.value.get(name) {
             None => Err(Misfit::missing(self.alloc, name)),
             Some(value) => Ok(value),
         }
     }
 
     /// The text in the member of this name.
-    pub(crate) fn text(self, name: &str) -> Result<&'a str, Misfit> {
+    pub(crate) fn text(self, name: &str) -> Result<&'a str, Misfit>
+        ensures { IfOk result
+            (λ text. get name.now (data_of self.entry) ≡ Some (string text.now)) }
+    {
         let value = self.required(name)?;
         text_of(self.alloc, name, value)
     }
 
     /// A copy of the text in the member of this name.
-    pub(crate) fn copied_text(self, name: &str) -> Result<String, Misfit> {
+    pub(crate) fn copied_text(self, name: &str) -> Result<String, Misfit>
+        ensures { IfOk result
+            (λ text. get name.now (data_of self.entry) ≡ Some (string (string_bytes text))) }
+    {
         let text = self.text(name)?;
         Ok(String::from_str(self.alloc, text)?)
     }
 
     /// The text in the member of this name, where there is one that isn't null.
-    pub(crate) fn optional_text(self, name: &str) -> Result<Option<&'a str>, Misfit> {
+    pub(crate) fn optional_text(self, name: &str) -> Result<Option<&'a str>, Misfit>
+        ensures { IfOk result
+            (λ text. IsText name.now (data_of self.entry) (option_copied text)) }
+    {
         match self.optional(name) {
             Some(value) => Ok(Some(text_of(self.alloc, name, value)?)),
             None => Ok(None),
@@ -170,19 +215,27 @@ impl<'a> Object<'a> {
     }
 
     /// A copy of the text in the member of this name, where there is one that isn't null.
-    pub(crate) fn optional_copied_text(self, name: &str) -> Result<Option<String>, Misfit> {
+    pub(crate) fn optional_copied_text(self, name: &str) -> Result<Option<String>, Misfit>
+        ensures { IfOk result (λ text. IsText name.now (data_of self.entry)
+            (option_map string_bytes text)) }
+    {
         let text = self.optional_text(name)?;
         Ok(optional_copy(self.alloc, text)?)
     }
 
     /// The items of the list in the member of this name.
-    pub(crate) fn items(self, name: &str) -> Result<&'a [Value], Misfit> {
+    pub(crate) fn items(self, name: &str) -> Result<&'a [Value], Misfit>
+        ensures { IfOk result
+            (λ items. get name.now (data_of self.entry) ≡ Some (array (items_view items.now))) }
+    {
         let value = self.required(name)?;
         items_of(self.alloc, name, value)
     }
 
     /// The items of the list in the member of this name; none where there is no list.
-    pub(crate) fn optional_items(self, name: &str) -> Result<&'a [Value], Misfit> {
+    pub(crate) fn optional_items(self, name: &str) -> Result<&'a [Value], Misfit>
+        ensures { IfOk result (λ items. AreItems name.now (data_of self.entry) (map view items.now)) }
+    {
         match self.optional(name) {
             Some(value) => items_of(self.alloc, name, value),
             None => Ok(&[]),
@@ -190,19 +243,28 @@ impl<'a> Object<'a> {
     }
 
     /// The texts of the list in the member of this name; none where there is no list.
-    pub(crate) fn texts(self, name: &str) -> Result<Vec<&'a str>, Misfit> {
+    pub(crate) fn texts(self, name: &str) -> Result<Vec<&'a str>, Misfit>
+        ensures { IfOk result
+            (λ texts. AreTexts name.now (data_of self.entry) (map (λ text. text.now) texts.items)) }
+    {
         let items = self.optional_items(name)?;
         texts_of(self.alloc, name, items)
     }
 
     /// Copies of the texts of the list in the member of this name; none where there is no list.
-    pub(crate) fn copied_texts(self, name: &str) -> Result<Vec<String>, Misfit> {
+    pub(crate) fn copied_texts(self, name: &str) -> Result<Vec<String>, Misfit>
+        ensures { IfOk result
+            (λ texts. AreTexts name.now (data_of self.entry) (map string_bytes texts.items)) }
+    {
         let texts = self.texts(name)?;
         Ok(copies_of(self.alloc, texts.as_slice())?)
     }
 
     /// The object in the member of this name.
-    pub(crate) fn object(self, name: &str) -> Result<Object<'a>, Misfit> {
+    pub(crate) fn object(self, name: &str) -> Result<Object<'a>, Misfit>
+        ensures { IfOk result
+            (λ object. get name.now (data_of self.entry) ≡ Some (data_of object)) }
+    {
         let value = self.required(name)?;
         match Object::new(self.alloc, value) {
             Ok(object) => Ok(object),
@@ -222,8 +284,11 @@ impl<'a> Object<'a> {
     }
 
     /// A copy of the value in the member of this name, or null where there is none.
-    pub(crate) fn copied_value(self, name: &str) -> Result<Value, AllocError> {
-        match self.members.get(name) {
+    pub(crate) fn copied_value(self, name: &str) -> Result<Value, AllocError>
+        ensures { IfOk result
+            (λ value. view value ≡ unwrap_or (get name.now (data_of self.entry)) null) }
+    {
+        match self.value.get(name) {
             Some(value) => value.clone(),
             None => Ok(Value::Null),
         }

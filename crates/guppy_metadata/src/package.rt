@@ -1,4 +1,10 @@
 //! Packages.
+ghost use Rattle.std.specs.Prelude.{◌≡◌, IfOk, OnOk, map};
+ghost use Rattle.std.specs.List.{AllZip};
+ghost use Rattle.serde_json.specs.Data.{Data};
+ghost use Rattle.serde_json.specs.View.{view};
+ghost use Rattle.guppy_metadata.specs.Members.{data_of, IsText};
+ghost use Rattle.guppy_metadata.specs.Package.{IsNamed, IsDescribed, IsFilled, IsPackage, IsPublishable};
 
 use crate::declared::{Declared, declared_dependencies, optional_names};
 use crate::fault::Misfit;
@@ -40,17 +46,17 @@ impl Package<'_> {
 
 // Where a package comes from.
 fn source_of(
-    package: Object<'_>,
+    json: Object<'_>,
     is_member: bool,
     root: Utf8Path<'_>,
 ) -> Result<PackageSourceRecord, Misfit> {
-    let alloc = package.alloc;
-    let manifest_path = Utf8Path::new(package.text("manifest_path")?);
+    let alloc = json.alloc;
+    let manifest_path = Utf8Path::new(json.text("manifest_path")?);
     if is_member {
         let folder = folder_from(alloc, manifest_path, root)?;
         return Ok(PackageSourceRecord::Workspace(folder));
     }
-    match package.optional_copied_text("source")? {
+    match json.optional_copied_text("source")? {
         Some(source) => Ok(PackageSourceRecord::External(source)),
         None => {
             let folder = folder_from(alloc, manifest_path, root)?;
@@ -61,52 +67,61 @@ fn source_of(
 
 // The record of the package with what each package has.
 fn bare_record(
-    package: Object<'_>,
+    json: Object<'_>,
     members: &IndexSet<&str>,
     root: Utf8Path<'_>,
-) -> Result<PackageRecord, Misfit> {
-    let alloc = package.alloc;
-    let id = package.text("id")?;
-    let source = source_of(package, members.contains(id), root)?;
-    let version = version_of(alloc, "version", package.text("version")?)?;
-    let manifest_path = Utf8PathBuf::new(package.copied_text("manifest_path")?);
+) -> Result<PackageRecord, Misfit>
+    ensures { IfOk result (IsNamed (data_of json.entry)) }
+{
+    let alloc = json.alloc;
+    let id = json.text("id")?;
+    let source = source_of(json, members.contains(id), root)?;
+    let version = version_of(alloc, "version", json.text("version")?)?;
+    let manifest_path = Utf8PathBuf::new(json.copied_text("manifest_path")?);
     Ok(PackageRecord::new(
         alloc,
         PackageId::new(String::from_str(alloc, id)?),
-        package.copied_text("name")?,
+        json.copied_text("name")?,
         version,
         source,
         manifest_path,
-        package.copied_text("edition")?,
+        json.copied_text("edition")?,
     ))
 }
 
-fn optional_path(package: Object<'_>, name: &str) -> Result<Option<Utf8PathBuf>, Misfit> {
-    match package.optional_copied_text(name)? {
+fn optional_path(json: Object<'_>, name: &str) -> Result<Option<Utf8PathBuf>, Misfit>
+    ensures { IfOk result (IsText name.now (data_of json.entry)) }
+{
+    match json.optional_copied_text(name)? {
         Some(path) => Ok(Some(Utf8PathBuf::new(path))),
         None => Ok(None),
     }
 }
 
 // Fills in what is told of a package for people.
-fn describe(record: &mut PackageRecord, package: Object<'_>) -> Result<(), Misfit> {
-    record.authors = package.copied_texts("authors")?;
-    record.description = package.optional_copied_text("description")?;
-    record.license = package.optional_copied_text("license")?;
-    record.license_file = optional_path(package, "license_file")?;
-    record.categories = package.copied_texts("categories")?;
-    record.keywords = package.copied_texts("keywords")?;
-    record.readme = optional_path(package, "readme")?;
-    record.repository = package.optional_copied_text("repository")?;
-    record.homepage = package.optional_copied_text("homepage")?;
-    record.documentation = package.optional_copied_text("documentation")?;
+fn describe(made: &mut PackageRecord, json: Object<'_>) -> Result<(), Misfit>
+    ensures described { OnOk result (IsDescribed (data_of json.entry) made.new) }
+    ensures named { (d : Data) → IsNamed d made.old → IsNamed d made.new }
+{
+    made.authors = json.copied_texts("authors")?;
+    made.description = json.optional_copied_text("description")?;
+    made.license = json.optional_copied_text("license")?;
+    made.license_file = optional_path(json, "license_file")?;
+    made.categories = json.copied_texts("categories")?;
+    made.keywords = json.copied_texts("keywords")?;
+    made.readme = optional_path(json, "readme")?;
+    made.repository = json.optional_copied_text("repository")?;
+    made.homepage = json.optional_copied_text("homepage")?;
+    made.documentation = json.optional_copied_text("documentation")?;
     Ok(())
 }
 
-fn publish_of(package: Object<'_>) -> Result<PackagePublishRecord, Misfit> {
-    match package.optional("publish") {
+fn publish_of(json: Object<'_>) -> Result<PackagePublishRecord, Misfit>
+    ensures { IfOk result (IsPublishable (data_of json.entry)) }
+{
+    match json.optional("publish") {
         Some(_) => {
-            let registries = package.copied_texts("publish")?;
+            let registries = json.copied_texts("publish")?;
             Ok(PackagePublishRecord::Registries(registries))
         }
         None => Ok(PackagePublishRecord::Unrestricted),
@@ -125,43 +140,49 @@ fn whole_version(alloc: Global, text: &str) -> Result<String, AllocError> {
     Ok(whole)
 }
 
-fn rust_version(package: Object<'_>) -> Result<Option<Version>, Misfit> {
-    let Some(text) = package.optional_text("rust_version")? else {
+fn rust_version(json: Object<'_>) -> Result<Option<Version>, Misfit> {
+    let Some(text) = json.optional_text("rust_version")? else {
         return Ok(None);
     };
-    let whole = whole_version(package.alloc, text)?;
-    let version = version_of(package.alloc, "rust_version", whole.as_str())?;
+    let whole = whole_version(json.alloc, text)?;
+    let version = version_of(json.alloc, "rust_version", whole.as_str())?;
     Ok(Some(version))
 }
 
 // Fills in what is told of a package for Cargo.
-fn fill(record: &mut PackageRecord, package: Object<'_>) -> Result<(), Misfit> {
-    let alloc = package.alloc;
-    record.metadata_table = package.copied_value("metadata")?;
-    record.links = package.optional_copied_text("links")?;
-    record.publish = publish_of(package)?;
-    record.default_run = package.optional_copied_text("default_run")?;
-    record.rust_version = rust_version(package)?;
-    record.build_targets = build_targets(alloc, package.items("targets")?)?;
-    match named_features(package.object("features")?) {
-        Ok(features) => record.named_features = features,
+fn fill(made: &mut PackageRecord, json: Object<'_>, declared: &[Declared<'_>]) -> Result<(), Misfit>
+    ensures filled { OnOk result (IsFilled (data_of json.entry) made.new) }
+    ensures named { (d : Data) → IsNamed d made.old → IsNamed d made.new }
+    ensures described { (d : Data) → IsDescribed d made.old → IsDescribed d made.new }
+{
+    let alloc = json.alloc;
+    made.metadata_table = json.copied_value("metadata")?;
+    made.links = json.optional_copied_text("links")?;
+    made.publish = publish_of(json)?;
+    made.default_run = json.optional_copied_text("default_run")?;
+    made.rust_version = rust_version(json)?;
+    made.build_targets = build_targets(alloc, json.items("targets")?)?;
+    match named_features(json.object("features")?) {
+        Ok(features) => made.named_features = features,
         Err(fault) => return Err(fault.within(alloc, "features")),
     }
+    made.optional_deps = optional_names(alloc, declared)?;
     Ok(())
 }
 
 fn package_of<'a>(
-    package: Object<'a>,
+    json: Object<'a>,
     members: &IndexSet<&str>,
     root: Utf8Path<'_>,
-) -> Result<Package<'a>, Misfit> {
-    let alloc = package.alloc;
-    let id = package.text("id")?;
-    let declared = declared_dependencies(alloc, package.items("dependencies")?)?;
-    let mut record = bare_record(package, members, root)?;
-    describe(&mut record, package)?;
-    fill(&mut record, package)?;
-    record.optional_deps = optional_names(alloc, declared.as_slice())?;
+) -> Result<Package<'a>, Misfit>
+    ensures { IfOk result (λ made. IsPackage (data_of json.entry) made.record) }
+{
+    let alloc = json.alloc;
+    let id = json.text("id")?;
+    let declared = declared_dependencies(alloc, json.items("dependencies")?)?;
+    let mut record = bare_record(json, members, root)?;
+    describe(&mut record, json)?;
+    fill(&mut record, json, declared.as_slice())?;
     Ok(Package {
         id,
         record,
@@ -175,11 +196,14 @@ pub(crate) fn packages_of<'a>(
     items: &'a [Value],
     members: &IndexSet<&str>,
     root: Utf8Path<'_>,
-) -> Result<Vec<Package<'a>>, Misfit> {
+) -> Result<Vec<Package<'a>>, Misfit>
+    ensures { IfOk result
+        (λ packages. AllZip IsPackage (map view items.now) (map (λ p. p.record) packages.items)) }
+{
     let mut packages = Vec::with_capacity(alloc, items.len())?;
     for (index, item) in items.iter().enumerate() {
-        let package = Object::of_item(alloc, "packages", index, item)?;
-        match package_of(package, members, root) {
+        let json = Object::of_item(alloc, "packages", index, item)?;
+        match package_of(json, members, root) {
             Ok(package) => packages.push(package)?,
             Err(fault) => return Err(fault.within_item(alloc, "packages", index)),
         }
@@ -203,7 +227,9 @@ pub(crate) fn positions_of<'a>(
 pub(crate) fn package_records(
     alloc: Global,
     packages: Vec<Package<'_>>,
-) -> Result<Vec<PackageRecord>, AllocError> {
+) -> Result<Vec<PackageRecord>, AllocError>
+    ensures { IfOk result (λ records. records.items ≡ map (λ p. p.record) packages.entry.items) }
+{
     let mut records = Vec::with_capacity(alloc, packages.len())?;
     for package in packages {
         let Package {

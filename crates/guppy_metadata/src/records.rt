@@ -1,7 +1,12 @@
 //! All records.
-ghost use Rattle.std.specs.Prelude.{◌≡◌, None, IsSome, IfOk, OnOk, IfErr};
+ghost use Rattle.std.specs.Prelude.{◌≡◌, None, Some, IsSome, IsSomeAnd, IfOk, OnOk, IfErr, map};
 ghost use Rattle.serde_json.specs.Read.{read};
+ghost use Rattle.serde_json.specs.View.{view};
 ghost use Rattle.guppy_metadata.specs.Fault.{IsNotJson};
+ghost use Rattle.guppy_metadata.specs.Links.{AreLinks, AreLinksOfAll, AreNodes};
+ghost use Rattle.guppy_metadata.specs.Members.{data_of};
+ghost use Rattle.guppy_metadata.specs.Package.{ArePackages};
+ghost use Rattle.guppy_metadata.specs.Workspace.{IsWorkspace};
 
 use crate::fault::{MetadataFault, Misfit};
 use crate::link::{Packages, links_of};
@@ -50,7 +55,7 @@ impl Records {
 
 // The value that the JSON is.
 fn value_of(alloc: Global, json: &str) -> Result<Value, MetadataFault>
-    ensures json { OnOk result (IsSome (read json.now)) }
+    ensures json { IfOk result (λ value. read json.now ≡ Some (view value)) }
     ensures no_json { IfErr result (λ fault. IsNotJson fault → read json.now ≡ None) }
 {
     match Value::from_str(alloc, json) {
@@ -61,7 +66,9 @@ fn value_of(alloc: Global, json: &str) -> Result<Value, MetadataFault>
 }
 
 // The nodes of the resolved dependencies.
-fn nodes_of(metadata: Object<'_>) -> Result<&[Value], Misfit> {
+fn nodes_of(metadata: Object<'_>) -> Result<&[Value], Misfit>
+    ensures { IfOk result (λ nodes. AreNodes (data_of metadata.entry) (map view nodes.now)) }
+{
     if metadata.optional("resolve").is_none() {
         return Err(Misfit::NotResolved);
     }
@@ -78,7 +85,9 @@ fn links_between(
     packages: &[Package<'_>],
     members: &[&str],
     nodes: &[Value],
-) -> Result<Vec<LinkRecord>, Misfit> {
+) -> Result<Vec<LinkRecord>, Misfit>
+    ensures { IfOk result (λ links. AreLinksOfAll (map view nodes.now) links.items) }
+{
     let positions = positions_of(alloc, packages)?;
     check_members(alloc, members, &positions)?;
     let known = Packages {
@@ -96,13 +105,20 @@ fn packages_in<'a>(
     metadata: Object<'a>,
     members: &[&str],
     root: Utf8Path<'_>,
-) -> Result<Vec<Package<'a>>, Misfit> {
+) -> Result<Vec<Package<'a>>, Misfit>
+    ensures { IfOk result
+        (λ packages. ArePackages (data_of metadata.entry) (map (λ p. p.record) packages.items)) }
+{
     let alloc = metadata.alloc;
     let members = set_of(alloc, members)?;
     packages_of(alloc, metadata.items("packages")?, &members, root)
 }
 
-fn records_in(metadata: Object<'_>) -> Result<Records, Misfit> {
+fn records_in(metadata: Object<'_>) -> Result<Records, Misfit>
+    ensures packages { IfOk result (λ r. ArePackages (data_of metadata.entry) r.packages.items) }
+    ensures links { IfOk result (λ r. AreLinks (data_of metadata.entry) r.links.items) }
+    ensures workspace { IfOk result (λ r. IsWorkspace (data_of metadata.entry) r.workspace) }
+{
     let alloc = metadata.alloc;
     let nodes = nodes_of(metadata)?;
     let workspace = workspace_record(metadata)?;
@@ -126,6 +142,12 @@ fn records_in(metadata: Object<'_>) -> Result<Records, Misfit> {
 /// memory for what the text says and for the records.
 pub fn records_of(alloc: Global, json: &str) -> Result<Records, MetadataFault>
     ensures json { OnOk result (IsSome (read json.now)) }
+    ensures packages { IfOk result
+        (λ r. IsSomeAnd (read json.now) (λ d. ArePackages d r.packages.items)) }
+    ensures links { IfOk result
+        (λ r. IsSomeAnd (read json.now) (λ d. AreLinks d r.links.items)) }
+    ensures workspace { IfOk result
+        (λ r. IsSomeAnd (read json.now) (λ d. IsWorkspace d r.workspace)) }
     ensures no_json { IfErr result (λ fault. IsNotJson fault → read json.now ≡ None) }
 {
     let value = value_of(alloc, json)?;

@@ -1,4 +1,9 @@
 //! The workspace and its members.
+ghost use Rattle.std.specs.Prelude.{◌≡◌, ℕ, List, IfOk, Some, map, codes};
+ghost use Rattle.serde_json.specs.Data.{string};
+ghost use Rattle.serde_json.specs.Find.{get};
+ghost use Rattle.guppy_metadata.specs.Members.{data_of};
+ghost use Rattle.guppy_metadata.specs.Workspace.{IsBuildDirectory, IsWorkspace};
 
 use crate::fault::{Misfit, TextFault};
 use crate::object::{Object, texts_of};
@@ -7,7 +12,9 @@ use indexmap::{IndexMap, IndexSet};
 use std::alloc::{AllocError, Global};
 
 // The IDs that these texts are.
-fn ids_of(alloc: Global, texts: &[&str]) -> Result<Vec<PackageId>, AllocError> {
+fn ids_of(alloc: Global, texts: &[&str]) -> Result<Vec<PackageId>, AllocError>
+    ensures { IfOk result (λ ids. ids.items ≡ map (λ text. text.now) texts.now) }
+{
     let mut ids = Vec::with_capacity(alloc, texts.len())?;
     for text in texts {
         ids.push(PackageId::new(String::from_str(alloc, text)?))?;
@@ -16,7 +23,11 @@ fn ids_of(alloc: Global, texts: &[&str]) -> Result<Vec<PackageId>, AllocError> {
 }
 
 // The path that Cargo builds on its way into, where it is another one than the target directory.
-fn build_directory(metadata: Object<'_>) -> Result<Option<Utf8PathBuf>, Misfit> {
+fn build_directory(metadata: Object<'_>) -> Result<Option<Utf8PathBuf>, Misfit>
+    ensures { IfOk result (λ path. (target : List ℕ)
+        → get (codes "target_directory") (data_of metadata.entry) ≡ Some (string target)
+        → IsBuildDirectory (data_of metadata.entry) target path) }
+{
     let Some(path) = metadata.optional_text("build_directory")? else {
         return Ok(None);
     };
@@ -28,7 +39,9 @@ fn build_directory(metadata: Object<'_>) -> Result<Option<Utf8PathBuf>, Misfit> 
 }
 
 /// The record of the workspace.
-pub(crate) fn workspace_record(metadata: Object<'_>) -> Result<WorkspaceRecord, Misfit> {
+pub(crate) fn workspace_record(metadata: Object<'_>) -> Result<WorkspaceRecord, Misfit>
+    ensures { IfOk result (IsWorkspace (data_of metadata.entry)) }
+{
     let alloc = metadata.alloc;
     let root = Utf8PathBuf::new(metadata.copied_text("workspace_root")?);
     let target_directory = Utf8PathBuf::new(metadata.copied_text("target_directory")?);

@@ -1,0 +1,39 @@
+-- What a JSON object says by its members.
+use Rattle.std.specs.Prelude.{◌≡◌, ◌⊎◌, ℕ, List, [], Option, Some, None, map, option_map, option_and_then}
+use Rattle.serde_json.specs.Data.{Data, null, boolean, number, string, array, object}
+use Rattle.serde_json.specs.Find.{get}
+use Rattle.serde_json.specs.View.{view, items_of}
+use Rattle.guppy_metadata.specs.declared.object.Object.{Object}
+
+-- the value of an object
+abbrev pub data_of : Object → Data
+data_of o = view o.value.now
+
+abbrev pub unless_null : Data → Option Data
+unless_null null = None
+unless_null (boolean b) = Some (boolean b)
+unless_null (number n) = Some (number n)
+unless_null (string s) = Some (string s)
+unless_null (array ds) = Some (array ds)
+unless_null (object ms) = Some (object ms)
+
+-- the member of this name, where there is one that isn't null
+abbrev pub present : List ℕ → Data → Option Data
+present name d = option_and_then unless_null (get name d)
+
+-- this is the text in the member of this name, where there is one that isn't null
+abbrev pub IsText : List ℕ → Data → Option (List ℕ) → Type 0
+IsText name d text = present name d ≡ option_map string text
+
+-- the list of these texts
+abbrev pub list_of : List (List ℕ) → Data
+list_of texts = array (items_of (map string texts))
+
+-- these are the items of the list in the member of this name; none where there is no list
+abbrev pub AreItems : List ℕ → Data → List Data → Type 0
+AreItems name d items = (present name d ≡ Some (array (items_of items)))
+    ⊎ ((present name d ≡ None) × (items ≡ []))
+
+-- these are the texts of the list in the member of this name; none where there is no list
+abbrev pub AreTexts : List ℕ → Data → List (List ℕ) → Type 0
+AreTexts name d texts = AreItems name d (map string texts)
