@@ -66,11 +66,13 @@ impl Hints {
         Ok(hints)
     }
 
-    // The first of the places that one of the ID's hashes names.
+    // The first of the places that one of the ID's hashes names: it lies as far into the table as the hash lies into all
+    // numbers, since to multiply takes a tenth of the time that a division takes.
     fn first_place(&self, id: &str, factor: usize) -> usize
         ensures { result + 4 < length self.now.table.items }
     {
-        hash_of(id, factor) % (self.table.len() - TRIES)
+        let (_, place) = hash_of(id, factor).carrying_mul(self.table.len() - TRIES, 0);
+        place
     }
 
     // Puts the position at the first of the places of the hash that is free, and tells whether there is one.

@@ -1,6 +1,8 @@
 //! The records that the lines of an input say.
-ghost use Rattle.std.specs.Prelude.{◌≡◌, [], ◌∷◌, IfOk, OnOk};
+ghost use Rattle.std.specs.Prelude.{◌≡◌, ◌++◌, [], ◌∷◌, string_bytes, IfOk, OnOk};
 ghost use Rattle.guppy_data.specs.Records.{IsRequired};
+ghost use Rattle.guppy_data.specs.declared.records.LinkRecord.{LinkRecord};
+ghost use Rattle.guppy_data.specs.declared.records.PackageRecord.{PackageRecord};
 ghost use Rattle.guppy_input.specs.Records.{IsPackageOf, IsLinkOf, IsWorkspace, status_in};
 ghost use Rattle.guppy_input.specs.Shown.{statement_shown};
 
@@ -33,16 +35,22 @@ fn path_of(alloc: Global, text: &str) -> Result<Utf8PathBuf, AllocError>
     Ok(Utf8PathBuf::new(String::from_str(alloc, text)?))
 }
 
-// The record of the package with this ID.
-fn package_record(alloc: Global, id: &str) -> Result<PackageRecord, AllocError>
-    ensures { IfOk result (IsPackageOf id.now) }
+// Adds the record of the package with this ID. Its texts are copied first, so that the record, of a thousand bytes, is made
+// in its place and not moved through results.
+fn push_package(
+    packages: &mut Vec<PackageRecord>,
+    alloc: Global,
+    id: &str,
+) -> Result<(), AllocError>
+    ensures { OnOk result ((made : PackageRecord)
+        × (packages.new.items ≡ packages.old.items ++ made ∷ []) × IsPackageOf id.now made) }
 {
     let name = String::from_str(alloc, id)?;
     let path = path_of(alloc, id)?;
     let id = id_of(alloc, id)?;
     let manifest_path = path_of(alloc, "Cargo.toml")?;
     let edition = String::from_str(alloc, "2021")?;
-    Ok(PackageRecord::new(
+    packages.push(PackageRecord::new(
         alloc,
         id,
         name,
@@ -50,7 +58,8 @@ fn package_record(alloc: Global, id: &str) -> Result<PackageRecord, AllocError>
         PackageSourceRecord::Workspace(path),
         manifest_path,
         edition,
-    ))
+    ))?;
+    Ok(())
 }
 
 // What a line that names one section asks for in another, or in the same one.
@@ -68,25 +77,51 @@ fn section_requirement(
     }
 }
 
-// The record of the link from one package to another in this section.
+// The record of the link with these ends and names in this section.
 fn link_record(
+    alloc: Global,
+    from: PackageId,
+    to: PackageId,
+    dep_name: String,
+    resolved_name: String,
+    section: DependencyKind,
+) -> LinkRecord
+    requires dep_name { string_bytes dep_name ≡ to }
+    requires resolved_name { string_bytes resolved_name ≡ to }
+    ensures { IsLinkOf (record { from = from; to = to; section = section }) result }
+{
+    LinkRecord {
+        from,
+        to,
+        dep_name,
+        resolved_name,
+        version_req: VersionReq::star(alloc),
+        registry: None,
+        path: None,
+        normal: section_requirement(alloc, section, DependencyKind::Normal),
+        build: section_requirement(alloc, section, DependencyKind::Build),
+        dev: section_requirement(alloc, section, DependencyKind::Development),
+    }
+}
+
+// Adds the record of the link from one package to another in this section. Its texts are copied first, as those of a package
+// are.
+fn push_link(
+    links: &mut Vec<LinkRecord>,
     alloc: Global,
     from: &str,
     to: &str,
     section: DependencyKind,
-) -> Result<LinkRecord, AllocError>
-    ensures { IfOk result (IsLinkOf (record { from = from.now; to = to.now; section = section })) }
+) -> Result<(), AllocError>
+    ensures { OnOk result ((made : LinkRecord) × (links.new.items ≡ links.old.items ++ made ∷ [])
+        × IsLinkOf (record { from = from.now; to = to.now; section = section }) made) }
 {
     let from = id_of(alloc, from)?;
     let dep_name = String::from_str(alloc, to)?;
     let resolved_name = String::from_str(alloc, to)?;
     let to = id_of(alloc, to)?;
-    let any = VersionReq::star(alloc);
-    let mut link = LinkRecord::new(alloc, from, to, dep_name, resolved_name, any);
-    link.normal = section_requirement(alloc, section, DependencyKind::Normal);
-    link.build = section_requirement(alloc, section, DependencyKind::Build);
-    link.dev = section_requirement(alloc, section, DependencyKind::Development);
-    Ok(link)
+    links.push(link_record(alloc, from, to, dep_name, resolved_name, section))?;
+    Ok(())
 }
 
 // The record of the workspace, which no line speaks of.
@@ -120,13 +155,9 @@ impl Records {
             (AddsStatements self.old self.new (statement_shown statement.entry ∷ [])) }
     {
         match statement {
-            Statement::Package(id) => {
-                let package = package_record(alloc, id)?;
-                self.packages.push(package)?;
-            }
+            Statement::Package(id) => push_package(&mut self.packages, alloc, id)?,
             Statement::Link(from, to, section) => {
-                let link = link_record(alloc, from, to, section)?;
-                self.links.push(link)?;
+                push_link(&mut self.links, alloc, from, to, section)?
             }
         }
         Ok(())
