@@ -1,4 +1,4 @@
-ghost use Rattle.std.specs.Prelude.{◌≡◌, ◌⊎◌, ◌↔◌, ℕ, ◌<◌, ◌≤◌, ◌+◌, ◌^◌, Bool, true, false, List, length, OnOk};
+ghost use Rattle.std.specs.Prelude.{◌≡◌, ◌⊎◌, ◌↔◌, ℕ, ◌<◌, ◌≤◌, ◌+◌, ◌^◌, Bool, true, false, List, [], length, OnOk};
 ghost use Rattle.guppy_search.specs.declared.ix.direction.DependencyDirection.TheVariants.{Reverse};
 ghost use Rattle.guppy_search.specs.IxSet.{IsIn};
 ghost use Rattle.guppy_core.specs.Mark.{Marks};
@@ -34,20 +34,23 @@ fn claim_one<G: GraphSpec>(
 }
 
 /// Gives the number to the start, and to each position without a number that links lead from to
-/// the start.
+/// the start. The stack is lent empty, and left empty.
 pub(crate) fn claim<G: GraphSpec>(
     graph: &mut CountedGraph<'_, G>,
     seen: &mut IxSet<G>,
     numbers: &mut Vec<usize>,
+    stack: &mut Vec<usize>,
     start: usize,
     number: usize,
 ) -> Result<(), AllocError>
+    requires empty { stack.old.items ≡ [] }
     requires limit { length seen.old ≡ length graph.old.graph.nodes }
     requires count { length numbers.old.items ≡ length graph.old.graph.nodes }
     requires start { start < length graph.old.graph.nodes }
     requires small { length graph.old.graph.nodes < 2 ^ 32 }
     requires closed { IsClosed (LinkStep Reverse graph.old.graph.links) seen.old }
     requires room { graph.old.looks + links_left Reverse graph.old.graph.links seen.old < 2 ^ 64 }
+    ensures empty { OnOk result (stack.new.items ≡ []) }
     ensures limit { OnOk result (length seen.new ≡ length graph.old.graph.nodes) }
     ensures count { OnOk result (length numbers.new.items ≡ length graph.old.graph.nodes) }
     ensures seen { OnOk result ((q : ℕ) → IsIn seen.new q
@@ -60,12 +63,11 @@ pub(crate) fn claim<G: GraphSpec>(
         seen.old }
     ensures graph { graph.new.graph ≡ graph.old.graph }
 {
-    let mut stack = Vec::new(graph.alloc());
-    claim_one(seen, numbers, &mut stack, start, number)?;
+    claim_one(seen, numbers, stack, start, number)?;
     while let Some(position) = stack.pop() {
         for k in 0..graph.leaving_at(position, DependencyDirection::Reverse) {
             let (_number, far, _edge) = graph.look_at(position, DependencyDirection::Reverse, k);
-            claim_one(seen, numbers, &mut stack, far, number)?;
+            claim_one(seen, numbers, stack, far, number)?;
         }
     }
     Ok(())

@@ -37,10 +37,11 @@ pub(crate) fn number_components<G: GraphSpec>(
     order.reverse();
     let mut numbers = vec![in alloc; 0; limit]?;
     let mut seen = IxSet::<G>::empty(alloc, limit)?;
+    let mut stack = Vec::new(alloc);
     let mut count = 0;
     for root in &order {
         if !seen.has_position(*root) {
-            claim(graph, &mut seen, &mut numbers, *root, count)?;
+            claim(graph, &mut seen, &mut numbers, &mut stack, *root, count)?;
             count += 1;
         }
     }

@@ -1,6 +1,7 @@
 use Rattle.std.proofs.Common.{arith, ◌≡◌, ◌+◌, ◌<◌, true, length, [], refl, Some}
 use Rattle.std.specs.Prelude.{slice_get}
 use Rattle.guppy_search.proofs.Exits.{on_ok}
+use Rattle.guppy_search.proofs.Lists.{no_items}
 use Rattle.guppy_search.specs.Reach.{Step}
 use Rattle.guppy_search.specs.declared.ix.direction.DependencyDirection.TheVariants.{Reverse}
 use Rattle.guppy_core.proofs.Costs.{degree, owed, owed-mark, owed-pop, row_paid, row_room, fits_below, one_more}
@@ -37,7 +38,7 @@ pub loop-position-init : goal.loop-position-init
 loop-position-init g c =
     let graph = c.args.graph.now.graph in
     let R = Step {E = g.row.G-Edge.Denot} Reverse (λ _. true) graph.links in
-    let marks = rw c.new-stack.ensures.items at c.in_ok-claim_one.ensures.marks in
+    let marks = rw c.requires.empty at c.in_ok-claim_one.ensures.marks in
     let limit = c.requires.limit in
     let below : c.args.start < length c.args.seen.now = let s = c.requires.start in omega arith in
     let kept = owed-mark (degree {E = g.row.G-Edge.Denot} Reverse graph.links) c.args.start c.args.seen.now [] c.claim_one.new.seen c.claim_one.new.stack.items below marks in
@@ -141,6 +142,11 @@ look_at-number-requires-clause-place g c =
     let len = row g at in
     rw (c.loop-k.invariant.graph, ← len) c.loop-k-test.true
 
+pub returns-clause-empty : goal.returns-clause-empty
+returns-clause-empty g c =
+    let none = c.in_default.ensures.cases.1 in
+    no_items c.pop.new.self.items (let ok = c.pop.new.self.ok in omega arith)
+
 pub returns-clause-limit : goal.returns-clause-limit
 returns-clause-limit g c = c.loop-position.invariant.numbering.limit
 
@@ -166,7 +172,7 @@ returns-clause-graph g c = c.loop-position.invariant.graph
 pub returns-in_err-claim_one : goal.returns-in_err-claim_one
 returns-in_err-claim_one g c =
     let none = c.from_residual.ensures.0 in
-    record { limit = on_ok _ _ none; count = on_ok _ _ none; seen = on_ok _ _ none; numbers = on_ok _ _ none; paid = on_ok _ _ none; looks = omega arith; graph = refl }
+    record { empty = on_ok _ _ none; limit = on_ok _ _ none; count = on_ok _ _ none; seen = on_ok _ _ none; numbers = on_ok _ _ none; paid = on_ok _ _ none; looks = omega arith; graph = refl }
 
 pub returns-in_err-claim_one-2 : goal.returns-in_err-claim_one-2
 returns-in_err-claim_one-2 g c =
@@ -174,6 +180,7 @@ returns-in_err-claim_one-2 g c =
     let at = (goal.at.returns-in_err-claim_one-2 g c).After-leaving_at-k-end in
     let len = row g at in
     record {
+      empty = on_ok _ _ none;
       limit = on_ok _ _ none;
       count = on_ok _ _ none;
       seen = on_ok _ _ none;

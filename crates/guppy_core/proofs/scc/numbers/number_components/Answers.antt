@@ -34,6 +34,7 @@ loop-root-init g c =
     let looked = c.in_ok-order.ensures.looks in
     rw (c.in_ok-seen.ensures, zeros) (record {
       numbering = second_none _ _ (step_back {E = g.row.G-Edge.Denot} (λ _. true) graph.links) (step_forth {E = g.row.G-Edge.Denot} (λ _. true) graph.links) (length graph.nodes) c.deref-root-items.result.now (replicate c.node_count-limit.result false) (replicate c.node_count-limit.result 0) (length-replicate c.node_count-limit.result false ∙ count) (length-replicate c.node_count-limit.result 0 ∙ count) (has-replicate c.node_count-limit.result);
+      empty = c.new-stack.ensures.items;
       graph = c.in_ok-order.ensures.graph;
       paid = omega arith;
     })
@@ -88,15 +89,17 @@ loop-root-preserved g c =
           let adds = rw (c.loop-root.invariant.graph, dq) at w.in_ok-claim.ensures.seen in
           let cost = rw c.loop-root.invariant.graph at w.in_ok-claim.ensures.paid in
           let paid = c.loop-root.invariant.paid in
-          rw (w.seen-is, w.numbers-is, w.count-is, w.graph-is, dq) (record {
+          rw (w.seen-is, w.numbers-is, w.stack-is, w.count-is, w.graph-is, dq) (record {
             numbering = second_more R B back forth n _ F c.in_ok-order.ensures.order all c.loop-root.root-index c.loop-root.seen c.loop-root.numbers.items c.loop-root.count s (get_or (reverse F) c.loop-root.root-index 0) at lacks w.claim.new.seen w.claim.new.numbers.items limit count adds w.in_ok-claim.ensures.numbers;
+            empty = w.in_ok-claim.ensures.empty;
             graph = w.in_ok-claim.ensures.graph ∙ c.loop-root.invariant.graph;
             paid = omega arith;
           })
       | else-not-has_position w ↦
           let here = rw dq at (sym c.has_position.ensures.value ∙ w.if-not-has_position.false) in
-          rw (w.seen-is, w.numbers-is, w.count-is, w.graph-is, dq) (record {
+          rw (w.seen-is, w.numbers-is, w.stack-is, w.count-is, w.graph-is, dq) (record {
             numbering = second_skipped R B back forth n _ F c.in_ok-order.ensures.order all c.loop-root.root-index c.loop-root.seen c.loop-root.numbers.items c.loop-root.count s (get_or (reverse F) c.loop-root.root-index 0) at here;
+            empty = c.loop-root.invariant.empty;
             graph = c.loop-root.invariant.graph;
             paid = c.loop-root.invariant.paid;
           })
