@@ -51,7 +51,6 @@ pub use Rattle.guppy_core.specs.Topo
 pub use Rattle.guppy_core.specs.Mark
 pub use Rattle.guppy_core.specs.Claim
 pub use Rattle.guppy_core.specs.Components
-pub use Rattle.guppy_core.specs.Held
 pub use Rattle.guppy_core.specs.Sccs
 pub use Rattle.guppy_core.specs.Order
 pub use Rattle.guppy_core.specs.Roots

@@ -1,40 +1,13 @@
 -- A list cut into parts.
-use Rattle.std.proofs.Common.{◌≡◌, ℕ, suc, ◌+◌, ◌-◌, ◌<◌, ◌≤◌, List, [], ◌∷◌, ◌++◌, length, get_or, take, drop, refl, sym, ap, ◌∙◌, subst, length-append, arith, ⊎_elim, None}
+use Rattle.std.proofs.Common.{◌≡◌, ℕ, suc, ◌+◌, ◌-◌, ◌<◌, ◌≤◌, List, [], ◌∷◌, ◌++◌, length, get_or, take, drop, refl, sym, ap, ◌∙◌, subst, arith, ⊎_elim, None}
 use Rattle.std.specs.Prelude.{slice_index, slice_get, map}
 use Rattle.std.specs.List.{slice_range, concat}
 use Rattle.std.proofs.lemmas.Bool.{cases_lt}
-use Rattle.std.proofs.lemmas.List.{take_more, map_push, take-map, drop-map, append-nil, take-append-le, drop-append-le, length-drop, get_or_append_left, get_or_default, get_or_push, length_push}
+use Rattle.std.proofs.lemmas.List.{take-map, drop-map, length-drop, get_or_append_left, get_or_default, get_or_push, length_push}
 use Rattle.std.proofs.lemmas.Option.{slice_get-get_or}
-use Rattle.std.specs.declared.vec.Vec.{Vec}
-use Rattle.std.specs.declared.alloc.Global.{Global}
-use Rattle.std.proofs.lemmas.List.Folds.{concat-append}
+use Rattle.std.proofs.lemmas.List.Folds.{drop_split}
 use Rattle.guppy_search.proofs.Lists.{no_items}
-use Rattle.guppy_core.specs.Held.{items_of}
 use Rattle.guppy_core.specs.Sccs.{parts, parts_from, AreBounds, IsCut}
-
-module _ {X : Type 0} (xs ys : List X) where
-  range_left : (a b : ℕ) → b ≤ length xs → a ≤ b → slice_range (xs ++ ys) a b ≡ slice_range xs a b
-  range_left a b h le =
-      let front = drop-append-le a xs ys (let l = h in omega arith) in
-      let len = length-drop a xs in
-      ap (take (b - a)) front ∙ take-append-le (b - a) (drop a xs) ys (omega arith)
-
-drop_joined : {X : Type 0} (xs ys : List X) → drop (length xs) (xs ++ ys) ≡ ys
-drop_joined [] ys = refl
-drop_joined (x ∷ xs) ys = drop_joined xs ys
-
-take_whole : {X : Type 0} (ys : List X) → take (length ys) ys ≡ ys
-take_whole [] = refl
-take_whole (y ∷ ys) = ap (λ l. y ∷ l) (take_whole ys)
-
-range_right : {X : Type 0} (xs ys : List X) (a n : ℕ) → a ≡ length xs → n ≡ length xs + length ys → slice_range (xs ++ ys) a n ≡ ys
-range_right xs ys a n e f =
-    let k : n - a ≡ length ys = omega arith in
-    rw (k, e) (ap (take (length ys)) (drop_joined xs ys) ∙ take_whole ys)
-
-last_at : (xs : List ℕ) (n : ℕ) → get_or (xs ++ n ∷ []) (length xs) 0 ≡ n
-last_at [] n = refl
-last_at (x ∷ xs) n = last_at xs n
 
 bounds_rest : (a : ℕ) (bounds : List ℕ) (n : ℕ) → AreBounds (a ∷ bounds) n → AreBounds bounds n
 bounds_rest a bounds n up c h =
@@ -43,60 +16,17 @@ bounds_rest a bounds n up c h =
     let low : slice_index bounds c ≤ slice_index (a ∷ bounds) (suc c + 1) = next.0 in
     (subst (λ k. slice_index bounds c ≤ slice_index (a ∷ bounds) k) e low, subst (λ k. slice_index (a ∷ bounds) k ≤ n) e next.1)
 
-module _ {X : Type 0} (xs ys : List X) (n : ℕ) (n_is : n ≡ length xs + length ys) where
-  parts_from-push : (a : ℕ) (bounds : List ℕ) → AreBounds (a ∷ bounds) (length xs) → slice_index (a ∷ bounds) (length bounds) ≡ length xs → parts_from a (bounds ++ n ∷ []) (xs ++ ys) ≡ parts_from a bounds xs ++ ys ∷ []
-  parts_from-push a [] up last = ap (λ l. l ∷ []) (range_right xs ys a n last n_is)
-  parts_from-push a (b ∷ bounds) up last =
+module _ (xs : List ℕ) where
+  parts_from-joined : (a : ℕ) (bounds : List ℕ) → AreBounds (a ∷ bounds) (length xs) → slice_index (a ∷ bounds) (length bounds) ≡ length xs → concat (parts_from a bounds xs) ≡ drop a xs
+  parts_from-joined a [] up last = sym (no_items (drop a xs) (let len = length-drop a xs in omega arith))
+  parts_from-joined a (b ∷ bounds) up last =
       let first = up 0 (omega arith) in
-      let rest = parts_from-push b bounds (bounds_rest a (b ∷ bounds) (length xs) up) last in
-      rw (range_left xs ys a b first.1 first.0, rest) refl
+      ap (λ l. slice_range xs a b ++ l) (parts_from-joined b bounds (bounds_rest a (b ∷ bounds) (length xs) up) last) ∙ sym (drop_split xs a b first.0)
 
-  -- one more list behind is one more part
-  pub parts-push : (bounds : List ℕ) → IsCut xs bounds → parts (bounds ++ n ∷ []) (xs ++ ys) ≡ parts bounds xs ++ ys ∷ []
-  parts-push [] cut = absurd (let s = cut.some in omega arith)
-  parts-push (a ∷ bounds) cut = parts_from-push a bounds cut.climb (let e : length (a ∷ bounds) - 1 ≡ length bounds = omega arith in rw e at cut.last)
-
-  -- and the bounds still cut the list
-  pub cut-push : (bounds : List ℕ) → IsCut xs bounds → IsCut (xs ++ ys) (bounds ++ n ∷ [])
-  cut-push bounds cut =
-      let len = length-append bounds (n ∷ []) in
-      let total = length-append xs ys in
-      let some = cut.some in
-      let at_end : get_or (bounds ++ n ∷ []) (length bounds) 0 ≡ n = last_at bounds n in
-      record {
-        climb = λ c h. ⊎_elim
-            (λ less.
-            let old = cut.climb c less in
-            let e = get_or_append_left bounds (n ∷ []) 0 c (omega arith) in
-            let f = get_or_append_left bounds (n ∷ []) 0 (c + 1) less in
-            (let o = old.0 in omega arith, let o = old.1 in omega arith))
-            (λ ge.
-            let c_is : c ≡ length bounds - 1 = omega arith in
-            let next : c + 1 ≡ length bounds = omega arith in
-            let e = get_or_append_left bounds (n ∷ []) 0 c (omega arith) in
-            let f : get_or (bounds ++ n ∷ []) (c + 1) 0 ≡ n = rw next at_end in
-            let g : get_or bounds c 0 ≡ length xs = rw c_is cut.last in
-            (omega arith, omega arith))
-            (cases_lt (c + 1) (length bounds));
-        last =
-            let e : length (bounds ++ n ∷ []) - 1 ≡ length bounds = omega arith in
-            rw e (at_end ∙ omega arith);
-        some = omega arith;
-      }
-
--- one more list is laid behind the others
-module _ (lists : List (Vec ℕ Global)) (i : ℕ) (v : Vec ℕ Global) (within : i < length lists) (v_is : v ≡ get_or lists i v) where
-  one_more_list : map items_of (take (i + 1) lists) ≡ map items_of (take i lists) ++ v.items ∷ []
-  one_more_list = ap (map items_of) (take_more lists i v within ∙ ap (λ z. take i lists ++ z ∷ []) (sym v_is)) ∙ map_push items_of (take i lists) v
-
-  module _ (xs bounds : List ℕ) where
-    -- the next list was laid out, as the next part
-    pub laid-parts : (n : ℕ) → n ≡ length xs + length v.items → IsCut xs bounds → parts bounds xs ≡ map items_of (take i lists) → parts (bounds ++ n ∷ []) (xs ++ v.items) ≡ map items_of (take (i + 1) lists)
-    laid-parts n n_is cut are = parts-push xs v.items n n_is bounds cut ∙ (ap (λ z. z ++ v.items ∷ []) are ∙ sym one_more_list)
-
-    -- and behind the others
-    pub laid-joined : concat (map items_of (take i lists)) ≡ xs → concat (map items_of (take (i + 1) lists)) ≡ xs ++ v.items
-    laid-joined e = ap concat one_more_list ∙ (concat-append (map items_of (take i lists)) (v.items ∷ []) ∙ (ap (λ z. z ++ (v.items ++ [])) e ∙ ap (λ z. xs ++ z) (append-nil v.items)))
+  -- parts from the list's beginning on are the list
+  pub parts-joined : (bounds : List ℕ) → IsCut xs bounds → slice_index bounds 0 ≡ 0 → concat (parts bounds xs) ≡ xs
+  parts-joined [] cut begins = absurd (let s = cut.some in omega arith)
+  parts-joined (a ∷ bounds) cut begins = parts_from-joined a bounds cut.climb (let e : length (a ∷ bounds) - 1 ≡ length bounds = omega arith in rw e at cut.last) ∙ ap (λ z. drop z xs) begins
 
 -- the parts that an iterator gives next, from the front and from the back
 pub range-map : {X : Type 0} (f : X → ℕ) (xs : List X) (a b : ℕ) → slice_range (map f xs) a b ≡ map f (slice_range xs a b)

@@ -18,7 +18,6 @@ pub mod Topo
 pub mod Mark
 pub mod Claim
 pub mod Components
-pub mod Held
 pub mod Sccs
 pub mod Order
 pub mod Roots

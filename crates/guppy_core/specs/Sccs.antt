@@ -1,25 +1,26 @@
 -- The components as lists, and how they are laid out.
-use Rattle.std.specs.Prelude.{◌≡◌, ◌↔◌, ℕ, ◌+◌, ◌-◌, ◌<◌, ◌≤◌, List, [], ◌∷◌, length, reverse, Some, slice_get, slice_index}
+use Rattle.std.specs.Prelude.{◌≡◌, ◌↔◌, ℕ, ◌+◌, ◌-◌, ◌<◌, ◌≤◌, List, [], ◌∷◌, length, map, reverse, sum, take, Some, slice_get, slice_index}
 use Rattle.std.specs.List.{slice_range, concat}
 use Rattle.guppy_search.specs.declared.ix.direction.DependencyDirection.{DependencyDirection}
 use Rattle.guppy_search.specs.declared.ix.direction.DependencyDirection.TheVariants.{Forward, Reverse}
+use Rattle.guppy_search.specs.declared.graph_core.link.Link.{Link}
+use Rattle.guppy_search.specs.Links.{links_at}
 use Rattle.guppy_search.specs.Reach.{Mutual}
-use Rattle.guppy_core.specs.Listing.{Stands, StandsBefore, IsListing, Precedes}
+use Rattle.guppy_core.specs.Listing.{Stands, IsListing, Precedes}
 
 -- who stands first in the block stands first in the order
 abbrev pub KeepsOrder : List ℕ → List ℕ → Type 0
 KeepsOrder order block = (x y : ℕ) → Precedes block x y → Precedes order x y
 
--- the block with the number c: those before the place m of the order that have the number, in that
--- order
-pub record IsGroup (order numbers : List ℕ) (m c : ℕ) (block : List ℕ) : Type 0 where
-  pub members : (x : ℕ) → Stands block x ↔ (StandsBefore order m x × (slice_index numbers x ≡ c))
+-- the block with the number c: those of the order that have the number, in that order
+pub record IsGroup (order numbers : List ℕ) (c : ℕ) (block : List ℕ) : Type 0 where
+  pub members : (x : ℕ) → Stands block x ↔ (Stands order x × (slice_index numbers x ≡ c))
   pub keeps : KeepsOrder order block
 
 -- a block for each number below the count
-pub record AreGroups (order numbers : List ℕ) (count m : ℕ) (blocks : List (List ℕ)) : Type 0 where
+pub record AreGroups (order numbers : List ℕ) (count : ℕ) (blocks : List (List ℕ)) : Type 0 where
   pub count_is : length blocks ≡ count
-  pub group : (c : ℕ) (b : List ℕ) → slice_get blocks c ≡ Some b → IsGroup order numbers m c b
+  pub group : (c : ℕ) (b : List ℕ) → slice_get blocks c ≡ Some b → IsGroup order numbers c b
 
 -- both stand in one block
 abbrev pub InOneBlock : List (List ℕ) → ℕ → ℕ → Type 0
@@ -66,6 +67,30 @@ pub record IsCut {X : Type 0} (xs : List X) (bounds : List ℕ) : Type 0 where
   pub climb : AreBounds bounds (length xs)
   pub last : slice_index bounds (length bounds - 1) ≡ length xs
   pub some : 0 < length bounds
+
+-- the list is cut into parts that have all of it, for each number below the count those of the order
+-- that have the number
+pub record IsLaid (order numbers : List ℕ) (count : ℕ) (list bounds : List ℕ) : Type 0 where
+  pub groups : AreGroups order numbers count (parts bounds list)
+  pub joined : concat (parts bounds list) ≡ list
+  pub cut : IsCut list bounds
+
+-- the positions of the order, each as a link that leads to it from its number
+abbrev pub numbered_links : List ℕ → List ℕ → List (Link (Unit {0}))
+numbered_links numbers order =
+    map (λ x. record { from = slice_index numbers x; to = x; edge = tt }) order
+
+-- one place after each number below the count stands how many of the order have it
+pub record AreCounts (order numbers : List ℕ) (count : ℕ) (counts : List ℕ) : Type 0 where
+  pub count_is : length counts ≡ count + 1
+  pub first : slice_index counts 0 ≡ 0
+  pub own : (c : ℕ) → c < count
+      → slice_index counts (c + 1) ≡ length (links_at Forward (numbered_links numbers order) c)
+
+-- in each place stands the sum of the counts before it
+pub record AreSums (counts sums : List ℕ) : Type 0 where
+  pub count_is : length sums ≡ length counts
+  pub sum_is : (k : ℕ) → k < length counts → slice_index sums k ≡ sum (take k counts)
 
 -- each number below the length has its place in the blocks, where number says which block it is
 pub record AreNumbered (blocks : List (List ℕ)) (numbers : List ℕ) : Type 0 where

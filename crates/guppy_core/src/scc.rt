@@ -3,7 +3,6 @@
 mod claim;
 mod components;
 mod externals;
-mod group;
 mod iter;
 mod layout;
 mod numbers;

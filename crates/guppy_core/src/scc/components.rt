@@ -9,7 +9,6 @@ ghost use Rattle.guppy_core.specs.Order.{IsOrder};
 ghost use Rattle.guppy_core.specs.Roots.{AreRoots};
 
 use crate::scc::externals::{entered, unentered};
-use crate::scc::group::group;
 use crate::scc::iter::{AllSccs, NodeIter};
 use crate::scc::layout::{Layout, lay_out};
 use crate::scc::numbers::number_components;
@@ -71,8 +70,12 @@ impl<Ix: IndexType> Sccs<Ix> {
         let alloc = graph.alloc();
         let numbered = number_components(graph, topo.order())?;
         let numbers = numbered.numbers;
-        let blocks = group(alloc, topo.order(), numbers.as_slice(), numbered.count)?;
-        let Layout { positions, bounds } = lay_out(alloc, blocks.as_slice())?;
+        let Layout { positions, bounds } = lay_out(
+            alloc,
+            topo.order(),
+            numbers.as_slice(),
+            numbered.count,
+        )?;
         Ok(Sccs {
             positions,
             bounds,

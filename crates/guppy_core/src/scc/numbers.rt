@@ -27,6 +27,7 @@ pub(crate) fn number_components<G: GraphSpec>(
     ensures numbers { IfOk result
         (λ r. AreNumbers (LinkStep Forward graph.old.graph.links)
         (length graph.old.graph.nodes) r.numbers.items r.count) }
+    ensures few { IfOk result (λ r. r.count ≤ length graph.old.graph.nodes) }
     ensures small { IfOk result (λ _. length graph.old.graph.nodes < 2 ^ 32) }
     ensures looks { graph.new.looks ≤ graph.old.looks + 2 * length graph.old.graph.links }
     ensures graph { graph.new.graph ≡ graph.old.graph }

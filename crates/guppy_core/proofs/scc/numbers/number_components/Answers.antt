@@ -1,6 +1,7 @@
-use Rattle.std.proofs.Common.{arith, ◌≡◌, ◌<◌, ℕ, true, false, length, get_or, replicate, reverse, sym, ◌∙◌}
+use Rattle.std.proofs.Common.{arith, ◌≡◌, ◌<◌, ℕ, true, false, length, get_or, replicate, reverse, sym, ap, ◌∙◌}
 use Rattle.std.proofs.Math.ListN.{length-replicate}
-use Rattle.std.proofs.lemmas.Option.{slice_get-get_or}
+use Rattle.std.proofs.lemmas.List.{length-reverse}
+use Rattle.std.proofs.lemmas.Option.{slice_get-get_or, slice_get_within, get_or_from_slice_get}
 use Rattle.guppy_search.proofs.Exits.{if_ok}
 use Rattle.guppy_search.specs.Reach.{Step}
 use Rattle.guppy_search.specs.declared.ix.direction.DependencyDirection.TheVariants.{Forward, Reverse}
@@ -8,6 +9,7 @@ use Rattle.guppy_search.proofs.Walks.{step_back, step_forth}
 use Rattle.guppy_core.proofs.Costs.{owed_first, fits_below}
 use Rattle.guppy_search.proofs.Members.{has-replicate}
 use Rattle.guppy_core.proofs.Indexing.{reversed_below}
+use Rattle.guppy_core.proofs.Lengths.{length_of_once}
 use Rattle.guppy_core.proofs.Numbering.{second_none, second_skipped, second_more, second_all, all_finished}
 use Rattle.guppy_core.specs.Listing.{Stands}
 use Rattle.guppy_core.proofs.scc.numbers.number_components.Given.{Over}
@@ -113,6 +115,16 @@ returns-clause-numbers g c =
     let dq : c.deref-root-items.result.now ≡ reverse F = roots g before in
     second_all _ _ (step_back {E = g.row.G-Edge.Denot} (λ _. true) graph.links) (step_forth {E = g.row.G-Edge.Denot} (λ _. true) graph.links) (length graph.nodes) _ F c.in_ok-order.ensures.order (finished g before) c.loop-root.root-index c.loop-root.seen c.loop-root.numbers.items c.loop-root.count (rw dq at c.loop-root.invariant.numbering) (rw dq at c.loop-root-test.false)
 
+pub returns-clause-few : goal.returns-clause-few
+returns-clause-few g c =
+    let F = c.in_ok-order.order.items in
+    let before = (goal.at.returns-clause-few g c).After-deref-root-items in
+    let taken = c.loop-root.invariant.numbering.few in
+    let all = ap length (roots g before) ∙ length-reverse F in
+    let few = length_of_once (length c.args.graph.now.graph.nodes) F c.in_ok-order.ensures.order.once (λ i x at. rw (get_or_from_slice_get F i x 0 at) at (c.in_ok-order.ensures.positions i 0 (slice_get_within F i x at))) in
+    let end = c.loop-root.auto.root-index-end in
+    omega arith
+
 pub returns-clause-looks : goal.returns-clause-looks
 returns-clause-looks g c = let paid = c.loop-root.invariant.paid in omega arith
 
@@ -120,23 +132,23 @@ pub returns-in_err-order : goal.returns-in_err-order
 returns-in_err-order g c =
     let none = c.from_residual.ensures.0 in
     let looked = c.in_err-order.ensures.looks in
-    record { numbers = if_ok _ _ none; small = if_ok _ _ none; looks = omega arith; graph = c.in_err-order.ensures.graph }
+    record { numbers = if_ok _ _ none; few = if_ok _ _ none; small = if_ok _ _ none; looks = omega arith; graph = c.in_err-order.ensures.graph }
 
 pub returns-in_err-numbers : goal.returns-in_err-numbers
 returns-in_err-numbers g c =
     let none = c.from_residual-in_err-numbers.ensures.0 in
     let looked = c.in_ok-order.ensures.looks in
-    record { numbers = if_ok _ _ none; small = if_ok _ _ none; looks = omega arith; graph = c.in_ok-order.ensures.graph }
+    record { numbers = if_ok _ _ none; few = if_ok _ _ none; small = if_ok _ _ none; looks = omega arith; graph = c.in_ok-order.ensures.graph }
 
 pub returns-in_err-seen : goal.returns-in_err-seen
 returns-in_err-seen g c =
     let none = c.from_residual-in_err-seen.ensures.0 in
     let looked = c.in_ok-order.ensures.looks in
-    record { numbers = if_ok _ _ none; small = if_ok _ _ none; looks = omega arith; graph = c.in_ok-order.ensures.graph }
+    record { numbers = if_ok _ _ none; few = if_ok _ _ none; small = if_ok _ _ none; looks = omega arith; graph = c.in_ok-order.ensures.graph }
 
 pub returns-in_err-claim : goal.returns-in_err-claim
 returns-in_err-claim g c =
     let none = c.from_residual-in_err-claim.ensures.0 in
     let looked = rw c.loop-root.invariant.graph at c.in_err-claim.ensures.looks in
     let paid = c.loop-root.invariant.paid in
-    record { numbers = if_ok _ _ none; small = if_ok _ _ none; looks = omega arith; graph = c.in_err-claim.ensures.graph ∙ c.loop-root.invariant.graph }
+    record { numbers = if_ok _ _ none; few = if_ok _ _ none; small = if_ok _ _ none; looks = omega arith; graph = c.in_err-claim.ensures.graph ∙ c.loop-root.invariant.graph }
