@@ -1,2 +1,5 @@
+pub mod Among
+pub mod Dependencies
 pub mod Features
 pub mod Fitting
+pub mod Packages

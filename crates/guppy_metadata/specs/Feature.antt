@@ -1,9 +1,14 @@
 -- What the text of a feature switches on.
-use Rattle.std.specs.Prelude.{ℕ, Bool, true, false, List, ◌++◌, ◌≡◌, ◌≢◌, codes}
+use Rattle.std.specs.Prelude.{ℕ, Bool, true, false, List, ◌++◌, ◌≡◌, ◌≢◌, String, Vec, codes}
+use Rattle.std.specs.List.{AllZip}
+use Rattle.std.specs.declared.alloc.Global.{Global}
+use Rattle.serde_json.specs.View.{view}
+use Rattle.serde_json.specs.declared.value.Value.{Value}
 use Rattle.std.specs.String.{string_bytes}
 use Rattle.guppy_data.specs.ExternalSource.{Lacks, IsCutAt}
 use Rattle.guppy_data.specs.declared.texts.named_feature.NamedFeatureDep.{NamedFeatureDep}
 use Rattle.guppy_data.specs.declared.texts.named_feature.NamedFeatureDep.TheVariants.{NamedFeature, OptionalDependency, DependencyNamedFeature}
+use Rattle.guppy_metadata.specs.Members.{list_of}
 
 -- the text names this dependency, as a weak one where a `?` stands behind the name
 abbrev pub NamesDependency : List ℕ → List ℕ → Bool → Type 0
@@ -20,3 +25,10 @@ IsFeature text (OptionalDependency name) =
     Lacks (codes "/") text × (text ≡ codes "dep:" ++ string_bytes name)
 IsFeature text (NamedFeature name) = Lacks (codes "/") text
     × ((rest : List ℕ) → text ≢ codes "dep:" ++ rest) × (text ≡ string_bytes name)
+
+-- the feature that a member is: its name, and what the texts of its list switch on
+pub record IsNamedFeature (m : String Global × Value) (f : String Global × Vec NamedFeatureDep Global) : Type 0 where
+  pub name : string_bytes f.0 ≡ string_bytes m.0
+  pub texts : List (List ℕ)
+  pub texts_are : view m.1 ≡ list_of texts
+  pub switches_on : AllZip IsFeature texts f.1.items

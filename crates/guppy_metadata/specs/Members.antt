@@ -1,5 +1,9 @@
 -- What a JSON object says by its members.
-use Rattle.std.specs.Prelude.{◌≡◌, ◌⊎◌, ℕ, List, [], Option, Some, None, map, option_map, option_and_then}
+use Rattle.std.specs.Prelude.{◌≡◌, ◌⊎◌, ℕ, Bool, List, [], Option, Some, None, map, option_map, option_and_then}
+use Rattle.std.specs.Borrow.{Bor}
+use Rattle.std.specs.List.{list_any}
+use Rattle.std.specs.Str.{bytes_eq}
+use Rattle.indexmap.specs.IndexSet.{IndexSet, contains_by}
 use Rattle.serde_json.specs.Data.{Data, null, boolean, number, string, array, object}
 use Rattle.serde_json.specs.Find.{get}
 use Rattle.serde_json.specs.View.{view, items_of}
@@ -24,6 +28,18 @@ present name d = option_and_then unless_null (get name d)
 -- this is the text in the member of this name, where there is one that isn't null
 abbrev pub IsText : List ℕ → Data → Option (List ℕ) → Type 0
 IsText name d text = present name d ≡ option_map string text
+
+-- this is the truth value in the member of this name, or the default where there is none
+abbrev pub IsTruth : List ℕ → Data → Bool → Bool → Type 0
+IsTruth name d default truth = (present name d ≡ Some (boolean truth)) ⊎ ((present name d ≡ None) × (truth ≡ default))
+
+-- whether the text is one of these
+abbrev pub is_among : List (List ℕ) → List ℕ → Bool
+is_among texts text = list_any (bytes_eq text) texts
+
+-- whether the text is in the set
+abbrev pub is_in : {S : Type 0} → IndexSet (Bor (List ℕ)) S → List ℕ → Bool
+is_in set text = contains_by (λ key. bytes_eq text key.now) set
 
 -- the list of these texts
 abbrev pub list_of : List (List ℕ) → Data

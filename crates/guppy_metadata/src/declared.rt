@@ -1,6 +1,10 @@
 //! A dependency as a package declares it.
-ghost use Rattle.std.specs.Prelude.{◌≡◌, unwrap_or};
+ghost use Rattle.std.specs.Prelude.{◌≡◌, unwrap_or, map, IfOk};
+ghost use Rattle.std.specs.List.{AllZip};
 ghost use Rattle.std.specs.Option.{option_copied};
+ghost use Rattle.serde_json.specs.View.{view};
+ghost use Rattle.guppy_metadata.specs.Dependency.{IsDeclared, NamesOptional};
+ghost use Rattle.guppy_metadata.specs.Members.{data_of};
 
 use crate::fault::{Misfit, TextFault};
 use crate::object::{Object, requirement_of};
@@ -65,7 +69,9 @@ pub(crate) fn section_of(object: Object<'_>) -> Result<DependencyKind, Misfit> {
     }
 }
 
-fn declared_of(dependency: Object<'_>) -> Result<Declared<'_>, Misfit> {
+fn declared_of(dependency: Object<'_>) -> Result<Declared<'_>, Misfit>
+    ensures { IfOk result (IsDeclared (data_of dependency.entry)) }
+{
     let requirement = dependency.text("req")?;
     Ok(Declared {
         name: dependency.text("name")?,
@@ -85,7 +91,9 @@ fn declared_of(dependency: Object<'_>) -> Result<Declared<'_>, Misfit> {
 pub(crate) fn declared_dependencies(
     alloc: Global,
     items: &[Value],
-) -> Result<Vec<Declared<'_>>, Misfit> {
+) -> Result<Vec<Declared<'_>>, Misfit>
+    ensures { IfOk result (λ declared. AllZip IsDeclared (map view items.now) declared.items) }
+{
     let mut declared = Vec::with_capacity(alloc, items.len())?;
     for (index, item) in items.iter().enumerate() {
         let dependency = Object::of_item(alloc, "dependencies", index, item)?;
@@ -101,7 +109,9 @@ pub(crate) fn declared_dependencies(
 pub(crate) fn optional_names(
     alloc: Global,
     declared: &[Declared<'_>],
-) -> Result<IndexSet<String>, AllocError> {
+) -> Result<IndexSet<String>, AllocError>
+    ensures { IfOk result (NamesOptional declared.now) }
+{
     let mut names = IndexSet::new(alloc);
     for dependency in declared {
         if dependency.optional {

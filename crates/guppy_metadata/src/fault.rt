@@ -1,7 +1,7 @@
 //! Why there are no records, and where in the JSON.
 ghost use Rattle.std.specs.Prelude.{◌≡◌};
 ghost use Rattle.guppy_metadata.specs.declared.fault.Misfit.TheVariants.{OutOfMemory};
-ghost use Rattle.guppy_metadata.specs.Fault.{IsNotJson};
+ghost use Rattle.guppy_metadata.specs.Fault.{IsNotJson, IsNotResolved};
 
 use std::alloc::{AllocError, AllocFailed, Global};
 use std::fmt;
@@ -23,10 +23,9 @@ pub enum MetadataFault {
     OutOfMemory,
 }
 
-/// Why JSON says no records: a `MetadataFault`, but that the text is no JSON.
+/// Why JSON with resolved dependencies says no records: the other `MetadataFault`s.
 #[derive(Drop)]
 pub(crate) enum Misfit {
-    NotResolved,
     Missing(String),
     WrongKind(String, Kind),
     BadText(String, TextFault),
@@ -164,11 +163,10 @@ impl fmt::Display for TextFault {
 impl std::error::Error for MetadataFault {}
 
 impl From<Misfit> for MetadataFault {
-    ghost from_gives = { λ _ fault. ¬ IsNotJson fault };
+    ghost from_gives = { λ _ fault. ¬ IsNotJson fault × ¬ IsNotResolved fault };
 
     fn from(misfit: Misfit) -> Self {
         match misfit {
-            Misfit::NotResolved => MetadataFault::NotResolved,
             Misfit::Missing(place) => MetadataFault::Missing(place),
             Misfit::WrongKind(place, wanted) => MetadataFault::WrongKind(place, wanted),
             Misfit::BadText(place, why) => MetadataFault::BadText(place, why),

@@ -1,12 +1,18 @@
 //! Named features.
-ghost use Rattle.std.specs.Prelude.{◌≡◌, IfOk};
+ghost use Rattle.std.specs.Prelude.{◌≡◌, ◌++◌, [], ◌∷◌, ℕ, List, None, map, IfOk, OnOk};
+ghost use Rattle.std.specs.Map.{lookup};
+ghost use Rattle.std.specs.String.{string_eq};
+ghost use Rattle.std.specs.List.{AllZip};
+ghost use Rattle.serde_json.specs.View.{view};
 ghost use Rattle.guppy_data.specs.Texts.{named_feature_text};
-ghost use Rattle.guppy_metadata.specs.Feature.{NamesDependency, IsFeature};
+ghost use Rattle.guppy_metadata.specs.Feature.{NamesDependency, IsFeature, IsNamedFeature};
+ghost use Rattle.guppy_metadata.specs.Members.{list_of};
 
 use crate::fault::Misfit;
-use crate::object::{Object, items_of, texts_of};
+use crate::object::{items_of, texts_of};
 use guppy_data::NamedFeatureDep;
 use indexmap::IndexMap;
+use serde_json::{Map, Value};
 use std::alloc::{AllocError, Global};
 
 // The name of a dependency, and whether a `?` behind it says that it is a weak one.
@@ -45,7 +51,10 @@ pub(crate) fn feature_of(alloc: Global, text: &str) -> Result<NamedFeatureDep, A
 }
 
 // What each of these texts switches on.
-fn features_of(alloc: Global, texts: &[&str]) -> Result<Vec<NamedFeatureDep>, AllocError> {
+fn features_of(alloc: Global, texts: &[&str]) -> Result<Vec<NamedFeatureDep>, AllocError>
+    ensures { IfOk result
+        (λ features. AllZip IsFeature (map (λ text. text.now) texts.now) features.items) }
+{
     let mut features = Vec::with_capacity(alloc, texts.len())?;
     for text in texts {
         features.push(feature_of(alloc, text)?)?;
@@ -53,20 +62,40 @@ fn features_of(alloc: Global, texts: &[&str]) -> Result<Vec<NamedFeatureDep>, Al
     Ok(features)
 }
 
+// What the texts of the list in the member of this name switch on.
+fn switched_on(alloc: Global, name: &str, value: &Value) -> Result<Vec<NamedFeatureDep>, Misfit>
+    ensures { IfOk result (λ features. (texts : List (List ℕ)) × (view value.now ≡ list_of texts)
+        × AllZip IsFeature texts features.items) }
+{
+    let items = items_of(alloc, name, value)?;
+    let texts = texts_of(alloc, name, items)?;
+    Ok(features_of(alloc, texts.as_slice())?)
+}
+
+// Puts a feature behind the others, where none has its name.
+fn put(
+    named: &mut IndexMap<String, Vec<NamedFeatureDep>>,
+    name: String,
+    features: Vec<NamedFeatureDep>,
+) -> Result<(), AllocError>
+    requires { lookup (string_eq name) named.old.entries ≡ None }
+    ensures { OnOk result (named.new.entries ≡ named.old.entries ++ (name, features) ∷ []) }
+{
+    named.insert(name, features)?;
+    Ok(())
+}
+
 /// The named features that the members of an object are, in their order.
 pub(crate) fn named_features(
-    features: Object<'_>,
-) -> Result<IndexMap<String, Vec<NamedFeatureDep>>, Misfit> {
-    let alloc = features.alloc;
+    alloc: Global,
+    members: &Map<String, Value>,
+) -> Result<IndexMap<String, Vec<NamedFeatureDep>>, Misfit>
+    ensures { IfOk result (λ named. AllZip IsNamedFeature members.now.entries named.entries) }
+{
     let mut named = IndexMap::new(alloc);
-    let Some(members) = features.value.as_object() else {
-        return Ok(named);
-    };
     for (name, value) in members.iter() {
-        let items = items_of(alloc, name.as_str(), value)?;
-        let texts = texts_of(alloc, name.as_str(), items)?;
-        let switched_on = features_of(alloc, texts.as_slice())?;
-        named.insert(name.clone()?, switched_on)?;
+        let features = switched_on(alloc, name.as_str(), value)?;
+        put(&mut named, name.clone()?, features)?;
     }
     Ok(named)
 }

@@ -9,7 +9,7 @@ ghost use Rattle.guppy_metadata.specs.Members.{data_of};
 
 use crate::fault::{Kind, Misfit, TextFault};
 use semver::{Version, VersionReq};
-use serde_json::Value;
+use serde_json::{Map, Value};
 use std::alloc::{AllocError, Global};
 
 /// A JSON object, and the allocator that what is read of it is taken from.
@@ -134,10 +134,10 @@ pub(crate) fn requirement_of(alloc: Global, name: &str, text: &str) -> Result<Ve
 impl<'a> Object<'a> {
     ghost use Rattle.std.specs.Prelude.{◌≡◌, IfOk, Some, map, option_map, unwrap_or, string_bytes};
     ghost use Rattle.std.specs.Option.{option_copied};
-    ghost use Rattle.serde_json.specs.Data.{null, string, array};
+    ghost use Rattle.serde_json.specs.Data.{null, string, array, object};
     ghost use Rattle.serde_json.specs.Find.{get};
-    ghost use Rattle.serde_json.specs.View.{view, items_view};
-    ghost use Rattle.guppy_metadata.specs.Members.{data_of, present, IsText, AreItems, AreTexts};
+    ghost use Rattle.serde_json.specs.View.{view, items_view, members_view};
+    ghost use Rattle.guppy_metadata.specs.Members.{data_of, present, IsText, IsTruth, AreItems, AreTexts};
 
     /// The object that a value is.
     pub(crate) fn new(alloc: Global, value: &'a Value) -> Result<Self, Misfit>
@@ -272,8 +272,22 @@ impl<'a> Object<'a> {
         }
     }
 
+    /// The members of the object in the member of this name.
+    pub(crate) fn members(self, name: &str) -> Result<&'a Map<String, Value>, Misfit>
+        ensures { IfOk result (λ members. get name.now (data_of self.entry)
+            ≡ Some (object (members_view members.now.entries))) }
+    {
+        let value = self.required(name)?;
+        match value.as_object() {
+            Some(members) => Ok(members),
+            None => Err(Misfit::wrong_kind(self.alloc, name, Kind::Object)),
+        }
+    }
+
     /// The truth value in the member of this name, or `default` where there is none.
-    pub(crate) fn boolean(self, name: &str, default: bool) -> Result<bool, Misfit> {
+    pub(crate) fn boolean(self, name: &str, default: bool) -> Result<bool, Misfit>
+        ensures { IfOk result (IsTruth name.now (data_of self.entry) default) }
+    {
         let Some(value) = self.optional(name) else {
             return Ok(default);
         };

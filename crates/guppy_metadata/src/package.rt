@@ -1,10 +1,11 @@
 //! Packages.
-ghost use Rattle.std.specs.Prelude.{◌≡◌, IfOk, OnOk, map};
+ghost use Rattle.std.specs.Prelude.{◌≡◌, ℕ, Bool, List, IfOk, OnOk, map, string_bytes};
 ghost use Rattle.std.specs.List.{AllZip};
 ghost use Rattle.serde_json.specs.Data.{Data};
 ghost use Rattle.serde_json.specs.View.{view};
-ghost use Rattle.guppy_metadata.specs.Members.{data_of, IsText};
-ghost use Rattle.guppy_metadata.specs.Package.{IsNamed, IsDescribed, IsFilled, IsPackage, IsPublishable};
+ghost use Rattle.guppy_metadata.specs.Dependency.{NamesOptional};
+ghost use Rattle.guppy_metadata.specs.Members.{data_of, is_in, IsText};
+ghost use Rattle.guppy_metadata.specs.Package.{IsFrom, IsNamed, IsDescribed, IsFilled, IsPackage, IsPublishable, IsRustVersion, dots_in, zeros_behind, whole_version};
 
 use crate::declared::{Declared, declared_dependencies, optional_names};
 use crate::fault::Misfit;
@@ -49,7 +50,10 @@ fn source_of(
     json: Object<'_>,
     is_member: bool,
     root: Utf8Path<'_>,
-) -> Result<PackageSourceRecord, Misfit> {
+) -> Result<PackageSourceRecord, Misfit>
+    ensures { IfOk result (λ source. (known : List ℕ → Bool) (id : List ℕ)
+        → known id ≡ is_member → IsFrom known id (data_of json.entry) source) }
+{
     let alloc = json.alloc;
     let manifest_path = Utf8Path::new(json.text("manifest_path")?);
     if is_member {
@@ -71,7 +75,7 @@ fn bare_record(
     members: &IndexSet<&str>,
     root: Utf8Path<'_>,
 ) -> Result<PackageRecord, Misfit>
-    ensures { IfOk result (IsNamed (data_of json.entry)) }
+    ensures { IfOk result (IsNamed (is_in members.now) (data_of json.entry)) }
 {
     let alloc = json.alloc;
     let id = json.text("id")?;
@@ -101,7 +105,8 @@ fn optional_path(json: Object<'_>, name: &str) -> Result<Option<Utf8PathBuf>, Mi
 // Fills in what is told of a package for people.
 fn describe(made: &mut PackageRecord, json: Object<'_>) -> Result<(), Misfit>
     ensures described { OnOk result (IsDescribed (data_of json.entry) made.new) }
-    ensures named { (d : Data) → IsNamed d made.old → IsNamed d made.new }
+    ensures named { (known : List ℕ → Bool) (d : Data)
+        → IsNamed known d made.old → IsNamed known d made.new }
 {
     made.authors = json.copied_texts("authors")?;
     made.description = json.optional_copied_text("description")?;
@@ -128,19 +133,42 @@ fn publish_of(json: Object<'_>) -> Result<PackagePublishRecord, Misfit>
     }
 }
 
-// The text of a version with zeros in place of the numbers that it leaves out.
-fn whole_version(alloc: Global, text: &str) -> Result<String, AllocError> {
-    let zeros = match text.bytes().filter(|byte| *byte == b'.').count() {
+// How many dots the text has.
+fn dots_in(text: &[u8]) -> usize
+    ensures { result ≡ dots_in text.now }
+{
+    let mut count = 0;
+    for byte in text {
+        if *byte == b'.' {
+            count += 1;
+        }
+    }
+    count
+}
+
+// As many zeros as a version with so many dots leaves out.
+fn zeros_behind(dots: usize) -> &'static str
+    ensures { result.now ≡ zeros_behind dots }
+{
+    match dots {
         0 => ".0.0",
         1 => ".0",
         _ => "",
-    };
+    }
+}
+
+// The text of a version with zeros in place of the numbers that it leaves out.
+fn whole_version(alloc: Global, text: &str) -> Result<String, AllocError>
+    ensures { IfOk result (λ whole. string_bytes whole ≡ whole_version text.now) }
+{
     let mut whole = String::from_str(alloc, text)?;
-    whole.push_str(zeros)?;
+    whole.push_str(zeros_behind(dots_in(text.as_bytes())))?;
     Ok(whole)
 }
 
-fn rust_version(json: Object<'_>) -> Result<Option<Version>, Misfit> {
+fn rust_version(json: Object<'_>) -> Result<Option<Version>, Misfit>
+    ensures { IfOk result (IsRustVersion (data_of json.entry)) }
+{
     let Some(text) = json.optional_text("rust_version")? else {
         return Ok(None);
     };
@@ -152,7 +180,9 @@ fn rust_version(json: Object<'_>) -> Result<Option<Version>, Misfit> {
 // Fills in what is told of a package for Cargo.
 fn fill(made: &mut PackageRecord, json: Object<'_>, declared: &[Declared<'_>]) -> Result<(), Misfit>
     ensures filled { OnOk result (IsFilled (data_of json.entry) made.new) }
-    ensures named { (d : Data) → IsNamed d made.old → IsNamed d made.new }
+    ensures optional { OnOk result (NamesOptional declared.now made.new.optional_deps) }
+    ensures named { (known : List ℕ → Bool) (d : Data)
+        → IsNamed known d made.old → IsNamed known d made.new }
     ensures described { (d : Data) → IsDescribed d made.old → IsDescribed d made.new }
 {
     let alloc = json.alloc;
@@ -162,7 +192,7 @@ fn fill(made: &mut PackageRecord, json: Object<'_>, declared: &[Declared<'_>]) -
     made.default_run = json.optional_copied_text("default_run")?;
     made.rust_version = rust_version(json)?;
     made.build_targets = build_targets(alloc, json.items("targets")?)?;
-    match named_features(json.object("features")?) {
+    match named_features(alloc, json.members("features")?) {
         Ok(features) => made.named_features = features,
         Err(fault) => return Err(fault.within(alloc, "features")),
     }
@@ -175,7 +205,7 @@ fn package_of<'a>(
     members: &IndexSet<&str>,
     root: Utf8Path<'_>,
 ) -> Result<Package<'a>, Misfit>
-    ensures { IfOk result (λ made. IsPackage (data_of json.entry) made.record) }
+    ensures { IfOk result (λ made. IsPackage (is_in members.now) (data_of json.entry) made.record) }
 {
     let alloc = json.alloc;
     let id = json.text("id")?;
@@ -197,8 +227,8 @@ pub(crate) fn packages_of<'a>(
     members: &IndexSet<&str>,
     root: Utf8Path<'_>,
 ) -> Result<Vec<Package<'a>>, Misfit>
-    ensures { IfOk result
-        (λ packages. AllZip IsPackage (map view items.now) (map (λ p. p.record) packages.items)) }
+    ensures { IfOk result (λ packages. AllZip (IsPackage (is_in members.now)) (map view items.now)
+        (map (λ p. p.record) packages.items)) }
 {
     let mut packages = Vec::with_capacity(alloc, items.len())?;
     for (index, item) in items.iter().enumerate() {

@@ -1,11 +1,11 @@
 //! All records.
-ghost use Rattle.std.specs.Prelude.{◌≡◌, None, Some, IsSome, IsSomeAnd, IfOk, OnOk, IfErr, map};
+ghost use Rattle.std.specs.Prelude.{◌≡◌, None, Some, IsSome, IsSomeAnd, IfOk, OnOk, IfErr, map, codes};
 ghost use Rattle.serde_json.specs.Read.{read};
 ghost use Rattle.serde_json.specs.View.{view};
-ghost use Rattle.guppy_metadata.specs.Fault.{IsNotJson};
+ghost use Rattle.guppy_metadata.specs.Fault.{IsNotJson, IsNotResolved};
 ghost use Rattle.guppy_metadata.specs.Links.{AreLinks, AreLinksOfAll, AreNodes};
-ghost use Rattle.guppy_metadata.specs.Members.{data_of};
-ghost use Rattle.guppy_metadata.specs.Package.{ArePackages};
+ghost use Rattle.guppy_metadata.specs.Members.{data_of, present, is_among};
+ghost use Rattle.guppy_metadata.specs.Package.{ArePackages, ArePackagesOf};
 ghost use Rattle.guppy_metadata.specs.Workspace.{IsWorkspace};
 
 use crate::fault::{MetadataFault, Misfit};
@@ -57,6 +57,7 @@ impl Records {
 fn value_of(alloc: Global, json: &str) -> Result<Value, MetadataFault>
     ensures json { IfOk result (λ value. read json.now ≡ Some (view value)) }
     ensures no_json { IfErr result (λ fault. IsNotJson fault → read json.now ≡ None) }
+    ensures resolved { IfErr result (λ fault. ¬ IsNotResolved fault) }
 {
     match Value::from_str(alloc, json) {
         Ok(value) => Ok(value),
@@ -69,9 +70,6 @@ fn value_of(alloc: Global, json: &str) -> Result<Value, MetadataFault>
 fn nodes_of(metadata: Object<'_>) -> Result<&[Value], Misfit>
     ensures { IfOk result (λ nodes. AreNodes (data_of metadata.entry) (map view nodes.now)) }
 {
-    if metadata.optional("resolve").is_none() {
-        return Err(Misfit::NotResolved);
-    }
     let resolve = metadata.object("resolve")?;
     match resolve.items("nodes") {
         Ok(nodes) => Ok(nodes),
@@ -106,8 +104,8 @@ fn packages_in<'a>(
     members: &[&str],
     root: Utf8Path<'_>,
 ) -> Result<Vec<Package<'a>>, Misfit>
-    ensures { IfOk result
-        (λ packages. ArePackages (data_of metadata.entry) (map (λ p. p.record) packages.items)) }
+    ensures { IfOk result (λ packages. ArePackagesOf (map (λ id. id.now) members.now)
+        (data_of metadata.entry) (map (λ p. p.record) packages.items)) }
 {
     let alloc = metadata.alloc;
     let members = set_of(alloc, members)?;
@@ -134,7 +132,8 @@ fn records_in(metadata: Object<'_>) -> Result<Records, Misfit>
 
 /// The records that the JSON says which `cargo metadata --format-version 1` prints.
 ///
-/// A fault tells the first place in the JSON, in the order in which it is read, where something is missing,
+/// `NotJson` comes where the text is no JSON, and `NotResolved` where the JSON's member `resolve` is absent or null. Any
+/// other fault tells the first place in the JSON, in the order in which it is read, where something is missing,
 /// of another kind or no such text. What the rules of a package graph refuse, as a link's end that is no
 /// package, is left to `into_graph`.
 ///
@@ -149,10 +148,16 @@ pub fn records_of(alloc: Global, json: &str) -> Result<Records, MetadataFault>
     ensures workspace { IfOk result
         (λ r. IsSomeAnd (read json.now) (λ d. IsWorkspace d r.workspace)) }
     ensures no_json { IfErr result (λ fault. IsNotJson fault → read json.now ≡ None) }
+    ensures not_resolved { IfErr result (λ fault. IsNotResolved fault
+        → IsSomeAnd (read json.now) (λ d. present (codes "resolve") d ≡ None)) }
 {
     let value = value_of(alloc, json)?;
-    match Object::new(alloc, &value) {
-        Ok(metadata) => Ok(records_in(metadata)?),
-        Err(misfit) => Err(misfit.within(alloc, "the JSON").into()),
+    let metadata = match Object::new(alloc, &value) {
+        Ok(metadata) => metadata,
+        Err(misfit) => return Err(misfit.within(alloc, "the JSON").into()),
+    };
+    if metadata.optional("resolve").is_none() {
+        return Err(MetadataFault::NotResolved);
     }
+    Ok(records_in(metadata)?)
 }

@@ -1,4 +1,9 @@
 //! Build targets.
+ghost use Rattle.std.specs.Prelude.{◌≡◌, ◌∷◌, ℕ, List, IfOk, map, option_map, string_bytes, codes};
+ghost use Rattle.serde_json.specs.View.{view};
+ghost use Rattle.std.specs.List.{AllZip};
+ghost use Rattle.guppy_metadata.specs.Members.{data_of, is_among, AreTexts};
+ghost use Rattle.guppy_metadata.specs.Target.{IsTargetId, IsLibraryOf, IsMadeOf, IsTarget};
 
 use crate::fault::Misfit;
 use crate::object::Object;
@@ -9,7 +14,9 @@ use serde_json::Value;
 use std::alloc::Global;
 
 // What a target of this kind and name is, and its name where it is a library or build script.
-fn id_of(kind: &str, name: String) -> (OwnedBuildTargetId, Option<String>) {
+fn id_of(kind: &str, name: String) -> (OwnedBuildTargetId, Option<String>)
+    ensures { IsTargetId kind.now (string_bytes name) result.0 (option_map string_bytes result.1) }
+{
     match kind {
         "custom-build" => (OwnedBuildTargetId::BuildScript, Some(name)),
         "bin" => (OwnedBuildTargetId::Binary(name), None),
@@ -20,20 +27,47 @@ fn id_of(kind: &str, name: String) -> (OwnedBuildTargetId, Option<String>) {
     }
 }
 
-// What is made of a target, as one of these crate types.
-fn kind_of(id: &OwnedBuildTargetId, crate_types: Vec<String>) -> BuildTargetKindRecord {
-    let is_macro = crate_types.iter().any(|it| it.as_str() == "proc-macro");
-    match id {
-        OwnedBuildTargetId::Library if is_macro => BuildTargetKindRecord::ProcMacro,
-        OwnedBuildTargetId::Library | OwnedBuildTargetId::Example(_) => {
-            BuildTargetKindRecord::LibraryOrExample(SortedSet::new(crate_types))
+// Whether the text is one of these.
+fn is_among(texts: &[String], wanted: &str) -> bool
+    ensures { result ≡ is_among (map string_bytes texts.now) wanted.now }
+{
+    for text in texts {
+        if wanted == text.as_str() {
+            return true;
         }
+    }
+    false
+}
+
+// A library of these crate types.
+fn library_of(crate_types: Vec<String>) -> BuildTargetKindRecord
+    ensures { IsLibraryOf (map string_bytes crate_types.items) result }
+{
+    BuildTargetKindRecord::LibraryOrExample(SortedSet::new(crate_types))
+}
+
+// What is made of a target, as one of these crate types.
+fn kind_of(id: &OwnedBuildTargetId, crate_types: Vec<String>) -> BuildTargetKindRecord
+    ensures { IsMadeOf id.now (map string_bytes crate_types.items) result }
+{
+    match id {
+        OwnedBuildTargetId::Library => {
+            if is_among(crate_types.as_slice(), "proc-macro") {
+                BuildTargetKindRecord::ProcMacro
+            } else {
+                library_of(crate_types)
+            }
+        }
+        OwnedBuildTargetId::Example(_) => library_of(crate_types),
         _ => BuildTargetKindRecord::Binary,
     }
 }
 
 // The first of the target's kinds; a library has one for each of its crate types.
-fn first_kind(target: Object<'_>) -> Result<&str, Misfit> {
+fn first_kind(target: Object<'_>) -> Result<&str, Misfit>
+    ensures { IfOk result (λ kind. (others : List (List ℕ))
+        × AreTexts (codes "kind") (data_of target.entry) (kind.now ∷ others)) }
+{
     let kinds = target.texts("kind")?;
     match kinds.first() {
         Some(kind) => Ok(*kind),
@@ -41,7 +75,9 @@ fn first_kind(target: Object<'_>) -> Result<&str, Misfit> {
     }
 }
 
-fn build_target(target: Object<'_>) -> Result<BuildTargetRecord, Misfit> {
+fn build_target(target: Object<'_>) -> Result<BuildTargetRecord, Misfit>
+    ensures { IfOk result (IsTarget (data_of target.entry)) }
+{
     let name = target.copied_text("name")?;
     let (id, lib_name) = id_of(first_kind(target)?, name);
     let kind = kind_of(&id, target.copied_texts("crate_types")?);
@@ -62,7 +98,9 @@ fn build_target(target: Object<'_>) -> Result<BuildTargetRecord, Misfit> {
 pub(crate) fn build_targets(
     alloc: Global,
     items: &[Value],
-) -> Result<Vec<BuildTargetRecord>, Misfit> {
+) -> Result<Vec<BuildTargetRecord>, Misfit>
+    ensures { IfOk result (λ targets. AllZip IsTarget (map view items.now) targets.items) }
+{
     let mut targets = Vec::with_capacity(alloc, items.len())?;
     for (index, item) in items.iter().enumerate() {
         let target = Object::of_item(alloc, "targets", index, item)?;

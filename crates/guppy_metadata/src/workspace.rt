@@ -2,7 +2,7 @@
 ghost use Rattle.std.specs.Prelude.{◌≡◌, ℕ, List, IfOk, Some, map, codes};
 ghost use Rattle.serde_json.specs.Data.{string};
 ghost use Rattle.serde_json.specs.Find.{get};
-ghost use Rattle.guppy_metadata.specs.Members.{data_of};
+ghost use Rattle.guppy_metadata.specs.Members.{data_of, list_of, is_among, is_in};
 ghost use Rattle.guppy_metadata.specs.Workspace.{IsBuildDirectory, IsWorkspace};
 
 use crate::fault::{Misfit, TextFault};
@@ -54,13 +54,19 @@ pub(crate) fn workspace_record(metadata: Object<'_>) -> Result<WorkspaceRecord, 
 }
 
 /// The IDs of the workspace's members.
-pub(crate) fn member_ids(metadata: Object<'_>) -> Result<Vec<&str>, Misfit> {
+pub(crate) fn member_ids(metadata: Object<'_>) -> Result<Vec<&str>, Misfit>
+    ensures { IfOk result (λ ids. get (codes "workspace_members") (data_of metadata.entry)
+        ≡ Some (list_of (map (λ id. id.now) ids.items))) }
+{
     let items = metadata.items("workspace_members")?;
     texts_of(metadata.alloc, "workspace_members", items)
 }
 
 /// The set of these IDs.
-pub(crate) fn set_of<'a>(alloc: Global, ids: &[&'a str]) -> Result<IndexSet<&'a str>, AllocError> {
+pub(crate) fn set_of<'a>(alloc: Global, ids: &[&'a str]) -> Result<IndexSet<&'a str>, AllocError>
+    ensures { IfOk result
+        (λ set. (id : List ℕ) → is_in set id ≡ is_among (map (λ id. id.now) ids.now) id) }
+{
     let mut set = IndexSet::with_capacity(alloc, ids.len())?;
     for id in ids {
         set.insert(*id)?;

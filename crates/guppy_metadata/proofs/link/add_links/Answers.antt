@@ -16,7 +16,7 @@ loop-index-preserved c =
     let is : IsLink from (view c.item-item.result) link = subst (λ d. IsLink from d link) c.in_ok-dependency.ensures c.in-Ok.ensures in (
       row ++ link ∷ [],
       c.in_ok-push-in-Ok.ensures.items ∙ (ap (λ front. front ++ link ∷ []) c.loop-index.invariant.1 ∙ append_assoc c.args.links.now.items row (link ∷ [])),
-      next_fits (IsLink from) view c.in_ok-item-items.item-items.now c.loop-index.index _ row link c.loop-index-test.true c.item-item.is c.loop-index.invariant.2 is,
+      next_fits (IsLink from) view c.in_ok-item-items.item-items.now c.loop-index.index _ _ row link c.loop-index-test.true c.item-item.is c.loop-index.invariant.2 is,
     )
 
 pub returns : goal.returns

@@ -13,6 +13,6 @@ loop-index-preserved c =
     let are : AreLinksOf (view c.index-items-index.result) row = subst (λ d. AreLinksOf d row) c.in_ok-node.ensures more.2 in
     record {
       rows = were.rows ++ row ∷ [];
-      rows_are = next_fits AreLinksOf view c.args.items.now c.loop-index.index _ were.rows row c.loop-index-test.true c.index-items-index.is were.rows_are are;
+      rows_are = next_fits AreLinksOf view c.args.items.now c.loop-index.index _ _ were.rows row c.loop-index-test.true c.index-items-index.is were.rows_are are;
       all = more.1 ∙ (ap (λ front. front ++ row) were.all ∙ flat_map_more (λ row. row) [] were.rows row);
     }

@@ -1,8 +1,9 @@
 use Rattle.std.proofs.Common.{map, take}
 use Rattle.std.specs.List.{AllZip}
 use Rattle.serde_json.specs.View.{view}
+use Rattle.guppy_metadata.specs.Members.{is_in}
 use Rattle.guppy_metadata.specs.Package.{IsPackage}
 use Rattle.guppy_metadata.proofs.package.packages_of.Given as goal
 
 abbrev pub invariant-loop-index : goal.invariant-loop-index
-invariant-loop-index l = AllZip IsPackage (map view (take l.index l.items)) (map (λ p. p.record) l.packages.items)
+invariant-loop-index l = AllZip (IsPackage (is_in l.members)) (map view (take l.index l.items)) (map (λ p. p.record) l.packages.items)

@@ -1,0 +1,43 @@
+-- Packages of workspaces whose members are told in two ways.
+use Rattle.std.proofs.Common.{◌≡◌, ◌∙◌, ℕ, Bool, List, [], ◌∷◌, Some, sym, codes}
+use Rattle.std.specs.List.{AllZip}
+use Rattle.serde_json.specs.Data.{Data, array}
+use Rattle.serde_json.specs.Find.{get}
+use Rattle.serde_json.specs.View.{items_of}
+use Rattle.guppy_data.specs.declared.records.PackageRecord.{PackageRecord}
+use Rattle.guppy_data.specs.declared.records.PackageSourceRecord.{PackageSourceRecord}
+use Rattle.guppy_data.specs.declared.records.PackageSourceRecord.TheVariants.{Workspace, Path, External}
+use Rattle.guppy_metadata.specs.Members.{is_among}
+use Rattle.guppy_metadata.specs.Package.{IsFrom, IsPackage, ArePackagesOf}
+
+module _ (known told : List ℕ → Bool) (same : (id : List ℕ) → known id ≡ told id) where
+  from_same : (id : List ℕ) (d : Data) (source : PackageSourceRecord) → IsFrom known id d source → IsFrom told id d source
+  from_same id d (Workspace path) from = sym (same id) ∙ from
+  from_same id d (External source) from = (sym (same id) ∙ from.0, from.1)
+  from_same id d (Path path) from = (sym (same id) ∙ from.0, from.1)
+
+  package_same : (d : Data) (r : PackageRecord) → IsPackage known d r → IsPackage told d r
+  package_same d r is = record {
+    named = record {
+      id = is.named.id;
+      name = is.named.name;
+      version = is.named.version;
+      source = from_same r.id d r.source is.named.source;
+      manifest_path = is.named.manifest_path;
+      edition = is.named.edition;
+    };
+    described = is.described;
+    filled = is.filled;
+    optional = is.optional;
+  }
+
+  packages_same : (ds : List Data) (rs : List PackageRecord) → AllZip (IsPackage known) ds rs → AllZip (IsPackage told) ds rs
+  packages_same [] [] all = all
+  packages_same [] (r ∷ rs) all = absurd all
+  packages_same (d ∷ ds) [] all = absurd all
+  packages_same (d ∷ ds) (r ∷ rs) all = (package_same d r all.0, packages_same ds rs all.1)
+
+-- the packages are those of a workspace with these members, where a set tells which they are
+pub packages_known : (known : List ℕ → Bool) (members : List (List ℕ)) → ((id : List ℕ) → known id ≡ is_among members id) → (d : Data) (items : List Data) (records : List PackageRecord)
+    → get (codes "packages") d ≡ Some (array (items_of items)) → AllZip (IsPackage known) items records → ArePackagesOf members d records
+packages_known known members same d items records at all = (items, at, packages_same known (is_among members) same items records all)

@@ -1,0 +1,35 @@
+-- What the JSON of a declared dependency says.
+use Rattle.std.specs.Prelude.{◌≡◌, ℕ, true, false, List, Option, Some, None, String, map, unwrap_or, if◌then◌else◌, codes}
+use Rattle.std.specs.declared.alloc.Global.{Global}
+use Rattle.std.specs.List.{AllZip, filter_map}
+use Rattle.std.specs.Option.{option_copied}
+use Rattle.serde_json.specs.Data.{Data, string, array}
+use Rattle.serde_json.specs.Find.{get}
+use Rattle.serde_json.specs.View.{items_of}
+use Rattle.indexmap.specs.IndexSet.{IndexSet, contains_text}
+use Rattle.guppy_metadata.specs.declared.declared.Declared.{Declared}
+use Rattle.guppy_metadata.specs.Members.{IsText, IsTruth, AreTexts, is_among}
+
+-- a declared dependency, but for its requirement and its section
+pub record IsDeclared (d : Data) (x : Declared) : Type 0 where
+  pub name : get (codes "name") d ≡ Some (string x.name.now)
+  pub rename : IsText (codes "rename") d (option_copied x.rename)
+  pub target : IsText (codes "target") d (option_copied x.target)
+  pub optional : IsTruth (codes "optional") d false x.optional
+  pub default_features : IsTruth (codes "uses_default_features") d true x.default_features
+  pub features : AreTexts (codes "features") d (map (λ text. text.now) x.features.items)
+  pub registry : IsText (codes "registry") d (option_copied x.registry)
+  pub path : IsText (codes "path") d (option_copied x.path)
+
+-- the name of an optional dependency in the manifest
+abbrev pub optional_name : Declared → Option (List ℕ)
+optional_name x = if x.optional then Some (unwrap_or (option_copied x.rename) x.name.now) else None
+
+-- these are the names of the optional ones of these dependencies
+abbrev pub NamesOptional : {S : Type 0} → List Declared → IndexSet (String Global) S → Type 0
+NamesOptional declared names = (name : List ℕ) → contains_text names name ≡ is_among (filter_map optional_name declared) name
+
+-- these are the names of the optional ones among the dependencies of a list
+abbrev pub AreOptional : {S : Type 0} → Data → IndexSet (String Global) S → Type 0
+AreOptional d names = (items : List Data) × (declared : List Declared)
+    × (d ≡ array (items_of items)) × AllZip IsDeclared items declared × NamesOptional declared names
