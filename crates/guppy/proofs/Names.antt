@@ -1,5 +1,5 @@
 -- Names among the keys of a map.
-use Rattle.std.proofs.Common.{◌≡◌, ◌∙◌, ◌↔◌, sym, ap, refl, ℕ, Bool, true, ◌||◌, IsTrue, List, [], ◌∷◌, map}
+use Rattle.std.proofs.Common.{◌≡◌, ◌∙◌, ◌↔◌, sym, refl, ℕ, Bool, true, IsTrue, List, map}
 use Rattle.std.specs.declared.string.String.{String}
 use Rattle.std.specs.declared.alloc.Global.{Global}
 use Rattle.std.specs.List.{Contains, list_any}
@@ -10,11 +10,7 @@ use Rattle.std.specs.String.{string_bytes}
 use Rattle.std.proofs.lemmas.List.Folds.{Any-from_list_any, list_any-from_Any}
 use Rattle.std.proofs.lemmas.Map.Made.{is_some-lookup}
 use Rattle.std.proofs.lemmas.Slice.Eq.{bytes_eq-Decides}
-
--- a test of what is read of each element
-list_any-map : {A X : Type 0} (test : X → Bool) (read : A → X) (xs : List A) → list_any test (map read xs) ≡ list_any (λ x. test (read x)) xs
-list_any-map test read [] = refl
-list_any-map test read (x ∷ xs) = ap (λ rest. test (read x) || rest) (list_any-map test read xs)
+use Rattle.guppy_data.proofs.Listed.{list_any-map}
 
 -- a text that is equal to one of the list is in the list
 pub Contains-from_list_any : (texts : List (List ℕ)) (text : List ℕ) → list_any (bytes_eq text) texts ≡ true → Contains texts text

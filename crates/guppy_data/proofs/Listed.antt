@@ -6,7 +6,7 @@ use Rattle.std.proofs.lemmas.List.Folds.{Any-from_list_any, list_any-from_Any}
 use Rattle.std.proofs.lemmas.Slice.Eq.{bytes_eq-Decides}
 
 -- a test of what is read of each element
-list_any-map : {A X : Type 0} (test : X → Bool) (read : A → X) (xs : List A) → list_any test (map read xs) ≡ list_any (λ x. test (read x)) xs
+pub list_any-map : {A X : Type 0} (test : X → Bool) (read : A → X) (xs : List A) → list_any test (map read xs) ≡ list_any (λ x. test (read x)) xs
 list_any-map test read [] = refl
 list_any-map test read (x ∷ xs) = ap (λ rest. test (read x) || rest) (list_any-map test read xs)
 

@@ -6,6 +6,7 @@ use Rattle.std.specs.List.{AllZip, Contains}
 use Rattle.std.proofs.lemmas.List.{take_more}
 use Rattle.std.proofs.lemmas.Option.{slice_get_within, get_or_from_slice_get, slice_get-map}
 use Rattle.std.proofs.lemmas.List.Elements.{All-push}
+use Rattle.indexmap.proofs.SetLemmas.{AllZip-push}
 use Rattle.guppy_graph.specs.First.{IsFirstWithout}
 
 pub MatchOption-along : {A : Type 0} (o : Option A) (P Q : Type 0) (R S : A → Type 0) → (P → Q) → ((x : A) → R x → S x) → MatchOption o P R → MatchOption o Q S
@@ -19,12 +20,6 @@ none_is (Some x) P R e h = absurd (cc)
 pub some_is : {A : Type 0} (o : Option A) (P : Type 0) (R : A → Type 0) → is_some o ≡ true → MatchOption o P R → (x : A) × R x
 some_is None P R e h = absurd (cc)
 some_is (Some x) P R e h = (x, h)
-
-pub AllZip-push : {A B : Type 0} (R : A → B → Type 0) (xs : List A) (ys : List B) (x : A) (y : B) → AllZip R xs ys → R x y → AllZip R (xs ++ x ∷ []) (ys ++ y ∷ [])
-AllZip-push R [] [] x y h r = (r, tt)
-AllZip-push R [] (b ∷ ys) x y h r = absurd h
-AllZip-push R (a ∷ xs) [] x y h r = absurd h
-AllZip-push R (a ∷ xs) (b ∷ ys) x y h r = (h.0, AllZip-push R xs ys x y h.1 r)
 
 -- one more of the list, which has a partner
 pub AllZip-more : {A B : Type 0} (R : A → B → Type 0) (xs : List A) (ys : List B) (k : ℕ) (x : A) (y : B) → k < length xs → get_or xs k x ≡ x → AllZip R (take k xs) ys → R x y → AllZip R (take (k + 1) xs) (ys ++ y ∷ [])

@@ -1,11 +1,12 @@
 -- What the records of some lines become with one line more.
 use Rattle.std.proofs.Common.{◌≡◌, ℕ, ◌+◌, Bool, true, false, List, [], ◌∷◌, ◌++◌, take, drop, length, if◌then◌else◌, refl, ◌∙◌, ap, arith, Some, None, append-nil, add-one}
 use Rattle.std.specs.Prelude.{Option}
-use Rattle.std.specs.List.{AllPass, AllZip, filter_map, cons_option}
+use Rattle.std.specs.List.{AllPass, filter_map, cons_option}
 use Rattle.std.specs.Option.{option_to_list}
 use Rattle.std.specs.Str.{is_utf8}
 use Rattle.std.specs.Str.Lines.{lines}
 use Rattle.std.proofs.lemmas.List.Elements.{filter_map-append, All-push, All-nil}
+use Rattle.indexmap.proofs.SetLemmas.{AllZip-push}
 use Rattle.guppy_data.specs.declared.records.PackageRecord.{PackageRecord}
 use Rattle.guppy_data.specs.declared.records.LinkRecord.{LinkRecord}
 use Rattle.guppy_data.specs.declared.records.WorkspaceRecord.{WorkspaceRecord}
@@ -18,16 +19,10 @@ use Rattle.guppy_input.specs.Records.{AreRecordsOf, IsPackageOf, IsLinkOf, packa
 use Rattle.guppy_input.specs.Reading.{AddsStatements, IsLineFault, IsReadingFault}
 use Rattle.guppy_input.proofs.Lines.{slice_get-drop, take-one_more, drop-one_more}
 
-all_zip_push : {A B : Type 0} (R : A → B → Type 0) (xs : List A) (ys : List B) (x : A) (y : B) → AllZip R xs ys → R x y → AllZip R (xs ++ x ∷ []) (ys ++ y ∷ [])
-all_zip_push R [] [] x y tied tie = (tie, tt)
-all_zip_push R [] (b ∷ bs) x y tied tie = absurd tied
-all_zip_push R (a ∷ as') [] x y tied tie = absurd tied
-all_zip_push R (a ∷ as') (b ∷ bs) x y tied tie = (tied.0, all_zip_push R as' bs x y tied.1 tie)
-
 pub package_added : (packages : List PackageRecord) (links : List LinkRecord) (workspace : WorkspaceRecord) (id : List ℕ) (package' : PackageRecord) → IsPackageOf id package'
     → (statements : List Statement) → AreRecordsOf statements packages links workspace → AreRecordsOf (statements ++ a_package id ∷ []) (packages ++ package' ∷ []) links workspace
 package_added packages links workspace id p is statements were = record {
-  packages_are = rw (filter_map-append package_of statements (a_package id ∷ [])) (all_zip_push IsPackageOf (filter_map package_of statements) packages id p were.packages_are is);
+  packages_are = rw (filter_map-append package_of statements (a_package id ∷ [])) (AllZip-push IsPackageOf (filter_map package_of statements) packages id p were.packages_are is);
   links_are = rw (filter_map-append link_of statements (a_package id ∷ []), append-nil (filter_map link_of statements)) were.links_are;
   workspace_is = were.workspace_is;
 }
@@ -37,7 +32,7 @@ pub link_added : (packages : List PackageRecord) (links : List LinkRecord) (work
     → (statements : List Statement) → AreRecordsOf statements packages links workspace → AreRecordsOf (statements ++ a_link from to section ∷ []) packages (links ++ link ∷ []) workspace
 link_added packages links workspace from to section l is statements were = record {
   packages_are = rw (filter_map-append package_of statements (a_link from to section ∷ []), append-nil (filter_map package_of statements)) were.packages_are;
-  links_are = rw (filter_map-append link_of statements (a_link from to section ∷ [])) (all_zip_push IsLinkOf (filter_map link_of statements) links (record { from = from; to = to; section = section }) l were.links_are is);
+  links_are = rw (filter_map-append link_of statements (a_link from to section ∷ [])) (AllZip-push IsLinkOf (filter_map link_of statements) links (record { from = from; to = to; section = section }) l were.links_are is);
   workspace_is = were.workspace_is;
 }
 

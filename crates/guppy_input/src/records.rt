@@ -105,7 +105,7 @@ fn link_record(
 }
 
 // Adds the record of the link from one package to another in this section. Its texts are copied first, as those of a package
-// are.
+// are, and its IDs one after the other, so that they lie side by side where the ends are looked up.
 fn push_link(
     links: &mut Vec<LinkRecord>,
     alloc: Global,
@@ -116,9 +116,9 @@ fn push_link(
     ensures { OnOk result ((made : LinkRecord) × (links.new.items ≡ links.old.items ++ made ∷ [])
         × IsLinkOf (record { from = from.now; to = to.now; section = section }) made) }
 {
-    let from = id_of(alloc, from)?;
     let dep_name = String::from_str(alloc, to)?;
     let resolved_name = String::from_str(alloc, to)?;
+    let from = id_of(alloc, from)?;
     let to = id_of(alloc, to)?;
     links.push(link_record(alloc, from, to, dep_name, resolved_name, section))?;
     Ok(())

@@ -10,6 +10,7 @@ use Rattle.std.proofs.lemmas.List.Folds.{Any-from_list_any, list_any-from_Any, l
 use Rattle.std.proofs.lemmas.Slice.Eq.{bytes_eq-Decides}
 use Rattle.indexmap.specs.IndexSet.{insert_key}
 use Rattle.guppy_data.specs.Sorted.{KeepsUpTo}
+use Rattle.guppy_data.proofs.Listed.{list_any-map}
 use Rattle.guppy_metadata.specs.Members.{is_among}
 use Rattle.guppy_metadata.proofs.Fitting.{taken_more}
 
@@ -50,10 +51,6 @@ module _ {K : Type 0} (seen : K → List ℕ) where
       by : (found : Bool) → list_any (same_text key) keys ≡ found → in_keys (insert_key same_text keys key) text ≡ (in_keys keys text || bytes_eq text (seen key))
       by true found = ap (λ b. in_keys (if b then keys else keys ++ key ∷ []) text) found ∙ already_in keys key text (bytes_eq text (seen key)) refl found
       by false found = ap (λ b. in_keys (if b then keys else keys ++ key ∷ []) text) found ∙ list_any-push (λ k. bytes_eq text (seen k)) keys key
-
-list_any-map : {A X : Type 0} (p : X → Bool) (seen : A → X) (xs : List A) → list_any p (map seen xs) ≡ list_any (λ x. p (seen x)) xs
-list_any-map p seen [] = refl
-list_any-map p seen (x ∷ xs) = ap (λ rest. p (seen x) || rest) (list_any-map p seen xs)
 
 either_way : (a b : Bool) → (a ≡ true → b ≡ true) → (b ≡ true → a ≡ true) → a ≡ b
 either_way true b there back = sym (there refl)

@@ -2,12 +2,7 @@
 use Rattle.std.proofs.Common.{◌≡◌, ◌∙◌, ℕ, ◌+◌, ◌<◌, List, [], ◌∷◌, ◌++◌, map, take, length, get_or, sym, ap}
 use Rattle.std.specs.List.{AllZip}
 use Rattle.std.proofs.lemmas.List.{map_push, take_more}
-
-pub AllZip-push : {A B : Type 0} (R : A → B → Type 0) (xs : List A) (ys : List B) (x : A) (y : B) → AllZip R xs ys → R x y → AllZip R (xs ++ x ∷ []) (ys ++ y ∷ [])
-AllZip-push R [] [] x y all this = (this, tt)
-AllZip-push R [] (b ∷ ys) x y all this = absurd all
-AllZip-push R (a ∷ xs) [] x y all this = absurd all
-AllZip-push R (a ∷ xs) (b ∷ ys) x y all this = (all.0, AllZip-push R xs ys x y all.1 this)
+use Rattle.indexmap.proofs.SetLemmas.{AllZip-push}
 
 -- what the first items are seen as, and the next one
 pub taken_more : {A B : Type 0} (seen : A → B) (items : List A) (k : ℕ) (item other : A) → k < length items → item ≡ get_or items k other

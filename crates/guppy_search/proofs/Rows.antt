@@ -37,13 +37,6 @@ module _ {E : Type 0} (d : DependencyDirection) (links : List (Link E)) (x : ℕ
       let at = row_links k h in
       rw (get_or_default _ k d 0 h) (slice_get_within links _ at.link at.found))
 
-pub slice_get-set_other : {A : Type 0} (xs : List A) (i p : ℕ) (v : A) → (p ≡ i → ⊥) → slice_get (set xs i v) p ≡ slice_get xs p
-slice_get-set_other [] i p v differs = refl
-slice_get-set_other (x ∷ xs) zero zero v differs = absurd (differs refl)
-slice_get-set_other (x ∷ xs) zero (suc p) v differs = refl
-slice_get-set_other (x ∷ xs) (suc i) zero v differs = refl
-slice_get-set_other (x ∷ xs) (suc i) (suc p) v differs = slice_get-set_other xs i p v (λ e. differs (ap suc e))
-
 pub graph_of : {N E : Type 0} (nodes : List N) (links : List (Link E)) → length nodes ≤ 4294967295 → length links ≤ 4294967295 → All (EndsBelow (length nodes)) links → SinglesBelow links (length links) → IsGraph (let g : GraphValue N E = record { nodes = nodes; links = links } in g)
 graph_of nodes links few_nodes few_links ends singles = record {
   few_nodes = omega arith;

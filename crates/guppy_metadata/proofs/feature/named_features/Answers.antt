@@ -5,7 +5,7 @@ use Rattle.std.specs.Map.{keys_of}
 use Rattle.std.specs.String.{string_cmp}
 use Rattle.guppy_metadata.specs.Feature.{IsNamedFeature}
 use Rattle.guppy_metadata.proofs.Features.{is_new}
-use Rattle.guppy_metadata.proofs.Fitting.{AllZip-push}
+use Rattle.indexmap.proofs.SetLemmas.{AllZip-push}
 use Rattle.guppy_metadata.proofs.feature.named_features.Goals as goal
 
 pub put-requires : goal.put-requires

@@ -1,7 +1,7 @@
 use Rattle.std.proofs.Common.{◌≡◌, ◌∙◌, ◌∷◌, ◌++◌, ◌+◌, [], sym, ap, map, take, get_or}
 use Rattle.std.proofs.lemmas.List.{map_push, take_more}
 use Rattle.guppy_graph.specs.Ids.{HasId, ix_position}
-use Rattle.guppy_graph.proofs.Lists.{AllZip-push}
+use Rattle.indexmap.proofs.SetLemmas.{AllZip-push}
 use Rattle.guppy_graph.proofs.graph.RecordGraph.ids_at.Goals as goal
 
 pub loop-ix-preserved : goal.loop-ix-preserved
