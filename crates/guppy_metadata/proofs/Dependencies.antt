@@ -13,9 +13,9 @@ use Rattle.guppy_metadata.specs.Dependency.{optional_name}
 use Rattle.guppy_metadata.specs.declared.declared.Declared.{Declared}
 
 -- the names of the first dependencies, and of one more
-more : (declared : List Declared) (k : ℕ) (x other : Declared) → k < length declared → x ≡ get_or declared k other
+names_of_more : (declared : List Declared) (k : ℕ) (x other : Declared) → k < length declared → x ≡ get_or declared k other
     → (name : List ℕ) → is_among (filter_map optional_name (take (k + 1) declared)) name ≡ (is_among (filter_map optional_name (take k declared)) name || is_among (cons_option (optional_name x) []) name)
-more declared k x other low is name =
+names_of_more declared k x other low is name =
     let taken : take (k + 1) declared ≡ take k declared ++ x ∷ [] = take_more declared k other low ∙ ap (λ y. take k declared ++ y ∷ []) (sym is) in
     ap (λ l. is_among (filter_map optional_name l) name) taken ∙ (ap (λ l. is_among l name) (filter_map-append optional_name (take k declared) (x ∷ []))
     ∙ list_any-append (bytes_eq name) (filter_map optional_name (take k declared)) (cons_option (optional_name x) []))
@@ -26,7 +26,7 @@ pub optional_more : (declared : List Declared) (k : ℕ) (x other : Declared) �
     ≡ (is_among (filter_map optional_name (take k declared)) name || bytes_eq name (unwrap_or (option_copied x.rename) x.name.now))
 optional_more declared k x other low is optional name =
     let own = unwrap_or (option_copied x.rename) x.name.now in
-    more declared k x other low is name ∙ ap (λ b. is_among (filter_map optional_name (take k declared)) name || b)
+    names_of_more declared k x other low is name ∙ ap (λ b. is_among (filter_map optional_name (take k declared)) name || b)
     (ap (λ b. is_among (cons_option (if b then Some own else None) []) name) optional ∙ or-false (bytes_eq name own))
 
 -- one that isn't adds none
@@ -35,4 +35,4 @@ pub required_more : (declared : List Declared) (k : ℕ) (x other : Declared) �
 required_more declared k x other low is optional name =
     let own = unwrap_or (option_copied x.rename) x.name.now in
     let before = is_among (filter_map optional_name (take k declared)) name in
-    more declared k x other low is name ∙ (ap (λ b. before || is_among (cons_option (if b then Some own else None) []) name) optional ∙ or-false before)
+    names_of_more declared k x other low is name ∙ (ap (λ b. before || is_among (cons_option (if b then Some own else None) []) name) optional ∙ or-false before)

@@ -1,4 +1,4 @@
--- What the text of a feature switches on, by how it is cut.
+-- What the text of a feature switches on, by how it is cut, and that no feature has the name of one before it.
 use Rattle.std.proofs.Common.{ℕ, true, false, cond, List, [], ◌∷◌, ◌++◌, ◌≡◌, ◌∙◌, None, Some, String, Vec, refl, sym, ap, true≢false, codes, append_assoc}
 use Rattle.std.specs.declared.alloc.Global.{Global}
 use Rattle.std.specs.List.{AllZip, AllByRecursion}

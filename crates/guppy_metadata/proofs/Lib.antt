@@ -3,3 +3,4 @@ pub mod Dependencies
 pub mod Features
 pub mod Fitting
 pub mod Packages
+pub mod Requirements

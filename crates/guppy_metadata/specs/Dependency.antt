@@ -21,9 +21,13 @@ pub record IsDeclared (d : Data) (x : Declared) : Type 0 where
   pub registry : IsText (codes "registry") d (option_copied x.registry)
   pub path : IsText (codes "path") d (option_copied x.path)
 
+-- the name of a dependency in the manifest
+abbrev pub manifest_name : Declared → List ℕ
+manifest_name x = unwrap_or (option_copied x.rename) x.name.now
+
 -- the name of an optional dependency in the manifest
 abbrev pub optional_name : Declared → Option (List ℕ)
-optional_name x = if x.optional then Some (unwrap_or (option_copied x.rename) x.name.now) else None
+optional_name x = if x.optional then Some (manifest_name x) else None
 
 -- these are the names of the optional ones of these dependencies
 abbrev pub NamesOptional : {S : Type 0} → List Declared → IndexSet (String Global) S → Type 0

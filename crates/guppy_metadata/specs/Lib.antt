@@ -1,6 +1,8 @@
 pub mod Dependency
 pub mod Fault
 pub mod Feature
+pub mod Fits
+pub mod Gathered
 pub mod Links
 pub mod Members
 pub mod Package

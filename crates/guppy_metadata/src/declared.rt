@@ -40,6 +40,10 @@ pub(crate) struct Declared<'a> {
 }
 
 impl<'a> Declared<'a> {
+    ghost use Rattle.std.specs.Prelude.{◌≡◌, unwrap_or};
+    ghost use Rattle.std.specs.Option.{option_copied};
+    ghost use Rattle.guppy_metadata.specs.Fits.{takes};
+
     /// The dependency's name in the manifest.
     pub(crate) fn dep_name(&self) -> &'a str
         ensures { result.now ≡ unwrap_or (option_copied self.now.rename) self.now.name.now }
@@ -51,7 +55,9 @@ impl<'a> Declared<'a> {
     }
 
     /// Whether the version may be taken; `*` takes each, a pre-release too.
-    pub(crate) fn takes(&self, version: &Version) -> bool {
+    pub(crate) fn takes(&self, version: &Version) -> bool
+        ensures { result ≡ takes self.now.requirement version.now }
+    {
         self.requirement.comparators.is_empty() || self.requirement.matches(version)
     }
 }

@@ -1,9 +1,15 @@
 //! Links, of what packages declare and what is resolved.
-ghost use Rattle.std.specs.Prelude.{◌≡◌, ◌++◌, ℕ, List, if◌then◌else◌, true, false, map, IfOk, OnOk, IfSome};
-ghost use Rattle.std.specs.Option.{option_copied};
+ghost use Rattle.std.specs.Prelude.{◌≡◌, ◌++◌, ◌∷◌, [], ℕ, List, if◌then◌else◌, true, false, filter, map, string_bytes, option_map, IfOk, OnOk, IfSome};
+ghost use Rattle.std.specs.List.{fold};
+ghost use Rattle.std.specs.Str.{bytes_eq};
+ghost use Rattle.std.specs.Option.{option_copied, option_or};
 ghost use Rattle.guppy_data.specs.declared.records.LinkRecord.{LinkRecord};
 ghost use Rattle.guppy_data.specs.Platform.{recorded_status, with_spec};
+ghost use Rattle.semver.specs.Identifiers.{comparator_view};
 ghost use Rattle.serde_json.specs.View.{view};
+ghost use Rattle.guppy_metadata.specs.declared.declared.Declared.{Declared};
+ghost use Rattle.guppy_metadata.specs.Fits.{stands_for, is_named, has_name, same_usage, is_used, fits};
+ghost use Rattle.guppy_metadata.specs.Gathered.{status_at, asked_too, asks_for, IsSection, IsGathered, IsNamedAs, IsMadeOf, MakeLink};
 ghost use Rattle.guppy_metadata.specs.Links.{Joins, IsResolved, IsLink, AreLinksOf, AreLinksOfAll};
 ghost use Rattle.guppy_metadata.specs.Members.{data_of};
 
@@ -80,41 +86,66 @@ fn resolved_of(dependency: Object<'_>) -> Result<Resolved<'_>, Misfit>
     })
 }
 
+// Whether a letter of a name stands for this one in the code, as `-` does for `_`.
+fn stands_for(letter: u8, in_code: u8) -> bool
+    ensures { result ≡ stands_for letter in_code }
+{
+    letter == in_code || letter == b'-' && in_code == b'_'
+}
+
 // Whether a name is the name in the code, where `_` stands for each `-`.
-fn is_named(name: &str, in_code: &str) -> bool {
-    name.len() == in_code.len()
-        && name.bytes().zip(in_code.bytes()).all(|(byte, other)| byte == other
-            || byte == b'-' && other == b'_')
+fn is_named(name: &[u8], in_code: &[u8]) -> bool
+    ensures { result ≡ is_named name.now in_code.now }
+{
+    if name.len() != in_code.len() {
+        return false;
+    }
+    for (index, letter) in name.iter().enumerate() {
+        if !stands_for(*letter, in_code[index]) {
+            return false;
+        }
+    }
+    true
 }
 
 // Whether the declared dependency, where it is the package, has the resolved name. A dependency on what is
 // no library is resolved with no name.
-fn has_name(declared: &Declared<'_>, package: &Package<'_>, in_code: &str) -> bool {
-    if in_code.is_empty() {
-        return true;
-    }
-    match (declared.rename, package.lib_name()) {
-        (Some(rename), _) => is_named(rename, in_code),
-        (None, Some(lib_name)) => is_named(lib_name, in_code),
-        (None, None) => is_named(declared.name, in_code),
-    }
+fn has_name(declared: &Declared<'_>, needed: &Package<'_>, in_code: &str) -> bool
+    ensures { result ≡ has_name declared.now needed.now.record in_code.now }
+{
+    let name = match (declared.rename, needed.lib_name()) {
+        (Some(rename), _) => rename,
+        (None, Some(lib_name)) => lib_name,
+        (None, None) => declared.name,
+    };
+    in_code.is_empty() || is_named(name.as_bytes(), in_code.as_bytes())
 }
 
-fn is_used(declared: &Declared<'_>, usages: &[Usage<'_>]) -> bool {
-    usages.iter().any(|usage| usage.section == declared.section && usage.target == declared.target)
+fn is_same_usage(declared: &Declared<'_>, usage: &Usage<'_>) -> bool
+    ensures { result ≡ same_usage declared.now usage.now }
+{
+    usage.section == declared.section && usage.target == declared.target
+}
+
+fn is_used(declared: &Declared<'_>, usages: &[Usage<'_>]) -> bool
+    ensures { result ≡ is_used declared.now usages.now }
+{
+    for usage in usages {
+        if is_same_usage(declared, usage) {
+            return true;
+        }
+    }
+    false
 }
 
 // Whether what a package declares is among the dependencies that were resolved to this one. One on itself
 // is resolved with the name of its library, whatever its own is.
-fn fits(
-    declared: &Declared<'_>,
-    from: &str,
-    resolved: &Resolved<'_>,
-    package: &Package<'_>,
-) -> bool {
-    declared.name == package.record.name.as_str()
-        && (from == resolved.id || has_name(declared, package, resolved.name))
-        && declared.takes(&package.record.version)
+fn fits(declared: &Declared<'_>, from: &str, resolved: &Resolved<'_>, needed: &Package<'_>) -> bool
+    ensures { result ≡ fits from.now resolved.now needed.now.record declared.now }
+{
+    declared.name == needed.record.name.as_str()
+        && (from == resolved.id || has_name(declared, needed, resolved.name))
+        && declared.takes(&needed.record.version)
         && is_used(declared, resolved.usages.as_slice())
 }
 
@@ -128,19 +159,39 @@ fn spec_of(alloc: Global, target: Option<&str>) -> Result<Option<TargetSpec>, Al
     }
 }
 
+// Adds that the feature is asked for on the platforms.
+fn add_feature(
+    alloc: Global,
+    statuses: &mut BTreeMap<String, PlatformStatusImpl>,
+    feature: &str,
+    spec: Option<&TargetSpec>,
+) -> Result<(), AllocError>
+    ensures { OnOk result ((name : List ℕ) → status_at statuses.new name
+        ≡ (if bytes_eq name feature.now
+        then asked_too (status_at statuses.old name) (option_copied spec.entry)
+        else status_at statuses.old name)) }
+{
+    let name = String::from_str(alloc, feature)?;
+    let status = statuses
+        .entry(name)?
+        .or_insert(PlatformStatusImpl::never(alloc));
+    status.add_spec(spec)?;
+    Ok(())
+}
+
 // Adds that these features are asked for on the platforms.
 fn add_features(
     alloc: Global,
     statuses: &mut BTreeMap<String, PlatformStatusImpl>,
     features: &[&str],
     spec: Option<&TargetSpec>,
-) -> Result<(), AllocError> {
+) -> Result<(), AllocError>
+    ensures { OnOk result ((name : List ℕ) → status_at statuses.new name
+        ≡ fold asked_too (status_at statuses.old name)
+        (map (λ _. option_copied spec.entry) (filter (λ f. bytes_eq name f.now) features.now))) }
+{
     for feature in features {
-        let name = String::from_str(alloc, feature)?;
-        let status = statuses
-            .entry(name)?
-            .or_insert(PlatformStatusImpl::never(alloc));
-        status.add_spec(spec)?;
+        add_feature(alloc, statuses, feature, spec)?;
     }
     Ok(())
 }
@@ -163,6 +214,9 @@ fn add_to_side(
         then recorded_status side.old.no_default_features_if
         else with_spec (recorded_status side.old.no_default_features_if)
         (option_copied declared.now.target))) }
+    ensures features { OnOk result ((name : List ℕ) → status_at side.new.feature_targets name
+        ≡ fold asked_too (status_at side.old.feature_targets name)
+        (asks_for name declared.now)) }
 {
     let spec = spec_of(alloc, declared.target)?;
     side.build_if.add_spec(spec.as_ref())?;
@@ -182,11 +236,46 @@ fn add_to_section(
 ) -> Result<(), AllocError>
     ensures required { declared.now.optional ≡ true → section.new.required ≡ section.old.required }
     ensures optional { declared.now.optional ≡ false → section.new.optional ≡ section.old.optional }
+    ensures gathered { OnOk result ((before : List Declared)
+        → IsSection before section.old → IsSection (before ++ declared.now ∷ []) section.new) }
 {
     if declared.optional {
-        add_to_side(alloc, &mut section.optional, declared)
+        add_to_side(alloc, &mut section.optional, declared)?;
     } else {
-        add_to_side(alloc, &mut section.required, declared)
+        add_to_side(alloc, &mut section.required, declared)?;
+    }
+    Ok(())
+}
+
+// The own text, or else a copy of the other.
+fn first_text(
+    alloc: Global,
+    own: Option<String>,
+    other: Option<&str>,
+) -> Result<Option<String>, AllocError>
+    ensures { IfOk result (λ text. option_map string_bytes text
+        ≡ option_or (option_map string_bytes own) (option_copied other.entry)) }
+{
+    match own {
+        Some(own) => Ok(Some(own)),
+        None => optional_copy(alloc, other),
+    }
+}
+
+// The own path, or else a copy of the other.
+fn first_path(
+    alloc: Global,
+    own: Option<Utf8PathBuf>,
+    other: Option<&str>,
+) -> Result<Option<Utf8PathBuf>, AllocError>
+    ensures { IfOk result (λ path. path ≡ option_or own (option_copied other.entry)) }
+{
+    match own {
+        Some(own) => Ok(Some(own)),
+        None => match other {
+            Some(other) => Ok(Some(Utf8PathBuf::new(String::from_str(alloc, other)?))),
+            None => Ok(None),
+        },
     }
 }
 
@@ -196,19 +285,20 @@ fn add_declared(
     link: &mut LinkRecord,
     declared: &Declared<'_>,
 ) -> Result<(), AllocError>
-    ensures { (from to name : List ℕ) → Joins from to name link.old → Joins from to name link.new }
+    ensures joins { (from to name : List ℕ)
+        → Joins from to name link.old → Joins from to name link.new }
+    ensures named { (first : Declared) → IsNamedAs first link.old → IsNamedAs first link.new }
+    ensures gathered { OnOk result ((before : List Declared)
+        → IsGathered before link.old → IsGathered (before ++ declared.now ∷ []) link.new) }
 {
-    if link.registry.is_none() {
-        link.registry = optional_copy(alloc, declared.registry)?;
-    }
-    if link.path.is_none() {
-        link.path = optional_copy(alloc, declared.path)?.map(Utf8PathBuf::new);
-    }
+    link.registry = first_text(alloc, link.registry.take(), declared.registry)?;
+    link.path = first_path(alloc, link.path.take(), declared.path)?;
     match declared.section {
-        DependencyKind::Normal => add_to_section(alloc, &mut link.normal, declared),
-        DependencyKind::Build => add_to_section(alloc, &mut link.build, declared),
-        DependencyKind::Development => add_to_section(alloc, &mut link.dev, declared),
+        DependencyKind::Normal => add_to_section(alloc, &mut link.normal, declared)?,
+        DependencyKind::Build => add_to_section(alloc, &mut link.build, declared)?,
+        DependencyKind::Development => add_to_section(alloc, &mut link.dev, declared)?,
     }
+    Ok(())
 }
 
 // The link of this name and requirement that is asked for in no section.
@@ -219,7 +309,10 @@ fn bare_link(
     dep_name: &str,
     requirement: VersionReq,
 ) -> Result<LinkRecord, AllocError>
-    ensures { IfOk result (Joins from.now resolved.now.id.now resolved.now.name.now) }
+    ensures joins { IfOk result (Joins from.now resolved.now.id.now resolved.now.name.now) }
+    ensures dep_name { IfOk result (λ link. string_bytes link.dep_name ≡ dep_name.now) }
+    ensures requirement { IfOk result (λ link. link.version_req ≡ requirement) }
+    ensures gathered { IfOk result (IsGathered []) }
 {
     Ok(LinkRecord::new(
         alloc,
@@ -231,6 +324,13 @@ fn bare_link(
     ))
 }
 
+fn copied_requirement(requirement: &VersionReq) -> Result<VersionReq, AllocError>
+    ensures { IfOk result (λ copy. map comparator_view copy.comparators.items
+        ≡ map comparator_view requirement.now.comparators.items) }
+{
+    Ok(requirement.clone()?)
+}
+
 // The link with a declared dependency added, or the link of this one alone.
 fn link_with(
     alloc: Global,
@@ -240,17 +340,22 @@ fn link_with(
     declared: &Declared<'_>,
 ) -> Result<LinkRecord, AllocError>
     requires { IfSome link (Joins from.now resolved.now.id.now resolved.now.name.now) }
-    ensures { IfOk result (Joins from.now resolved.now.id.now resolved.now.name.now) }
+    ensures joins { IfOk result (Joins from.now resolved.now.id.now resolved.now.name.now) }
+    ensures made { IfOk result (λ made. (before : List Declared)
+        → MakeLink before link → IsMadeOf (before ++ declared.now ∷ []) made) }
 {
-    let mut link = match link {
-        Some(link) => link,
-        None => {
-            let requirement = declared.requirement.clone()?;
-            bare_link(alloc, from, resolved, declared.dep_name(), requirement)?
+    match link {
+        Some(mut link) => {
+            add_declared(alloc, &mut link, declared)?;
+            Ok(link)
         }
-    };
-    add_declared(alloc, &mut link, declared)?;
-    Ok(link)
+        None => {
+            let requirement = copied_requirement(&declared.requirement)?;
+            let mut link = bare_link(alloc, from, resolved, declared.dep_name(), requirement)?;
+            add_declared(alloc, &mut link, declared)?;
+            Ok(link)
+        }
+    }
 }
 
 // The link of those declared dependencies that were resolved to the package, where there is one.
@@ -259,15 +364,17 @@ fn link_of_fitting(
     from: &str,
     declared: &[Declared<'_>],
     resolved: &Resolved<'_>,
-    package: &Package<'_>,
+    needed: &Package<'_>,
 ) -> Result<Option<LinkRecord>, AllocError>
-    ensures { IfOk result (λ link. IfSome link
+    ensures joins { IfOk result (λ link. IfSome link
         (Joins from.now resolved.now.id.now resolved.now.name.now)) }
+    ensures made { IfOk result
+        (MakeLink (filter (fits from.now resolved.now needed.now.record) declared.now)) }
 {
     let mut link = None;
     for dependency in declared {
-        if fits(dependency, from, resolved, package) {
-            link = Some(link_with(alloc, link.take(), from, resolved, dependency)?);
+        if fits(dependency, from, resolved, needed) {
+            link = Some(link_with(alloc, link, from, resolved, dependency)?);
         }
     }
     Ok(link)

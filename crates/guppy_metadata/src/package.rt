@@ -31,8 +31,14 @@ pub(crate) struct Package<'a> {
 }
 
 impl Package<'_> {
+    ghost use Rattle.std.specs.Prelude.{◌≡◌};
+    ghost use Rattle.std.specs.Option.{option_copied};
+    ghost use Rattle.guppy_metadata.specs.Fits.{library_name};
+
     /// The name of the library, where there is one.
-    pub(crate) fn lib_name(&self) -> Option<&str> {
+    pub(crate) fn lib_name(&self) -> Option<&str>
+        ensures { option_copied result ≡ library_name self.now.record.build_targets.items }
+    {
         for target in self.record.build_targets.iter() {
             if let OwnedBuildTargetId::Library = &target.id {
                 return match &target.lib_name {

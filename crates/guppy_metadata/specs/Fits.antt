@@ -1,0 +1,62 @@
+-- Which of the declared dependencies were resolved to one.
+use Rattle.std.specs.Prelude.{◌==◌, ◌&&◌, ◌||◌, ℕ, Bool, true, false, List, Option, length, option_map, option_and_then, unwrap_or, string_bytes}
+use Rattle.std.specs.Cmp.Lexicographic.{pointwise}
+use Rattle.std.specs.List.{find, list_any}
+use Rattle.std.specs.Option.{option_copied, option_eq}
+use Rattle.std.specs.Str.{bytes_eq}
+use Rattle.semver.specs.Eval.{matches_all}
+use Rattle.semver.specs.declared.Version.{Version}
+use Rattle.semver.specs.declared.VersionReq.{VersionReq}
+use Rattle.guppy_data.specs.declared.records.BuildTargetRecord.{BuildTargetRecord}
+use Rattle.guppy_data.specs.declared.records.OwnedBuildTargetId.{OwnedBuildTargetId}
+use Rattle.guppy_data.specs.declared.records.OwnedBuildTargetId.TheVariants.{Library}
+use Rattle.guppy_data.specs.declared.records.PackageRecord.{PackageRecord}
+use Rattle.guppy_metadata.specs.declared.declared.Declared.{Declared}
+use Rattle.guppy_metadata.specs.declared.link.Resolved.{Resolved}
+use Rattle.guppy_metadata.specs.declared.link.Usage.{Usage}
+use Rattle.guppy_metadata.specs.Gathered.{same_section}
+
+-- a letter of a name stands for itself in the code, and `-` for `_` too
+abbrev pub stands_for : ℕ → ℕ → Bool
+stands_for letter in_code = (letter == in_code) || ((letter == 45) && (in_code == 95))
+
+abbrev pub is_named : List ℕ → List ℕ → Bool
+is_named name in_code = pointwise stands_for name in_code
+
+abbrev pub is_library : OwnedBuildTargetId → Bool
+is_library Library = true
+is_library _ = false
+
+-- the name of the first library among these targets
+abbrev pub library_name : List BuildTargetRecord → Option (List ℕ)
+library_name targets = option_and_then (λ t. option_map string_bytes t.lib_name) (find (λ t. is_library t.id) targets)
+
+-- the name by which the code uses a dependency on a package: the one that it is given, else that of the package's
+-- library, and that of the package where it has none
+abbrev pub used_name : Declared → PackageRecord → List ℕ
+used_name x needed = unwrap_or (option_copied x.rename) (unwrap_or (library_name needed.build_targets.items) x.name.now)
+
+-- whether a dependency on the package has this name in the code; one on what is no library has none there
+abbrev pub has_name : Declared → PackageRecord → List ℕ → Bool
+has_name x needed in_code = (length in_code == 0) || is_named (used_name x needed) in_code
+
+-- whether a requirement takes the version: `*`, which has no comparator, takes each one
+abbrev pub takes : VersionReq → Version → Bool
+takes req version = (length req.comparators.items == 0) || matches_all req.comparators.items version
+
+-- whether a usage is in the section and on the platforms of the dependency
+abbrev pub same_usage : Declared → Usage → Bool
+same_usage x usage = same_section usage.section x.section && option_eq bytes_eq (option_copied usage.target) (option_copied x.target)
+
+-- whether one of the usages is
+abbrev pub is_used : Declared → List Usage → Bool
+is_used x usages = list_any (same_usage x) usages
+
+-- whether what the package `from` declares was resolved to the package: a dependency of its name, in the code too
+-- where it isn't `from` itself, that takes its version and is used
+abbrev pub fits : List ℕ → Resolved → PackageRecord → Declared → Bool
+fits from resolved needed x =
+    bytes_eq x.name.now (string_bytes needed.name)
+    && (bytes_eq from resolved.id.now || has_name x needed resolved.name.now)
+    && takes x.requirement needed.version
+    && is_used x resolved.usages.items
