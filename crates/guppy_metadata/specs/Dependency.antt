@@ -1,19 +1,37 @@
 -- What the JSON of a declared dependency says.
-use Rattle.std.specs.Prelude.{◌≡◌, ℕ, true, false, List, Option, Some, None, String, map, unwrap_or, if◌then◌else◌, codes}
+use Rattle.std.specs.Prelude.{◌≡◌, ◌⊎◌, ℕ, true, false, List, Option, Some, None, Ok, String, map, unwrap_or, if◌then◌else◌, codes}
 use Rattle.std.specs.declared.alloc.Global.{Global}
 use Rattle.std.specs.List.{AllZip, filter_map}
 use Rattle.std.specs.Option.{option_copied}
+use Rattle.semver.specs.Identifiers.{comparator_view}
+use Rattle.semver.specs.Parse.{req_of}
+use Rattle.semver.specs.declared.VersionReq.{VersionReq}
 use Rattle.serde_json.specs.Data.{Data, string, array}
 use Rattle.serde_json.specs.Find.{get}
 use Rattle.serde_json.specs.View.{items_of}
 use Rattle.indexmap.specs.IndexSet.{IndexSet, contains_text}
+use Rattle.guppy_data.specs.declared.texts.dependency_kind.DependencyKind.{DependencyKind}
+use Rattle.guppy_data.specs.declared.texts.dependency_kind.DependencyKind.TheVariants.{Normal, Development, Build}
 use Rattle.guppy_metadata.specs.declared.declared.Declared.{Declared}
 use Rattle.guppy_metadata.specs.Members.{IsText, IsTruth, AreTexts, is_among}
 
--- a declared dependency, but for its requirement and its section
+-- the section that the member `kind` names: the normal one where there is none
+abbrev pub NamesSection : Data → DependencyKind → Type 0
+NamesSection d Normal = IsText (codes "kind") d None ⊎ IsText (codes "kind") d (Some (codes "normal"))
+NamesSection d Development = IsText (codes "kind") d (Some (codes "dev"))
+NamesSection d Build = IsText (codes "kind") d (Some (codes "build"))
+
+-- the requirement that the text of the member `req` is
+abbrev pub NamesRequirement : Data → VersionReq → Type 0
+NamesRequirement d req = (text : List ℕ) × (get (codes "req") d ≡ Some (string text))
+    × (req_of text ≡ Ok (map comparator_view req.comparators.items))
+
+-- a declared dependency
 pub record IsDeclared (d : Data) (x : Declared) : Type 0 where
   pub name : get (codes "name") d ≡ Some (string x.name.now)
   pub rename : IsText (codes "rename") d (option_copied x.rename)
+  pub requirement : NamesRequirement d x.requirement
+  pub section : NamesSection d x.section
   pub target : IsText (codes "target") d (option_copied x.target)
   pub optional : IsTruth (codes "optional") d false x.optional
   pub default_features : IsTruth (codes "uses_default_features") d true x.default_features
@@ -33,7 +51,10 @@ optional_name x = if x.optional then Some (manifest_name x) else None
 abbrev pub NamesOptional : {S : Type 0} → List Declared → IndexSet (String Global) S → Type 0
 NamesOptional declared names = (name : List ℕ) → contains_text names name ≡ is_among (filter_map optional_name declared) name
 
+-- these are the dependencies of a list
+abbrev pub AreDeclared : Data → List Declared → Type 0
+AreDeclared d declared = (items : List Data) × (d ≡ array (items_of items)) × AllZip IsDeclared items declared
+
 -- these are the names of the optional ones among the dependencies of a list
 abbrev pub AreOptional : {S : Type 0} → Data → IndexSet (String Global) S → Type 0
-AreOptional d names = (items : List Data) × (declared : List Declared)
-    × (d ≡ array (items_of items)) × AllZip IsDeclared items declared × NamesOptional declared names
+AreOptional d names = (declared : List Declared) × AreDeclared d declared × NamesOptional declared names

@@ -1,10 +1,19 @@
--- What the JSON says of links: their ends and their names in the code.
-use Rattle.std.specs.Prelude.{◌≡◌, ℕ, List, Some, string_bytes, codes}
+-- What the JSON says of links.
+use Rattle.std.specs.Prelude.{◌≡◌, ℕ, List, [], Option, Some, None, IsSomeAnd, filter, map, string_bytes, codes}
 use Rattle.std.specs.List.{AllZip, flat_map}
+use Rattle.std.specs.Option.{option_copied}
 use Rattle.serde_json.specs.Data.{Data, string, array}
 use Rattle.serde_json.specs.Find.{get}
 use Rattle.serde_json.specs.View.{items_of}
 use Rattle.guppy_data.specs.declared.records.LinkRecord.{LinkRecord}
+use Rattle.guppy_metadata.specs.declared.link.Resolved.{Resolved}
+use Rattle.guppy_metadata.specs.declared.link.Usage.{Usage}
+use Rattle.guppy_metadata.specs.declared.package.Package.{Package}
+use Rattle.guppy_metadata.specs.Dependency.{NamesSection}
+use Rattle.guppy_metadata.specs.Fits.{fits}
+use Rattle.guppy_metadata.specs.Gathered.{IsGathered, IsMadeOf}
+use Rattle.guppy_metadata.specs.Members.{IsText}
+use Rattle.guppy_metadata.specs.Package.{ArePackages, AreDeclaring, with_id}
 
 -- the link leads from one ID to another, and has this name in the code
 pub record Joins (from to name : List ℕ) (r : LinkRecord) : Type 0 where
@@ -12,28 +21,54 @@ pub record Joins (from to name : List ℕ) (r : LinkRecord) : Type 0 where
   pub to_is : r.to ≡ to
   pub name_is : string_bytes r.resolved_name ≡ name
 
--- the dependency names this ID, and has this name in the code
-pub record IsResolved (d : Data) (id name : List ℕ) : Type 0 where
-  pub id_is : get (codes "pkg") d ≡ Some (string id)
-  pub name_is : get (codes "name") d ≡ Some (string name)
+-- a section and the platforms that a dependency is used for
+pub record IsUsage (d : Data) (x : Usage) : Type 0 where
+  pub section : NamesSection d x.section
+  pub target : IsText (codes "target") d (option_copied x.target)
+
+-- the usages of a list
+abbrev pub AreUsages : Data → List Usage → Type 0
+AreUsages d usages = (items : List Data) × (d ≡ array (items_of items)) × AllZip IsUsage items usages
+
+-- a resolved dependency: its ID, its name in the code, and what it is used for
+pub record IsResolved (d : Data) (x : Resolved) : Type 0 where
+  pub id_is : get (codes "pkg") d ≡ Some (string x.id.now)
+  pub name_is : get (codes "name") d ≡ Some (string x.name.now)
+  pub usages_are : IsSomeAnd (get (codes "dep_kinds") d) (λ told. AreUsages told x.usages.items)
+
+-- the link is asked for by no dependency, with any version, and is named as in the code
+pub record IsUnasked (name : List ℕ) (r : LinkRecord) : Type 0 where
+  pub dep_name : string_bytes r.dep_name ≡ name
+  pub requirement : r.version_req.comparators.items ≡ []
+  pub gathered : IsGathered [] r
+
+-- what asks for the link: of the dependencies that its package declares, those that were resolved to the needed one;
+-- none where one of the two is no package
+abbrev pub IsAsked : Option Package → Option Package → List ℕ → Resolved → LinkRecord → Type 0
+IsAsked (Some asking) (Some needed) from resolved r =
+    IsMadeOf (filter (fits from resolved needed.record) asking.declared.items) r
+IsAsked (Some asking) None from resolved r = IsUnasked resolved.name.now r
+IsAsked None needed from resolved r = IsUnasked resolved.name.now r
 
 -- the link from this ID that the dependency is
-pub record IsLink (from : List ℕ) (d : Data) (r : LinkRecord) : Type 0 where
-  pub from_is : r.from ≡ from
-  pub resolved : IsResolved d r.to (string_bytes r.resolved_name)
+pub record IsLink (packages : List Package) (from : List ℕ) (d : Data) (r : LinkRecord) : Type 0 where
+  pub resolved : Resolved
+  pub resolved_is : IsResolved d resolved
+  pub joins : Joins from resolved.id.now resolved.name.now r
+  pub asked : IsAsked (with_id from packages) (with_id resolved.id.now packages) from resolved r
 
 -- the links that leave the package of a node: one for each of its dependencies, in their order
-pub record AreLinksOf (d : Data) (links : List LinkRecord) : Type 0 where
+pub record AreLinksOf (packages : List Package) (d : Data) (links : List LinkRecord) : Type 0 where
   pub id : List ℕ
   pub id_is : get (codes "id") d ≡ Some (string id)
   pub deps : List Data
   pub deps_are : get (codes "deps") d ≡ Some (array (items_of deps))
-  pub links_are : AllZip (IsLink id) deps links
+  pub links_are : AllZip (IsLink packages id) deps links
 
 -- the links of all nodes, one row behind the other
-pub record AreLinksOfAll (nodes : List Data) (links : List LinkRecord) : Type 0 where
+pub record AreLinksOfAll (packages : List Package) (nodes : List Data) (links : List LinkRecord) : Type 0 where
   pub rows : List (List LinkRecord)
-  pub rows_are : AllZip AreLinksOf nodes rows
+  pub rows_are : AllZip (AreLinksOf packages) nodes rows
   pub all : links ≡ flat_map (λ row. row) rows
 
 -- the nodes of the resolved dependencies
@@ -42,6 +77,11 @@ pub record AreNodes (d : Data) (nodes : List Data) : Type 0 where
   pub resolve_is : get (codes "resolve") d ≡ Some resolve
   pub nodes_are : get (codes "nodes") resolve ≡ Some (array (items_of nodes))
 
--- the links of what is resolved
-abbrev pub AreLinks : Data → List LinkRecord → Type 0
-AreLinks d links = (nodes : List Data) × AreNodes d nodes × AreLinksOfAll nodes links
+-- the links of what is resolved, between the packages
+pub record AreLinks (d : Data) (links : List LinkRecord) : Type 0 where
+  pub packages : List Package
+  pub records_are : ArePackages d (map (λ p. p.record) packages)
+  pub declare : IsSomeAnd (get (codes "packages") d) (λ told. AreDeclaring told packages)
+  pub nodes : List Data
+  pub nodes_are : AreNodes d nodes
+  pub links_are : AreLinksOfAll packages nodes links

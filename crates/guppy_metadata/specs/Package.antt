@@ -1,7 +1,10 @@
 -- What the JSON of a package says.
-use Rattle.std.specs.Prelude.{◌≡◌, ◌==◌, ℕ, zero, suc, Bool, true, false, List, [], ◌++◌, Option, Some, None, IsSomeAnd, Ok, String, Vec, length, filter, map, option_map, unwrap_or, string_bytes, codes}
+use Rattle.std.specs.Prelude.{◌≡◌, ◌==◌, ℕ, zero, suc, Bool, true, false, List, [], ◌++◌, Option, Some, None, IsSomeAnd, Ok, String, Vec, length, filter, map, option_map, option_and_then, unwrap_or, slice_get, string_bytes, codes}
 use Rattle.std.specs.declared.alloc.Global.{Global}
-use Rattle.std.specs.List.{AllZip}
+use Rattle.std.specs.Borrow.{Bor}
+use Rattle.std.specs.List.{AllZip, last_or}
+use Rattle.std.specs.Str.{bytes_eq}
+use Rattle.indexmap.specs.IndexMap.{IndexMap, get_by}
 use Rattle.semver.specs.Identifiers.{parts_of}
 use Rattle.semver.specs.Parse.{version_parts}
 use Rattle.semver.specs.declared.Version.{Version}
@@ -16,7 +19,8 @@ use Rattle.guppy_data.specs.declared.records.PackagePublishRecord.TheVariants.{U
 use Rattle.guppy_data.specs.declared.records.PackageSourceRecord.{PackageSourceRecord}
 use Rattle.guppy_data.specs.declared.records.PackageSourceRecord.TheVariants.{Workspace, Path, External}
 use Rattle.guppy_data.specs.declared.texts.named_feature.NamedFeatureDep.{NamedFeatureDep}
-use Rattle.guppy_metadata.specs.Dependency.{AreOptional}
+use Rattle.guppy_metadata.specs.declared.package.Package.{Package}
+use Rattle.guppy_metadata.specs.Dependency.{AreDeclared, AreOptional}
 use Rattle.guppy_metadata.specs.Feature.{IsNamedFeature}
 use Rattle.guppy_metadata.specs.Members.{present, IsText, list_of, AreTexts, is_among}
 use Rattle.guppy_metadata.specs.Target.{IsTarget}
@@ -111,3 +115,21 @@ ArePackagesOf members d records = (items : List Data) × (get (codes "packages")
 abbrev pub ArePackages : Data → List PackageRecord → Type 0
 ArePackages d records = (members : List (List ℕ))
     × (get (codes "workspace_members") d ≡ Some (list_of members)) × ArePackagesOf members d records
+
+-- the last package with this ID
+abbrev pub with_id : List ℕ → List Package → Option Package
+with_id id packages = last_or None (filter (λ p. bytes_eq p.id.now id) packages)
+
+-- the positions of the packages behind their IDs
+abbrev pub ArePositions : {S : Type 0} → List Package → IndexMap (Bor (List ℕ)) ℕ S → Type 0
+ArePositions packages positions = (id : List ℕ)
+    → option_and_then (slice_get packages) (get_by (λ key. bytes_eq id key.now) positions) ≡ with_id id packages
+
+-- a package, and the dependencies that it declares
+pub record Declares (d : Data) (p : Package) : Type 0 where
+  pub id : get (codes "id") d ≡ Some (string p.id.now)
+  pub declared : IsSomeAnd (get (codes "dependencies") d) (λ told. AreDeclared told p.declared.items)
+
+-- the packages of a list, and the dependencies that they declare
+abbrev pub AreDeclaring : Data → List Package → Type 0
+AreDeclaring d packages = (items : List Data) × (d ≡ array (items_of items)) × AllZip Declares items packages

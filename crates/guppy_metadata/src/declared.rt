@@ -3,7 +3,7 @@ ghost use Rattle.std.specs.Prelude.{◌≡◌, unwrap_or, map, IfOk};
 ghost use Rattle.std.specs.List.{AllZip};
 ghost use Rattle.std.specs.Option.{option_copied};
 ghost use Rattle.serde_json.specs.View.{view};
-ghost use Rattle.guppy_metadata.specs.Dependency.{IsDeclared, NamesOptional};
+ghost use Rattle.guppy_metadata.specs.Dependency.{IsDeclared, NamesSection, NamesOptional};
 ghost use Rattle.guppy_metadata.specs.Members.{data_of};
 
 use crate::fault::{Misfit, TextFault};
@@ -63,7 +63,9 @@ impl<'a> Declared<'a> {
 }
 
 /// The section that the text in the member `kind` names; `normal` where there is none.
-pub(crate) fn section_of(object: Object<'_>) -> Result<DependencyKind, Misfit> {
+pub(crate) fn section_of(object: Object<'_>) -> Result<DependencyKind, Misfit>
+    ensures { IfOk result (NamesSection (data_of object.entry)) }
+{
     match object.optional_text("kind")? {
         None | Some("normal") => Ok(DependencyKind::Normal),
         Some("dev") => Ok(DependencyKind::Development),

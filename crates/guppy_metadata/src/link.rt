@@ -1,6 +1,6 @@
 //! Links, of what packages declare and what is resolved.
 ghost use Rattle.std.specs.Prelude.{◌≡◌, ◌++◌, ◌∷◌, [], ℕ, List, if◌then◌else◌, true, false, filter, map, string_bytes, option_map, IfOk, OnOk, IfSome};
-ghost use Rattle.std.specs.List.{fold};
+ghost use Rattle.std.specs.List.{AllZip, fold};
 ghost use Rattle.std.specs.Str.{bytes_eq};
 ghost use Rattle.std.specs.Option.{option_copied, option_or};
 ghost use Rattle.guppy_data.specs.declared.records.LinkRecord.{LinkRecord};
@@ -10,8 +10,9 @@ ghost use Rattle.serde_json.specs.View.{view};
 ghost use Rattle.guppy_metadata.specs.declared.declared.Declared.{Declared};
 ghost use Rattle.guppy_metadata.specs.Fits.{stands_for, is_named, has_name, same_usage, is_used, fits};
 ghost use Rattle.guppy_metadata.specs.Gathered.{status_at, asked_too, asks_for, IsSection, IsGathered, IsNamedAs, IsMadeOf, MakeLink};
-ghost use Rattle.guppy_metadata.specs.Links.{Joins, IsResolved, IsLink, AreLinksOf, AreLinksOfAll};
+ghost use Rattle.guppy_metadata.specs.Links.{Joins, IsUsage, IsResolved, IsUnasked, IsLink, AreLinksOf, AreLinksOfAll};
 ghost use Rattle.guppy_metadata.specs.Members.{data_of};
+ghost use Rattle.guppy_metadata.specs.Package.{ArePositions};
 
 use crate::declared::{Declared, section_of};
 use crate::fault::{Misfit, TextFault};
@@ -35,7 +36,14 @@ pub(crate) struct Packages<'p, 'a> {
 }
 
 impl<'p, 'a> Packages<'p, 'a> {
-    fn with_id(self, id: &str) -> Option<&'p Package<'a>> {
+    ghost use Rattle.std.specs.Prelude.{◌≡◌};
+    ghost use Rattle.std.specs.Option.{option_copied};
+    ghost use Rattle.guppy_metadata.specs.Package.{with_id, ArePositions};
+
+    fn with_id(self, id: &str) -> Option<&'p Package<'a>>
+        requires { ArePositions self.packages.now self.positions.now }
+        ensures { option_copied result ≡ with_id id.now self.entry.packages.now }
+    {
         let position = self.positions.get(id)?;
         self.packages.get(*position)
     }
@@ -56,7 +64,9 @@ struct Resolved<'a> {
     usages: Vec<Usage<'a>>,
 }
 
-fn usage_of(usage: Object<'_>) -> Result<Usage<'_>, Misfit> {
+fn usage_of(usage: Object<'_>) -> Result<Usage<'_>, Misfit>
+    ensures { IfOk result (IsUsage (data_of usage.entry)) }
+{
     Ok(Usage {
         section: section_of(usage)?,
         target: usage.optional_text("target")?,
@@ -64,7 +74,9 @@ fn usage_of(usage: Object<'_>) -> Result<Usage<'_>, Misfit> {
 }
 
 // The usages that the items of the list `dep_kinds` are.
-fn usages_of(alloc: Global, items: &[Value]) -> Result<Vec<Usage<'_>>, Misfit> {
+fn usages_of(alloc: Global, items: &[Value]) -> Result<Vec<Usage<'_>>, Misfit>
+    ensures { IfOk result (λ usages. AllZip IsUsage (map view items.now) usages.items) }
+{
     let mut usages = Vec::with_capacity(alloc, items.len())?;
     for (index, item) in items.iter().enumerate() {
         let usage = Object::of_item(alloc, "dep_kinds", index, item)?;
@@ -77,7 +89,7 @@ fn usages_of(alloc: Global, items: &[Value]) -> Result<Vec<Usage<'_>>, Misfit> {
 }
 
 fn resolved_of(dependency: Object<'_>) -> Result<Resolved<'_>, Misfit>
-    ensures { IfOk result (λ r. IsResolved (data_of dependency.entry) r.id.now r.name.now) }
+    ensures { IfOk result (IsResolved (data_of dependency.entry)) }
 {
     Ok(Resolved {
         name: dependency.text("name")?,
@@ -380,24 +392,20 @@ fn link_of_fitting(
     Ok(link)
 }
 
-// The link from the package with this ID. Where one of its ends is no package, which the package graph
-// refuses, it is asked for in no section.
-fn link_of(
-    packages: Packages<'_, '_>,
+// The link between two packages.
+fn link_between(
+    alloc: Global,
     from: &str,
-    dependency: Object<'_>,
+    resolved: &Resolved<'_>,
+    ends: (&Package<'_>, &Package<'_>),
 ) -> Result<LinkRecord, Misfit>
-    ensures { IfOk result (IsLink from.now (data_of dependency.entry)) }
+    ensures joins { IfOk result (Joins from.now resolved.now.id.now resolved.now.name.now) }
+    ensures made { IfOk result
+        (IsMadeOf (filter (fits from.now resolved.now ends.entry.1.now.record)
+        ends.entry.0.now.declared.items)) }
 {
-    let alloc = dependency.alloc;
-    let resolved = resolved_of(dependency)?;
-    let ends = (packages.with_id(from), packages.with_id(resolved.id));
-    let (Some(package), Some(needed)) = ends else {
-        let any = VersionReq::star(alloc);
-        return Ok(bare_link(alloc, from, &resolved, resolved.name, any)?);
-    };
-    let declared = package.declared.as_slice();
-    match link_of_fitting(alloc, from, declared, &resolved, needed)? {
+    let declared = ends.0.declared.as_slice();
+    match link_of_fitting(alloc, from, declared, resolved, ends.1)? {
         Some(link) => Ok(link),
         None => {
             let why = TextFault::NoDependency;
@@ -406,14 +414,50 @@ fn link_of(
     }
 }
 
+// The link that is asked for in no section.
+fn unasked_link(
+    alloc: Global,
+    from: &str,
+    resolved: &Resolved<'_>,
+) -> Result<LinkRecord, AllocError>
+    ensures joins { IfOk result (Joins from.now resolved.now.id.now resolved.now.name.now) }
+    ensures unasked { IfOk result (IsUnasked resolved.now.name.now) }
+{
+    let any = VersionReq::star(alloc);
+    bare_link(alloc, from, resolved, resolved.name, any)
+}
+
+// The link from the package with this ID. Where one of its ends is no package, which the package graph
+// refuses, it is asked for in no section.
+fn link_of(
+    packages: Packages<'_, '_>,
+    from: &str,
+    dependency: Object<'_>,
+) -> Result<LinkRecord, Misfit>
+    requires { ArePositions packages.packages.now packages.positions.now }
+    ensures { IfOk result
+        (IsLink packages.entry.packages.now from.now (data_of dependency.entry)) }
+{
+    let alloc = dependency.alloc;
+    let resolved = resolved_of(dependency)?;
+    let Some(package) = packages.with_id(from) else {
+        return Ok(unasked_link(alloc, from, &resolved)?);
+    };
+    let Some(needed) = packages.with_id(resolved.id) else {
+        return Ok(unasked_link(alloc, from, &resolved)?);
+    };
+    Ok(link_between(alloc, from, &resolved, (package, needed))?)
+}
+
 // Adds the links that leave a package.
 fn add_links(
     links: &mut Vec<LinkRecord>,
     packages: Packages<'_, '_>,
     node: Object<'_>,
 ) -> Result<(), Misfit>
+    requires { ArePositions packages.packages.now packages.positions.now }
     ensures { OnOk result ((row : List LinkRecord) × (links.new.items ≡ links.old.items ++ row)
-        × AreLinksOf (data_of node.entry) row) }
+        × AreLinksOf packages.entry.packages.now (data_of node.entry) row) }
 {
     let alloc = node.alloc;
     let from = node.text("id")?;
@@ -433,7 +477,9 @@ pub(crate) fn links_of(
     packages: Packages<'_, '_>,
     items: &[Value],
 ) -> Result<Vec<LinkRecord>, Misfit>
-    ensures { IfOk result (λ links. AreLinksOfAll (map view items.now) links.items) }
+    requires { ArePositions packages.packages.now packages.positions.now }
+    ensures { IfOk result
+        (λ links. AreLinksOfAll packages.entry.packages.now (map view items.now) links.items) }
 {
     let mut links = Vec::new(alloc);
     for (index, item) in items.iter().enumerate() {

@@ -1,8 +1,8 @@
 //! The members of a JSON object. A fault's place is the one that it has from the object.
 ghost use Rattle.std.specs.Prelude.{◌≡◌, IfOk, Ok, map, option_map, string_bytes};
 ghost use Rattle.std.specs.Option.{option_copied};
-ghost use Rattle.semver.specs.Identifiers.{parts_of};
-ghost use Rattle.semver.specs.Parse.{version_parts};
+ghost use Rattle.semver.specs.Identifiers.{parts_of, comparator_view};
+ghost use Rattle.semver.specs.Parse.{version_parts, req_of};
 ghost use Rattle.serde_json.specs.Data.{string, array};
 ghost use Rattle.serde_json.specs.View.{view, items_view};
 ghost use Rattle.guppy_metadata.specs.Members.{data_of};
@@ -120,7 +120,9 @@ pub(crate) fn version_of(alloc: Global, name: &str, text: &str) -> Result<Versio
 }
 
 /// The requirement that the text in the member of this name is.
-pub(crate) fn requirement_of(alloc: Global, name: &str, text: &str) -> Result<VersionReq, Misfit> {
+pub(crate) fn requirement_of(alloc: Global, name: &str, text: &str) -> Result<VersionReq, Misfit>
+    ensures { IfOk result (λ req. req_of text.now ≡ Ok (map comparator_view req.comparators.items)) }
+{
     match VersionReq::parse(alloc, text) {
         Ok(requirement) => Ok(requirement),
         Err(error) if is_memory(error) => Err(Misfit::OutOfMemory),

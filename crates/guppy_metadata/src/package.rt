@@ -5,7 +5,7 @@ ghost use Rattle.serde_json.specs.Data.{Data};
 ghost use Rattle.serde_json.specs.View.{view};
 ghost use Rattle.guppy_metadata.specs.Dependency.{NamesOptional};
 ghost use Rattle.guppy_metadata.specs.Members.{data_of, is_in, IsText};
-ghost use Rattle.guppy_metadata.specs.Package.{IsFrom, IsNamed, IsDescribed, IsFilled, IsPackage, IsPublishable, IsRustVersion, dots_in, zeros_behind, whole_version};
+ghost use Rattle.guppy_metadata.specs.Package.{IsFrom, IsNamed, IsDescribed, IsFilled, IsPackage, IsPublishable, IsRustVersion, ArePositions, Declares, dots_in, zeros_behind, whole_version};
 
 use crate::declared::{Declared, declared_dependencies, optional_names};
 use crate::fault::Misfit;
@@ -211,7 +211,9 @@ fn package_of<'a>(
     members: &IndexSet<&str>,
     root: Utf8Path<'_>,
 ) -> Result<Package<'a>, Misfit>
-    ensures { IfOk result (λ made. IsPackage (is_in members.now) (data_of json.entry) made.record) }
+    ensures made { IfOk result
+        (λ made. IsPackage (is_in members.now) (data_of json.entry) made.record) }
+    ensures declares { IfOk result (Declares (data_of json.entry)) }
 {
     let alloc = json.alloc;
     let id = json.text("id")?;
@@ -233,8 +235,10 @@ pub(crate) fn packages_of<'a>(
     members: &IndexSet<&str>,
     root: Utf8Path<'_>,
 ) -> Result<Vec<Package<'a>>, Misfit>
-    ensures { IfOk result (λ packages. AllZip (IsPackage (is_in members.now)) (map view items.now)
-        (map (λ p. p.record) packages.items)) }
+    ensures made { IfOk result (λ packages. AllZip (IsPackage (is_in members.now))
+        (map view items.now) (map (λ p. p.record) packages.items)) }
+    ensures declare { IfOk result
+        (λ packages. AllZip Declares (map view items.now) packages.items) }
 {
     let mut packages = Vec::with_capacity(alloc, items.len())?;
     for (index, item) in items.iter().enumerate() {
@@ -251,7 +255,9 @@ pub(crate) fn packages_of<'a>(
 pub(crate) fn positions_of<'a>(
     alloc: Global,
     packages: &[Package<'a>],
-) -> Result<IndexMap<&'a str, usize>, AllocError> {
+) -> Result<IndexMap<&'a str, usize>, AllocError>
+    ensures { IfOk result (ArePositions packages.now) }
+{
     let mut positions = IndexMap::with_capacity(alloc, packages.len())?;
     for (position, package) in packages.iter().enumerate() {
         positions.insert(package.id, position)?;

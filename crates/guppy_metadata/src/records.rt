@@ -1,11 +1,12 @@
 //! All records.
 ghost use Rattle.std.specs.Prelude.{◌≡◌, None, Some, IsSome, IsSomeAnd, IfOk, OnOk, IfErr, map, codes};
+ghost use Rattle.serde_json.specs.Find.{get};
 ghost use Rattle.serde_json.specs.Read.{read};
 ghost use Rattle.serde_json.specs.View.{view};
 ghost use Rattle.guppy_metadata.specs.Fault.{IsNotJson, IsNotResolved};
 ghost use Rattle.guppy_metadata.specs.Links.{AreLinks, AreLinksOfAll, AreNodes};
 ghost use Rattle.guppy_metadata.specs.Members.{data_of, present, is_among};
-ghost use Rattle.guppy_metadata.specs.Package.{ArePackages, ArePackagesOf};
+ghost use Rattle.guppy_metadata.specs.Package.{ArePackages, ArePackagesOf, AreDeclaring};
 ghost use Rattle.guppy_metadata.specs.Workspace.{IsWorkspace};
 
 use crate::fault::{MetadataFault, Misfit};
@@ -84,7 +85,7 @@ fn links_between(
     members: &[&str],
     nodes: &[Value],
 ) -> Result<Vec<LinkRecord>, Misfit>
-    ensures { IfOk result (λ links. AreLinksOfAll (map view nodes.now) links.items) }
+    ensures { IfOk result (λ links. AreLinksOfAll packages.now (map view nodes.now) links.items) }
 {
     let positions = positions_of(alloc, packages)?;
     check_members(alloc, members, &positions)?;
@@ -104,12 +105,15 @@ fn packages_in<'a>(
     members: &[&str],
     root: Utf8Path<'_>,
 ) -> Result<Vec<Package<'a>>, Misfit>
-    ensures { IfOk result (λ packages. ArePackagesOf (map (λ id. id.now) members.now)
+    ensures made { IfOk result (λ packages. ArePackagesOf (map (λ id. id.now) members.now)
         (data_of metadata.entry) (map (λ p. p.record) packages.items)) }
+    ensures declare { IfOk result (λ packages. IsSomeAnd
+        (get (codes "packages") (data_of metadata.entry)) (λ told. AreDeclaring told packages.items)) }
 {
     let alloc = metadata.alloc;
     let members = set_of(alloc, members)?;
-    packages_of(alloc, metadata.items("packages")?, &members, root)
+    let items = metadata.items("packages")?;
+    Ok(packages_of(alloc, items, &members, root)?)
 }
 
 fn records_in(metadata: Object<'_>) -> Result<Records, Misfit>

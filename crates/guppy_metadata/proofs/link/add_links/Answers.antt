@@ -10,13 +10,13 @@ loop-index-init c = ([], sym (append-nil c.args.links.now.items), tt)
 
 pub loop-index-preserved : goal.loop-index-preserved
 loop-index-preserved c =
-    let from = c.in_ok-from.from.now in
+    let is_link = IsLink c.args.packages.packages.now c.in_ok-from.from.now in
     let row = c.loop-index.invariant.0 in
     let link = c.in-Ok.link in
-    let is : IsLink from (view c.item-item.result) link = subst (λ d. IsLink from d link) c.in_ok-dependency.ensures c.in-Ok.ensures in (
+    let is : is_link (view c.item-item.result) link = subst (λ d. is_link d link) c.in_ok-dependency.ensures c.in-Ok.ensures in (
       row ++ link ∷ [],
       c.in_ok-push-in-Ok.ensures.items ∙ (ap (λ front. front ++ link ∷ []) c.loop-index.invariant.1 ∙ append_assoc c.args.links.now.items row (link ∷ [])),
-      next_fits (IsLink from) view c.in_ok-item-items.item-items.now c.loop-index.index _ _ row link c.loop-index-test.true c.item-item.is c.loop-index.invariant.2 is,
+      next_fits is_link view c.in_ok-item-items.item-items.now c.loop-index.index _ _ row link c.loop-index-test.true c.item-item.is c.loop-index.invariant.2 is,
     )
 
 pub returns : goal.returns

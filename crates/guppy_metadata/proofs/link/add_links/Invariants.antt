@@ -6,4 +6,4 @@ use Rattle.guppy_metadata.specs.Links.{IsLink}
 use Rattle.guppy_metadata.proofs.link.add_links.Given as goal
 
 abbrev pub invariant-loop-index : goal.invariant-loop-index
-invariant-loop-index l = (row : List LinkRecord) × (l.links.items ≡ l.fn.links.items ++ row) × AllZip (IsLink l.from) (map view (take l.index l.item-items)) row
+invariant-loop-index l = (row : List LinkRecord) × (l.links.items ≡ l.fn.links.items ++ row) × AllZip (IsLink l.packages.packages.now l.from) (map view (take l.index l.item-items)) row

@@ -7,12 +7,13 @@ use Rattle.guppy_metadata.proofs.link.links_of.Goals as goal
 
 pub loop-index-preserved : goal.loop-index-preserved
 loop-index-preserved c =
+    let fit = AreLinksOf c.args.packages.packages.now in
     let were = c.loop-index.invariant in
     let more = c.in_default.ensures in
     let row = more.0 in
-    let are : AreLinksOf (view c.index-items-index.result) row = subst (λ d. AreLinksOf d row) c.in_ok-node.ensures more.2 in
+    let are : fit (view c.index-items-index.result) row = subst (λ d. fit d row) c.in_ok-node.ensures more.2 in
     record {
       rows = were.rows ++ row ∷ [];
-      rows_are = next_fits AreLinksOf view c.args.items.now c.loop-index.index _ _ were.rows row c.loop-index-test.true c.index-items-index.is were.rows_are are;
+      rows_are = next_fits fit view c.args.items.now c.loop-index.index _ _ were.rows row c.loop-index-test.true c.index-items-index.is were.rows_are are;
       all = more.1 ∙ (ap (λ front. front ++ row) were.all ∙ flat_map_more (λ row. row) [] were.rows row);
     }
