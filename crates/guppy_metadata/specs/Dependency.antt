@@ -1,19 +1,18 @@
 -- What the JSON of a declared dependency says.
 use Rattle.std.specs.Prelude.{◌≡◌, ◌⊎◌, ℕ, true, false, List, Option, Some, None, Ok, String, map, unwrap_or, if◌then◌else◌, codes}
 use Rattle.std.specs.declared.alloc.Global.{Global}
-use Rattle.std.specs.List.{AllZip, filter_map}
+use Rattle.std.specs.List.{filter_map}
 use Rattle.std.specs.Option.{option_copied}
 use Rattle.semver.specs.Identifiers.{comparator_view}
 use Rattle.semver.specs.Parse.{req_of}
 use Rattle.semver.specs.declared.VersionReq.{VersionReq}
-use Rattle.serde_json.specs.Data.{Data, string, array}
+use Rattle.serde_json.specs.Data.{Data, string}
 use Rattle.serde_json.specs.Find.{get}
-use Rattle.serde_json.specs.View.{items_of}
 use Rattle.indexmap.specs.IndexSet.{IndexSet, contains_text}
 use Rattle.guppy_data.specs.declared.texts.dependency_kind.DependencyKind.{DependencyKind}
 use Rattle.guppy_data.specs.declared.texts.dependency_kind.DependencyKind.TheVariants.{Normal, Development, Build}
 use Rattle.guppy_metadata.specs.declared.declared.Declared.{Declared}
-use Rattle.guppy_metadata.specs.Members.{IsText, IsTruth, AreTexts, is_among}
+use Rattle.guppy_metadata.specs.Members.{IsText, IsTruth, IsListOf, AreTexts, is_among}
 
 -- the section that the member `kind` names: the normal one where there is none
 abbrev pub NamesSection : Data → DependencyKind → Type 0
@@ -51,10 +50,6 @@ optional_name x = if x.optional then Some (manifest_name x) else None
 abbrev pub NamesOptional : {S : Type 0} → List Declared → IndexSet (String Global) S → Type 0
 NamesOptional declared names = (name : List ℕ) → contains_text names name ≡ is_among (filter_map optional_name declared) name
 
--- these are the dependencies of a list
-abbrev pub AreDeclared : Data → List Declared → Type 0
-AreDeclared d declared = (items : List Data) × (d ≡ array (items_of items)) × AllZip IsDeclared items declared
-
 -- these are the names of the optional ones among the dependencies of a list
 abbrev pub AreOptional : {S : Type 0} → Data → IndexSet (String Global) S → Type 0
-AreOptional d names = (declared : List Declared) × AreDeclared d declared × NamesOptional declared names
+AreOptional d names = (declared : List Declared) × IsListOf IsDeclared d declared × NamesOptional declared names

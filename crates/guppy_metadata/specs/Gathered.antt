@@ -20,11 +20,11 @@ use Rattle.guppy_metadata.specs.Dependency.{manifest_name}
 abbrev pub targets_of : List Declared → List (Option (List ℕ))
 targets_of = map (λ x. option_copied x.target)
 
--- where something is that is asked for on these platforms: everywhere, where one names none
+-- the status of what is asked for on these platforms: `Always` where one of them is none
 abbrev pub status_for : List (Option (List ℕ)) → Status
 status_for targets = fold with_spec Never targets
 
--- where a feature is, which is asked for on one more platform
+-- the status of a feature that is asked for on one more platform
 abbrev pub asked_too : Option Status → Option (List ℕ) → Option Status
 asked_too status target = Some (with_spec (unwrap_or status Never) target)
 
@@ -32,11 +32,11 @@ asked_too status target = Some (with_spec (unwrap_or status Never) target)
 abbrev pub asks_for : List ℕ → Declared → List (Option (List ℕ))
 asks_for name x = map (λ _. option_copied x.target) (filter (λ feature. bytes_eq name feature.now) x.features.items)
 
--- where the feature is, if one of the dependencies names it
+-- the status of the feature, where one of the dependencies names it
 abbrev pub feature_status : List ℕ → List Declared → Option Status
 feature_status name xs = fold asked_too None (flat_map (asks_for name) xs)
 
--- where a map says that the feature is
+-- the status that the feature has in a map
 abbrev pub status_at : BTreeMap (String Global) PlatformStatusImpl → List ℕ → Option Status
 status_at statuses name = option_map recorded_status (get_by_text statuses name)
 
@@ -79,7 +79,7 @@ pub record IsNamedAs (x : Declared) (r : LinkRecord) : Type 0 where
   pub dep_name : string_bytes r.dep_name ≡ manifest_name x
   pub requirement : map comparator_view r.version_req.comparators.items ≡ map comparator_view x.requirement.comparators.items
 
--- the link of these dependencies: gathered from all, and named as the first
+-- the link of these dependencies: gathered from all, with the names of the first
 pub record IsMadeOf (xs : List Declared) (r : LinkRecord) : Type 0 where
   pub first : Declared
   pub others : List Declared

@@ -12,8 +12,8 @@ use Rattle.guppy_metadata.specs.declared.package.Package.{Package}
 use Rattle.guppy_metadata.specs.Dependency.{NamesSection}
 use Rattle.guppy_metadata.specs.Fits.{fits}
 use Rattle.guppy_metadata.specs.Gathered.{IsGathered, IsMadeOf}
-use Rattle.guppy_metadata.specs.Members.{IsText}
-use Rattle.guppy_metadata.specs.Package.{ArePackages, AreDeclaring, with_id}
+use Rattle.guppy_metadata.specs.Members.{IsText, IsListOf}
+use Rattle.guppy_metadata.specs.Package.{ArePackages, Declares, with_id}
 
 -- the link leads from one ID to another, and has this name in the code
 pub record Joins (from to name : List ℕ) (r : LinkRecord) : Type 0 where
@@ -26,15 +26,11 @@ pub record IsUsage (d : Data) (x : Usage) : Type 0 where
   pub section : NamesSection d x.section
   pub target : IsText (codes "target") d (option_copied x.target)
 
--- the usages of a list
-abbrev pub AreUsages : Data → List Usage → Type 0
-AreUsages d usages = (items : List Data) × (d ≡ array (items_of items)) × AllZip IsUsage items usages
-
 -- a resolved dependency: its ID, its name in the code, and what it is used for
 pub record IsResolved (d : Data) (x : Resolved) : Type 0 where
   pub id_is : get (codes "pkg") d ≡ Some (string x.id.now)
   pub name_is : get (codes "name") d ≡ Some (string x.name.now)
-  pub usages_are : IsSomeAnd (get (codes "dep_kinds") d) (λ told. AreUsages told x.usages.items)
+  pub usages_are : IsSomeAnd (get (codes "dep_kinds") d) (λ told. IsListOf IsUsage told x.usages.items)
 
 -- the link is asked for by no dependency, with any version, and is named as in the code
 pub record IsUnasked (name : List ℕ) (r : LinkRecord) : Type 0 where
@@ -81,7 +77,7 @@ pub record AreNodes (d : Data) (nodes : List Data) : Type 0 where
 pub record AreLinks (d : Data) (links : List LinkRecord) : Type 0 where
   pub packages : List Package
   pub records_are : ArePackages d (map (λ p. p.record) packages)
-  pub declare : IsSomeAnd (get (codes "packages") d) (λ told. AreDeclaring told packages)
+  pub declare : IsSomeAnd (get (codes "packages") d) (λ told. IsListOf Declares told packages)
   pub nodes : List Data
   pub nodes_are : AreNodes d nodes
   pub links_are : AreLinksOfAll packages nodes links

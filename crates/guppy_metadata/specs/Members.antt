@@ -1,7 +1,7 @@
 -- What a JSON object says by its members.
 use Rattle.std.specs.Prelude.{◌≡◌, ◌⊎◌, ℕ, Bool, List, [], Option, Some, None, map, option_map, option_and_then}
 use Rattle.std.specs.Borrow.{Bor}
-use Rattle.std.specs.List.{list_any}
+use Rattle.std.specs.List.{AllZip, list_any}
 use Rattle.std.specs.Str.{bytes_eq}
 use Rattle.indexmap.specs.IndexSet.{IndexSet, contains_by}
 use Rattle.serde_json.specs.Data.{Data, null, boolean, number, string, array, object}
@@ -40,6 +40,10 @@ is_among texts text = list_any (bytes_eq text) texts
 -- whether the text is in the set
 abbrev pub is_in : {S : Type 0} → IndexSet (Bor (List ℕ)) S → List ℕ → Bool
 is_in set text = contains_by (λ key. bytes_eq text key.now) set
+
+-- the list whose items these are, each as R says
+abbrev pub IsListOf : {X : Type 0} → (Data → X → Type 0) → Data → List X → Type 0
+IsListOf R d xs = (items : List Data) × (d ≡ array (items_of items)) × AllZip R items xs
 
 -- the list of these texts
 abbrev pub list_of : List (List ℕ) → Data

@@ -13,16 +13,15 @@ use Rattle.serde_json.specs.Find.{get}
 use Rattle.serde_json.specs.View.{view, items_of, members_view}
 use Rattle.serde_json.specs.declared.value.Value.{Value}
 use Rattle.guppy_data.specs.declared.records.PackageRecord.{PackageRecord}
-use Rattle.guppy_data.specs.declared.records.BuildTargetRecord.{BuildTargetRecord}
 use Rattle.guppy_data.specs.declared.records.PackagePublishRecord.{PackagePublishRecord}
 use Rattle.guppy_data.specs.declared.records.PackagePublishRecord.TheVariants.{Unrestricted, Registries}
 use Rattle.guppy_data.specs.declared.records.PackageSourceRecord.{PackageSourceRecord}
 use Rattle.guppy_data.specs.declared.records.PackageSourceRecord.TheVariants.{Workspace, Path, External}
 use Rattle.guppy_data.specs.declared.texts.named_feature.NamedFeatureDep.{NamedFeatureDep}
 use Rattle.guppy_metadata.specs.declared.package.Package.{Package}
-use Rattle.guppy_metadata.specs.Dependency.{AreDeclared, AreOptional}
+use Rattle.guppy_metadata.specs.Dependency.{IsDeclared, AreOptional}
 use Rattle.guppy_metadata.specs.Feature.{IsNamedFeature}
-use Rattle.guppy_metadata.specs.Members.{present, IsText, list_of, AreTexts, is_among}
+use Rattle.guppy_metadata.specs.Members.{present, IsText, IsListOf, list_of, AreTexts, is_among}
 use Rattle.guppy_metadata.specs.Target.{IsTarget}
 
 -- where a package with this ID comes from: a member of the workspace, another place that the JSON tells, or a path
@@ -85,10 +84,6 @@ abbrev pub AreFeatures : Data → List (String Global × Vec NamedFeatureDep Glo
 AreFeatures d features = (members : List (String Global × Value))
     × (d ≡ object (members_view members)) × AllZip IsNamedFeature members features
 
--- the targets, in their order
-abbrev pub AreTargets : Data → List BuildTargetRecord → Type 0
-AreTargets d targets = (items : List Data) × (d ≡ array (items_of items)) × AllZip IsTarget items targets
-
 -- what is told of a package for Cargo
 pub record IsFilled (d : Data) (r : PackageRecord) : Type 0 where
   pub metadata_table : view r.metadata_table ≡ unwrap_or (get (codes "metadata") d) null
@@ -97,7 +92,7 @@ pub record IsFilled (d : Data) (r : PackageRecord) : Type 0 where
   pub default_run : IsText (codes "default_run") d (option_map string_bytes r.default_run)
   pub rust_version : IsRustVersion d r.rust_version
   pub features : IsSomeAnd (get (codes "features") d) (λ told. AreFeatures told r.named_features.entries)
-  pub targets : IsSomeAnd (get (codes "targets") d) (λ told. AreTargets told r.build_targets.items)
+  pub targets : IsSomeAnd (get (codes "targets") d) (λ told. IsListOf IsTarget told r.build_targets.items)
 
 -- a package's record, but for the folder that it lies in
 pub record IsPackage (is_member : List ℕ → Bool) (d : Data) (r : PackageRecord) : Type 0 where
@@ -128,8 +123,4 @@ ArePositions packages positions = (id : List ℕ)
 -- a package, and the dependencies that it declares
 pub record Declares (d : Data) (p : Package) : Type 0 where
   pub id : get (codes "id") d ≡ Some (string p.id.now)
-  pub declared : IsSomeAnd (get (codes "dependencies") d) (λ told. AreDeclared told p.declared.items)
-
--- the packages of a list, and the dependencies that they declare
-abbrev pub AreDeclaring : Data → List Package → Type 0
-AreDeclaring d packages = (items : List Data) × (d ≡ array (items_of items)) × AllZip Declares items packages
+  pub declared : IsSomeAnd (get (codes "dependencies") d) (λ told. IsListOf IsDeclared told p.declared.items)

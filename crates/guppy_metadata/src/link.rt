@@ -397,15 +397,16 @@ fn link_between(
     alloc: Global,
     from: &str,
     resolved: &Resolved<'_>,
-    ends: (&Package<'_>, &Package<'_>),
+    asking: &Package<'_>,
+    needed: &Package<'_>,
 ) -> Result<LinkRecord, Misfit>
     ensures joins { IfOk result (Joins from.now resolved.now.id.now resolved.now.name.now) }
     ensures made { IfOk result
-        (IsMadeOf (filter (fits from.now resolved.now ends.entry.1.now.record)
-        ends.entry.0.now.declared.items)) }
+        (IsMadeOf (filter (fits from.now resolved.now needed.now.record)
+        asking.now.declared.items)) }
 {
-    let declared = ends.0.declared.as_slice();
-    match link_of_fitting(alloc, from, declared, resolved, ends.1)? {
+    let declared = asking.declared.as_slice();
+    match link_of_fitting(alloc, from, declared, resolved, needed)? {
         Some(link) => Ok(link),
         None => {
             let why = TextFault::NoDependency;
@@ -440,13 +441,13 @@ fn link_of(
 {
     let alloc = dependency.alloc;
     let resolved = resolved_of(dependency)?;
-    let Some(package) = packages.with_id(from) else {
+    let Some(asking) = packages.with_id(from) else {
         return Ok(unasked_link(alloc, from, &resolved)?);
     };
     let Some(needed) = packages.with_id(resolved.id) else {
         return Ok(unasked_link(alloc, from, &resolved)?);
     };
-    Ok(link_between(alloc, from, &resolved, (package, needed))?)
+    Ok(link_between(alloc, from, &resolved, asking, needed)?)
 }
 
 // Adds the links that leave a package.

@@ -5,8 +5,8 @@ ghost use Rattle.serde_json.specs.Read.{read};
 ghost use Rattle.serde_json.specs.View.{view};
 ghost use Rattle.guppy_metadata.specs.Fault.{IsNotJson, IsNotResolved};
 ghost use Rattle.guppy_metadata.specs.Links.{AreLinks, AreLinksOfAll, AreNodes};
-ghost use Rattle.guppy_metadata.specs.Members.{data_of, present, is_among};
-ghost use Rattle.guppy_metadata.specs.Package.{ArePackages, ArePackagesOf, AreDeclaring};
+ghost use Rattle.guppy_metadata.specs.Members.{data_of, present, IsListOf};
+ghost use Rattle.guppy_metadata.specs.Package.{ArePackages, ArePackagesOf, Declares};
 ghost use Rattle.guppy_metadata.specs.Workspace.{IsWorkspace};
 
 use crate::fault::{MetadataFault, Misfit};
@@ -108,7 +108,7 @@ fn packages_in<'a>(
     ensures made { IfOk result (λ packages. ArePackagesOf (map (λ id. id.now) members.now)
         (data_of metadata.entry) (map (λ p. p.record) packages.items)) }
     ensures declare { IfOk result (λ packages. IsSomeAnd
-        (get (codes "packages") (data_of metadata.entry)) (λ told. AreDeclaring told packages.items)) }
+        (get (codes "packages") (data_of metadata.entry)) (λ told. IsListOf Declares told packages.items)) }
 {
     let alloc = metadata.alloc;
     let members = set_of(alloc, members)?;
