@@ -1,1 +1,3 @@
 mod Paths
+mod Called
+mod Whole

@@ -1,7 +1,7 @@
 //! What packages are called in place of their IDs: a package that is the only one with its name by the name,
 //! and every other one by its ID.
-ghost use Rattle.std.specs.Prelude.{◌≡◌, map, string_bytes, IfOk};
-ghost use Rattle.guppy_cargo.specs.Names.{called_text};
+ghost use Rattle.std.specs.Prelude.{◌≡◌, map, string_bytes, IfOk, OnOk};
+ghost use Rattle.guppy_cargo.specs.Names.{called_text, called_package, called_link};
 
 use guppy_data::{LinkRecord, PackageId, PackageRecord};
 use std::alloc::{AllocError, Global};
@@ -65,7 +65,9 @@ impl Names {
     }
 
     // Puts what the package is called in the place of its ID.
-    fn rename(&self, alloc: Global, id: &mut PackageId) -> Result<(), AllocError> {
+    fn rename(&self, alloc: Global, id: &mut PackageId) -> Result<(), AllocError>
+        ensures { OnOk result (id.new ≡ called_text self.now id.old) }
+    {
         let called = String::from_str(alloc, self.called(id.repr()))?;
         *id = PackageId::new(called);
         Ok(())
@@ -76,7 +78,10 @@ impl Names {
         &self,
         alloc: Global,
         packages: &mut Vec<PackageRecord>,
-    ) -> Result<(), AllocError> {
+    ) -> Result<(), AllocError>
+        ensures { OnOk result
+            (packages.new.items ≡ map (called_package self.now) packages.old.items) }
+    {
         for package in packages.iter_mut() {
             self.rename(alloc, &mut package.id)?;
         }
@@ -85,11 +90,9 @@ impl Names {
 
     /// Puts what packages are called in the place of their IDs at the ends of links. Takes memory for copies
     /// of the names.
-    pub fn rename_links(
-        &self,
-        alloc: Global,
-        links: &mut Vec<LinkRecord>,
-    ) -> Result<(), AllocError> {
+    pub fn rename_links(&self, alloc: Global, links: &mut Vec<LinkRecord>) -> Result<(), AllocError>
+        ensures { OnOk result (links.new.items ≡ map (called_link self.now) links.old.items) }
+    {
         for link in links.iter_mut() {
             self.rename(alloc, &mut link.from)?;
             self.rename(alloc, &mut link.to)?;
@@ -98,7 +101,9 @@ impl Names {
     }
 
     /// Puts what packages are called in the place of these IDs. Takes memory for copies of the names.
-    pub fn rename_ids(&self, alloc: Global, ids: &mut Vec<PackageId>) -> Result<(), AllocError> {
+    pub fn rename_ids(&self, alloc: Global, ids: &mut Vec<PackageId>) -> Result<(), AllocError>
+        ensures { OnOk result (ids.new.items ≡ map (called_text self.now) ids.old.items) }
+    {
         for id in ids.iter_mut() {
             self.rename(alloc, id)?;
         }

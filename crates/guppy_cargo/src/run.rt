@@ -8,7 +8,7 @@ ghost use Rattle.guppy_input.specs.declared.fault.RunFault.TheVariants.{BadArgum
 ghost use Rattle.guppy_data.specs.declared.texts.error.Error.{Error};
 ghost use Rattle.guppy_cargo.specs.declared.fault.CargoFault.TheVariants.{Run, NoText};
 ghost use Rattle.guppy_cargo.specs.Asked.{command_of, command_shown};
-ghost use Rattle.guppy_cargo.specs.Run.{BlamesJson, HasCause, IsAnswerTo, IsAnswered, IsBegun, IsLibraryRefusal, IsOfEachInput, IsOfInput, is_input_fault, is_output_fault, WritesNothing};
+ghost use Rattle.guppy_cargo.specs.Run.{BlamesJson, HasCause, IsAnswerTo, IsAnswered, IsBegun, IsGraphOf, IsLibraryRefusal, IsOfEachCommand, IsOfInput, OfInput, is_input_fault, is_output_fault, WritesNothing};
 
 use crate::answer::answer;
 use crate::command::{CargoCommand, command_of};
@@ -25,8 +25,9 @@ use std::{mem, str};
 // The graph of the workspace that the text describes, and what its packages are called, which stands in the
 // graph for their IDs.
 fn load(alloc: Global, text: &str) -> Result<(PackageGraph, Names), CargoFault>
+    ensures ok { IfOk result (λ r. IsGraphOf text.now r.1 r.0) }
     ensures json { OnOk result (IsSome (read text.now)) }
-    ensures err { IfErr result IsOfEachInput }
+    ensures err { IfErr result (IsOfEachCommand text.now) }
     ensures no_json { IfErr result (λ fault. BlamesJson fault → read text.now ≡ None) }
     ensures text { ¬ IsErrOf result NoText }
 {
@@ -49,9 +50,10 @@ fn answer_input(
     command: &CargoCommand<'_>,
     input: &[u8],
 ) -> Result<String, CargoFault>
-    ensures ok { IfOk result (λ text. IsAnswerTo (command_shown command.now) (string_bytes text)) }
+    ensures ok { IfOk result
+        (λ text. IsAnswerTo input.now (command_shown command.now) (string_bytes text)) }
     ensures json { OnOk result (IsSome (read input.now)) }
-    ensures err { IfErr result (IsOfInput (command_shown command.now)) }
+    ensures err { IfErr result (IsOfInput input.now (command_shown command.now)) }
     ensures no_json { IfErr result (λ fault. BlamesJson fault → read input.now ≡ None) }
     ensures text { IsErrOf result NoText → ¬ IsUtf8 input.now }
 {
@@ -73,13 +75,14 @@ fn answer_source<R: Source>(
     reader: &mut R,
 ) -> Result<String, CargoFault>
     requires { R.has_failed reader.old ≡ false }
-    ensures ok { IfOk result (λ text. IsAnswerTo (command_shown command.now) (string_bytes text)) }
+    ensures ok { IfOk result (λ text. OfInput (R.left reader.old) (R.left reader.new) (λ input.
+        IsAnswerTo input (command_shown command.now) (string_bytes text))) }
     ensures json { OnOk result
         (OfWholeInput (R.left reader.old) (R.left reader.new) (λ input. IsSome (read input))) }
     ensures err { is_output_fault result ≡ false }
     ensures arguments { ¬ IsErrOf result (Run BadArguments) }
     ensures library { (error : Error) → result ≡ Err (Run (Library error)) →
-        HasCause (command_shown command.now) error }
+        HasCause (R.left reader.old) (R.left reader.new) (command_shown command.now) error }
     ensures no_json { IfErr result (λ fault. BlamesJson fault →
         OfWholeInput (R.left reader.old) (R.left reader.new) (λ input. read input ≡ None)) }
     ensures text { IsErrOf result NoText →
@@ -121,21 +124,22 @@ pub fn run<R: Source, W: Sink>(
     requires input_works { R.has_failed reader.old ≡ false }
     requires output_works { W.has_failed writer.old ≡ false }
 
-    // All input was read, it is JSON, and what was written is an answer to the arguments.
+    // All input was read, it is JSON, and what was written is an answer to it and the arguments.
     ensures json { OnOk result
         (OfWholeInput (R.left reader.old) (R.left reader.new) (λ input. IsSome (read input))) }
-    ensures ok { OnOk result (IsAnswered (map string_bytes args.now)
-        (Appends (W.written writer.old) (W.written writer.new))) }
+    ensures ok { OnOk result (OfInput (R.left reader.old) (R.left reader.new) (λ input.
+        IsAnswered (map string_bytes args.now) input
+        (Appends (W.written writer.old) (W.written writer.new)))) }
 
     // The arguments are no command, and nothing was read.
     ensures arguments { IsErrOf result (Run BadArguments)
         ↔ IsNone (command_of (map string_bytes args.now)) }
     ensures arguments_read { IsErrOf result (Run BadArguments) → reader.new ≡ reader.old }
 
-    // An error of the library tells a fault of some records, or of the command on some graph, or that
+    // An error of the library tells a fault of the input's records, or of the command on its graph, or that
     // memory ran out.
     ensures library { (error : Error) → result ≡ Err (Run (Library error)) →
-        IsLibraryRefusal (map string_bytes args.now) error }
+        IsLibraryRefusal (map string_bytes args.now) (R.left reader.old) (R.left reader.new) error }
 
     // All input was read, and it is no JSON.
     ensures no_json { IfErr result (λ fault. BlamesJson fault →
@@ -151,8 +155,10 @@ pub fn run<R: Source, W: Sink>(
 
     // A refusal writes nothing, and a write that fails leaves a beginning of an answer.
     ensures refused { WritesNothing writer.old writer.new result }
-    ensures begun { IsErrOf result (Run OutputFailed) → IsBegun (map string_bytes args.now)
-        (Appends (W.written writer.old) (W.written writer.new)) }
+    ensures begun { IsErrOf result (Run OutputFailed) →
+        OfInput (R.left reader.old) (R.left reader.new) (λ input.
+        IsBegun (map string_bytes args.now) input
+        (Appends (W.written writer.old) (W.written writer.new))) }
 {
     let Some(command) = command_of(args) else {
         return Err(CargoFault::Run(RunFault::BadArguments));
