@@ -1,0 +1,331 @@
+#!/usr/bin/env python3
+"""Tries the scripts at the top: what they do as they should, and each of their lines that can fail.
+
+They run on a fresh clone in a folder whose name has a space, with stand-in/rt in the place of rt, which hands out what
+the gate has just built; two runs are with rt itself. Needs git, cargo and the programs as built. The last line is
+'N passed, M failed'.
+"""
+
+import contextlib
+import os
+import shutil
+import signal
+import subprocess
+import sys
+import tempfile
+import time
+from concurrent.futures import ThreadPoolExecutor
+from pathlib import Path
+
+HERE = Path(__file__).resolve().parent
+TOP = HERE.parent
+# What the scripts call beside rt, cargo and python3.
+TOOLS = "awk basename cat chmod cp dirname env find grep head ls mkdir mktemp mv pwd readlink rm sed sh sleep sort stat tail wc"
+BUILT = os.environ.get("BUILT", str(TOP / "crates"))
+SECONDS = 120
+
+AFFECTED = ["affected", "crates/core/src/lib.rs"]
+ANSWER = "core\ntest-support\ncli\napp\n"
+UNPROVED = "this answer comes from a program that is not proved on this machine yet"
+
+
+class World:
+    """A fresh clone, and a path that has what the scripts call and, where they are wanted, rt and cargo."""
+
+    def __init__(self, room, without=()):
+        self.room, self.top = room, room / "a clone"
+        clone(self.top)
+        self.bin, self.temporary, self.home = room / "bin", room / "temporary", room / "home"
+        for folder in (self.bin, self.temporary, self.home):
+            folder.mkdir()
+        found = {it: shutil.which(it) for it in (*TOOLS.split(), "cargo", "rustc", "python3")}
+        for name in found.keys() - set(without):
+            (self.bin / name).symlink_to(found[name])
+        if "rt" not in without:
+            shutil.copy(HERE / "stand-in/rt", self.bin)
+        folders = {"CARGO_HOME": ".cargo", "RUSTUP_HOME": ".rustup"}
+        self.environment = {it: os.environ.get(it, str(Path.home() / folder)) for it, folder in folders.items()}
+        self.environment |= {"PATH": str(self.bin), "TMPDIR": str(self.temporary), "HOME": str(self.home)}
+        self.environment |= {"BUILT": BUILT}
+
+    def start(self, words, stand_in="", given=None, where=None, **how):
+        """Starts a script of the clone; `given` is a file or None."""
+        script = self.top / words[0]
+        environment = self.environment | {"STAND_IN": stand_in} | how.pop("environment", {})
+        how = {"stdin": given or subprocess.DEVNULL, "stdout": subprocess.PIPE, "stderr": subprocess.PIPE} | how
+        words = [script if script.exists() else words[0], *words[1:]]
+        return subprocess.Popen(words, cwd=where or self.top, env=environment, text=True, **how)
+
+    def run(self, words, **how):
+        """Status, output and errors of a script of the clone."""
+        with self.start(words, **how) as started:
+            output, errors = started.communicate(timeout=SECONDS)
+        return started.returncode, output, errors
+
+    def ask(self, words=("guppy-cargo", *AFFECTED), **how):
+        """The same of a program that is given the stored metadata."""
+        with open(self.top / "examples/metadata.json", "rb") as given:
+            return self.run(words, given=given, **how)
+
+    def left(self):
+        """What stands in the folder for temporary files."""
+        return sorted(it.name for it in self.temporary.iterdir())
+
+    def build(self):
+        return self.run(["prove"])
+
+
+def clone(top):
+    """A fresh clone, or a copy of the files where this is no repository that git would clone."""
+    if subprocess.run(["git", "clone", "-q", TOP, top], capture_output=True, check=False).returncode:
+        hidden = shutil.ignore_patterns(".git", "out")
+        shutil.copytree(TOP, top, ignore=hidden)
+
+
+def is_one_line(errors, *words):
+    return errors.count("\n") == 1 and errors.endswith("\n") and all(it in errors for it in words)
+
+
+def is_refusal(ran, status, *words):
+    """Whether a script answered nothing, and said why in one line at the end."""
+    got, output, errors = ran
+    return (got, output) == (status, "") and is_one_line(errors.splitlines(True)[-1], *words)
+
+
+# Each yields what was tried, whether it went as it should, and what came.
+
+
+def try_unproved(world):
+    ran = world.ask()
+    yield "a fresh clone answers", ran[:2] == (0, ANSWER) and is_one_line(ran[2], UNPROVED, "prove"), ran
+    ran = world.ask(["guppy-run", "order"])
+    yield "so does guppy-run", ran[0] == 2 and ran[2].endswith("error: bad line 1\n"), ran
+    ran = world.ask(["guppy-cargo", "reach", "forward", "no such"])
+    is_told = ran[:2] == (1, "") and ran[2].splitlines()[1:] == ["error: unknown package ID: no such"]
+    yield "a fault of the program is told as it tells it", is_told, ran
+    for words in (["", "a\nb"], ["--order"], ["affected", "a=b", "../x", "*"]):
+        ran = world.ask(["guppy-cargo", *words])
+        yield f"arguments {words} reach it", ran[0] == (0 if "affected" in words else 2), ran
+    ran = world.run(["guppy-cargo", *AFFECTED], where=world.top / "examples/..")
+    yield "outside of a workspace cargo gives no metadata", is_refusal(ran, 3, "cargo gives no metadata"), ran
+    yield "a part of an answer is none", *refusal(world.ask(stand_in="too-much"), 4, "1048576 bytes", "prove")
+    yield "neither is a fault", *refusal(world.ask(stand_in="fault"), 3, "index out of bounds")
+    with tempfile.TemporaryFile(dir=world.room) as large:
+        large.truncate(64 << 20)
+        ran = world.run(["guppy-run", "order"], given=large)
+    yield "input that rt would cut is refused", *refusal(ran, 4, "67108863 bytes", "prove")
+    ran = world.ask(environment={"TMPDIR": "/no such folder"})
+    yield "no temporary folder", *refusal(ran, 3, "no temporary folder can be made")
+    folder = os.open(world.room, os.O_RDONLY)
+    ran = world.run(["guppy-run", "order"], given=folder)
+    os.close(folder)
+    yield "input that can't be read", *refusal(ran, 3, "standard input can't be read")
+    with open("/dev/full", "wb") as full:
+        ran = world.ask(stdout=full)
+    yield "output that can't be written", ran[0] == 2 and ran[2].splitlines()[1:] == ["error: output failed"], ran
+    yield "no file is left", not world.left(), world.left()
+
+
+def refusal(ran, status, *words):
+    return is_refusal(ran, status, *words), ran
+
+
+def try_interrupts(world):
+    metadata = world.top / "examples/metadata.json"
+    for number in (signal.SIGINT, signal.SIGTERM, signal.SIGHUP):
+        for words, stand_in in ((["guppy-cargo", *AFFECTED], "slow"), (["prove"], "slow"), (["quick-tests"], "slow")):
+            with open(metadata, "rb") as given:
+                started = world.start(words, stand_in=stand_in, given=given, start_new_session=True)
+            time.sleep(2)
+            # As a terminal does, or kill.
+            (os.killpg if number == signal.SIGINT else os.kill)(started.pid, number)
+            output, errors = started.communicate(timeout=SECONDS)
+            status = started.returncode
+            is_clean = status == 128 + number and not world.left() and not still_running(started.pid)
+            yield f"{words[0]} is ended by {number.name}", is_clean, (status, output, errors, world.left())
+    ran = world.build()
+    yield "what comes next proves", ran[0] == 0, ran
+    ran = world.ask()
+    yield "and answers", ran == (0, ANSWER, ""), ran
+
+
+def still_running(session):
+    """Whether anything of the session runs; what was ended may take a moment to go."""
+    for _ in range(50):
+        with contextlib.suppress(subprocess.CalledProcessError):
+            subprocess.run(["pgrep", "-s", str(session)], stdout=subprocess.DEVNULL, check=True)
+            time.sleep(0.1)
+            continue
+        return False
+    return True
+
+
+def try_proved(world):
+    yield "a crate that isn't proved", *named(world.run(["prove"], stand_in="refused"), 3, "crates/guppy_data/out/check.log")
+    ran = world.ask()
+    yield "leaves the program unproved", ran[:2] == (0, ANSWER) and UNPROVED in ran[2], ran
+    ran = world.run(["prove"], environment={"BUILT": "/no such folder"})
+    yield "a program that isn't built", *named(ran, 3, "out/build.log")
+    ran = world.build()
+    yield "prove proves both", ran[0] == 0 and ran[2] == "" and ran[1].endswith("are proved and built\n"), ran
+    ran = world.run(["prove"], stand_in="refused")
+    yield "and proves nothing twice", ran[0] == 0, ran
+    yield "guppy-cargo is the proved program", world.ask() == (0, ANSWER, ""), world.ask()
+    with open(world.top / "examples/workspace.txt", "rb") as given:
+        ran = world.run(["guppy-run", "depends", "cli", "macros"], given=given)
+    yield "guppy-run too", ran == (0, "true\n", "") or ran[0] == 0, ran
+    time.sleep(0.05)
+    (world.top / "crates/guppy_search/specs/Reach.antt").touch()
+    ran = world.ask()
+    yield "a newer source makes it unproved", ran[:2] == (0, ANSWER) and UNPROVED in ran[2], ran
+    ran = world.build()
+    yield "until it is proved again", ran[0] == 0 and world.ask() == (0, ANSWER, ""), ran
+    workspace = world.room / "a workspace"
+    make_workspace(workspace)
+    ran = world.run(["guppy-cargo", "affected", "other/src/lib.rs"], where=workspace)
+    yield "it asks cargo itself", ran == (0, "other\nlast\n", ""), ran
+
+
+def named(ran, status, word):
+    return ran[0] == status and word in ran[2] and ran[2].count("\n") == 1, ran
+
+
+def make_workspace(top):
+    """Two members, the last on the other."""
+    manifest = '[package]\nname = "{}"\nversion = "0.1.0"\nedition = "2021"\n'
+    files = {"Cargo.toml": '[workspace]\nmembers = ["other", "last"]\nresolver = "2"\n'}
+    files |= {"other/Cargo.toml": manifest.format("other"), "other/src/lib.rs": "", "last/src/lib.rs": ""}
+    files["last/Cargo.toml"] = manifest.format("last") + '[dependencies]\nother.path = "../other"\n'
+    for name, text in files.items():
+        (top / name).parent.mkdir(parents=True, exist_ok=True)
+        (top / name).write_text(text)
+
+
+def try_installed(world):
+    for words in ([], [""], ["a", "b"]):
+        ran = world.run(["install", *words])
+        yield f"install {words}", is_refusal(ran, 2, "usage"), ran
+    (world.room / "file").touch()
+    yield "no folder", *named(world.run(["install", str(world.room / "file")]), 3, "nothing can be written")
+    prefix = world.room / "a prefix"
+    yield "not proved", *named(world.run(["install", str(prefix)], stand_in="refused"), 3, "guppy_data")
+    ran = world.run(["install", "../a prefix"])
+    yield "installs", ran[0] == 0 and "add it to PATH" in ran[1], ran
+    path = {"PATH": f"{prefix}/bin:{world.bin}"}
+    ran = world.run(["install", str(prefix)], environment=path)
+    yield "installs again", ran[0] == 0 and "add it to PATH" not in ran[1], ran
+    shutil.rmtree(world.top)
+    workspace = world.room / "a workspace"
+    make_workspace(workspace)
+    for words in (["cargo", "guppy"], ["cargo-guppy"], ["guppy-cargo"]):
+        ran = world.run([*words, "affected", "other/src/lib.rs"], where=workspace, environment=path)
+        yield f"{' '.join(words)} runs without the clone", ran == (0, "other\nlast\n", ""), ran
+    ran = world.run(["guppy-run", "order"], where=workspace, environment=path)
+    yield "guppy-run too", ran == (0, "", ""), ran
+    ran = world.run(["cargo", "guppy", "affected"], where=world.room, environment=path)
+    yield "no workspace", ran[0] == 3 and ran[2].endswith("cargo gives no metadata\n"), ran
+    left = sorted(str(it.relative_to(prefix)) for it in prefix.rglob("*") if it.is_file())
+    wanted = ["bin/cargo-guppy", "bin/guppy-cargo", "bin/guppy-run", "libexec/guppy/guppy-cargo", "libexec/guppy/metadata.sh"]
+    yield "nothing else is there", left == wanted and not world.left(), (left, world.left())
+
+
+def try_quick(world):
+    ran = world.run(["quick-tests"])
+    yield "all crates", ran[0] == 0 and ran[1].endswith(" passed, 0 failed\n") and ran[2] == "", ran
+    ran = world.run(["quick-tests", "guppy_run_tests", "guppy_affected"])
+    yield "two crates", ran[0] == 0 and ran[1].endswith("\n2 passed, 0 failed\n"), ran
+    ran = world.run(["quick-tests", "guppy_run_tests"], stand_in="tests-fail")
+    is_named = "FAILED: guppy_run_tests: b::wrong\n    why it is wrong\n" in ran[1]
+    yield "a test that fails is named", ran[0] == 1 and is_named and ran[1].endswith("\n1 passed, 1 failed\n"), ran
+    ran = world.run(["quick-tests", "guppy_run_tests"], stand_in="tests-stop")
+    yield "tests that stop are none", ran[0] == 1 and ran[1].endswith("\n1 passed, 1 failed\n"), ran
+    ran = world.run(["quick-tests", "guppy_run"], stand_in="fault")
+    yield "a stored run that fails", ran[0] == 1 and "FAILED: guppy_run: its stored run" in ran[1], ran
+    for name, why in (("guppy_core", "has no test"), ("no_crate", "is no crate")):
+        ran = world.run(["quick-tests", name])
+        yield f"tests of {name}", ran[0] == 1 and ran[1] == "" and why in ran[2] and "guppy_core_tests" in ran[2], ran
+
+
+def try_read_only(world):
+    """As a user who may read the clone and not write to it."""
+    world.room.chmod(0o755)
+    for it in (world.top, *world.top.rglob("*")):
+        it.chmod(it.stat().st_mode & ~0o222 | 0o444)
+    world.temporary.chmod(0o777)
+    built = world.room / "built/guppy_cargo/out"
+    built.mkdir(parents=True)
+    shutil.copy(Path(BUILT) / "guppy_cargo/out/guppy_cargo", built)
+    how = {"user": 65534, "group": 65534, "extra_groups": []} if os.getuid() == 0 else {}
+    how["environment"] = {"BUILT": str(world.room / "built")}
+    ran = world.ask(**how)
+    yield "a clone that can't be written to answers", ran[:2] == (0, ANSWER) and UNPROVED in ran[2], ran
+    yield "and can't be proved", *named(world.run(["prove"], **how), 3, "nothing can be written to crates/guppy_")
+    for it in (world.top, *world.top.rglob("*")):
+        it.chmod(it.stat().st_mode | 0o200)
+
+
+def try_without_rt(world):
+    for words in (["guppy-run", "order"], ["guppy-cargo", *AFFECTED], ["prove"], ["install", str(world.room / "p")]):
+        ran = world.ask(words)
+        yield f"{words[0]} without rt", *refusal(ran, 3, "rt is not on the path")
+    ran = world.run(["quick-tests"])
+    yield "quick-tests without rt", ran[0] == 1 and is_one_line(ran[2], "rt is not on the path"), ran
+    ran = world.run(["guppy-cargo", *AFFECTED])
+    yield "without cargo", *refusal(ran, 3, "cargo is not on the path")
+    for crate in ("guppy_run", "guppy_cargo"):
+        out = world.top / "crates" / crate / "out"
+        out.mkdir()
+        shutil.copy(Path(BUILT) / crate / "out" / crate, out)
+    yield "a proved program needs no rt", world.ask() == (0, ANSWER, ""), world.ask()
+
+
+def try_with_rt(world):
+    """With rt itself: a source that doesn't compile, and the tests of a crate."""
+    (world.bin / "rt").unlink()
+    (world.bin / "rt").symlink_to(shutil.which("rt"))
+    main = world.top / "crates/guppy_run/src/main.rt"
+    text = main.read_text()
+    main.write_text(text.replace("fn main", "fn other"))
+    yield "a source that does not compile", *refusal(world.ask(["guppy-run", "order"]), 3, "error", "src/main.rt:")
+    main.write_text(text)
+    ran = world.run(["quick-tests", "guppy_core_tests"])
+    yield "the tests of a crate", ran[0] == 0 and ran[1].endswith(" passed, 0 failed\n"), ran
+    yield "no file is left by rt", not world.left(), world.left()
+
+
+PARTS = {
+    "unproved": (try_unproved, []),
+    "interrupts": (try_interrupts, []),
+    "proved": (try_proved, []),
+    "installed": (try_installed, []),
+    "quick tests": (try_quick, []),
+    "a read-only clone": (try_read_only, []),
+    "without rt and cargo": (try_without_rt, ["rt", "cargo"]),
+    "with rt itself": (try_with_rt, []),
+}
+
+
+def tried_in(part):
+    tries, without = PARTS[part]
+    with tempfile.TemporaryDirectory() as room:
+        return part, list(tries(World(Path(room), without)))
+
+
+def tell(part, tried):
+    """Prints what came of a part, and returns whether all is right."""
+    wrong = [(what, came) for what, is_right, came in tried if not is_right]
+    for what, came in wrong:
+        print(f"scripts: {part}: FAILED: {what}: {came!s:.2000}")
+    print(f"scripts: {part}: {len(tried) - len(wrong)} of {len(tried)} are right", flush=True)
+    return not wrong
+
+
+def main():
+    with ThreadPoolExecutor(4) as workers:
+        passed = [tell(*it) for it in workers.map(tried_in, sys.argv[1:] or PARTS)]
+    print(f"{passed.count(True)} passed, {passed.count(False)} failed")
+    return not all(passed)
+
+
+if __name__ == "__main__":
+    sys.exit(main())

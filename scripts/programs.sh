@@ -1,0 +1,104 @@
+# Read by guppy-run, guppy-cargo, prove and install. Before it is read, here is the repository's folder, and name what
+# stands before each message.
+
+# Ends with status 3: nothing was run.
+fail() {
+    echo "$name: $1" >&2
+    exit 3
+}
+
+# Ends with status 4: the program ran unproved, and a part of an answer is none.
+give_up() {
+    echo "$name: no answer without a proof: $1; '$here/prove' proves the program, which then has no such limit" >&2
+    exit 4
+}
+
+# Has the function clean called at the end, also where a signal ends the script.
+clean_at_the_end() {
+    trap clean EXIT
+    trap 'exit 129' HUP
+    trap 'exit 130' INT
+    trap 'exit 143' TERM
+}
+
+# The crates of this repository that these stand on, lowest first, and then these themselves.
+up_to() {
+    awk -F: -v tops="$*" '
+        function visit(crate, at, count, below) {
+            if (!(crate in uses) || crate in seen) return
+            seen[crate] = 1
+            count = split(uses[crate], below, " ")
+            for (at = 1; at <= count; at++) visit(below[at])
+            print crate
+        }
+        { uses[$1] = $2 }
+        END {
+            count = split(tops, top, " ")
+            for (at = 1; at <= count; at++) visit(top[at])
+        }' "$here/crates.txt"
+}
+
+# Whether the proved program is there, and none of its sources is newer.
+is_proved() {
+    [ -x "$here/crates/$1/out/$1" ] && [ -z "$(
+        cd "$here/crates" && find $(up_to "$1") -name out -prune -o \
+            -type f \( -name '*.rt' -o -name '*.antt' \) -newer "$1/out/$1" -print | head -n 1
+    )" ]
+}
+
+# Runs the program: the proved one, or else the same one unproved.
+run_program() {
+    top=$1
+    shift
+    ! is_proved "$top" || exec "$here/crates/$top/out/$top" "$@"
+    try_program "$@"
+}
+
+# rt takes so many bytes of input and no more, and ends a program that takes so many seconds.
+most_bytes=67108863
+most_seconds=600
+
+# Runs the program unproved, by `rt try`, which checks it as it runs. It is given all of standard input in a file, since
+# rt would take what a pipe gives within two seconds for the whole.
+try_program() {
+    command -v rt > /dev/null ||
+        fail "the program is not proved on this machine yet, and the toolchain's rt is not on the path"
+    echo "$name: this answer comes from a program that is not proved on this machine yet; '$here/prove' proves it" >&2
+    trying=
+    room=$(mktemp -d) || fail "no temporary folder can be made"
+    clean() {
+        if [ -n "$trying" ]; then
+            kill "$trying" 2> /dev/null
+            wait "$trying" 2> /dev/null
+        fi
+        rm -rf "$room"
+    }
+    clean_at_the_end
+    cat > "$room/input" 2> /dev/null || fail "standard input can't be read"
+    [ "$(wc -c < "$room/input")" -le "$most_bytes" ] || give_up "the input has more than $most_bytes bytes"
+    cd "$here/crates/$top" || fail "there is no folder crates/$top"
+    rt try --seconds "$most_seconds" -- "$@" < "$room/input" > "$room/answer" 2> "$room/told" &
+    trying=$!
+    wait "$trying"
+    status=$?
+    trying=
+    tell_answer
+}
+
+# Prints what the program printed, and ends with its status, or says why there is no answer. rt's status is the
+# program's own where its last line says that it ended.
+tell_answer() {
+    case "$status $(tail -n 1 "$room/told")" in
+    0\ * | *" run=ended status=$status "*)
+        # The last two lines are rt's.
+        sed '$d' "$room/told" | sed '$d' >&2
+        cat "$room/answer" 2> /dev/null || {
+            echo "error: output failed" >&2
+            status=2
+        }
+        exit "$status"
+        ;;
+    "6 run=no-answer "*) give_up "$(sed -n 's/^checked: no-answer: //p' "$room/told")" ;;
+    esac
+    fail "crates/$top can't be run unproved: $(grep -m 1 error "$room/told" || sed '$d' "$room/told" | tail -n 1)"
+}
