@@ -26,7 +26,7 @@ SECONDS = 120
 
 AFFECTED = ["affected", "crates/core/src/lib.rs"]
 ANSWER = "core\ntest-support\ncli\napp\n"
-UNPROVED = "this answer comes from a program that is not proved on this machine yet"
+UNPROVED = "comes from a program that is not proved on this machine yet"
 
 
 class World:

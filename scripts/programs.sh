@@ -63,7 +63,7 @@ most_seconds=600
 try_program() {
     command -v rt > /dev/null ||
         fail "the program is not proved on this machine yet, and the toolchain's rt is not on the path"
-    echo "$name: this answer comes from a program that is not proved on this machine yet; '$here/prove' proves it" >&2
+    echo "$name: this answer takes a minute, and comes from a program that is not proved on this machine yet; '$here/prove' proves it" >&2
     trying=
     room=$(mktemp -d) || fail "no temporary folder can be made"
     clean() {
