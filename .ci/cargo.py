@@ -172,7 +172,7 @@ def try_publish(graph):
 def try_affected(graph):
     files = ("src/lib.rs", "x/y/z", "Cargo.toml", "Cargo.lock")
     some = ["/".join([*folder, it]) for folder in graph.folders.values() if folder for it in files]
-    some += ["Cargo.toml", "Cargo.lock", "elsewhere/x", "base-mor/x", "./Cargo.lock", "./base/x"]
+    some += ["Cargo.toml", "Cargo.lock", "elsewhere/x", "base-mor/x", "./Cargo.lock", "./base/x", "/base/x", "../base/x", ""]
     for paths in [[], *([it] for it in some), *(graph.random.sample(some, it % 3 + 2) for it in range(STARTS))]:
         touched = set().union(*map(graph.touched, paths))
         wanted = set().union(*(graph.back[it] for it in touched)) & set(graph.folders)

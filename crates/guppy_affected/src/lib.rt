@@ -12,8 +12,6 @@ ghost use Rattle.guppy.specs.Query.{IsSetWhere};
 ghost use Rattle.guppy_affected.specs.Affected.{AreAffectedIds, IsAffected};
 
 mod folders;
-#[cfg(test)]
-mod tests;
 mod touched;
 
 use crate::touched::touched_members;

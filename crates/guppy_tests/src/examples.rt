@@ -251,7 +251,7 @@ fn assert_examples(rt: &impl Abort, alloc: Global, table: &str) {
     }
 }
 
-const TABLES: [&str; 14] = [
+const TABLES: [&str; 15] = [
     graphs::GRAPHS,
     graphs::BROKEN_RULES,
     faults::EACH_PLACE,
@@ -259,6 +259,7 @@ const TABLES: [&str; 14] = [
     graphs::VERIFIED,
     lists::LISTS,
     lists::PUBLISHED,
+    lists::AFFECTED,
     queries::QUERIES,
     sets::SETS,
     sets::PARTS,

@@ -1,6 +1,6 @@
 //! Graphs: what they hold, which records make none, what depends on what, and whether they are verified.
 use crate::examples::Answer;
-use crate::lists::{put_cycles, put_publish_order};
+use crate::lists::{put_affected, put_cycles, put_publish_order};
 use crate::sets::ask_set;
 use guppy::errors::VerifyFault;
 use guppy::{DependsCache, Error, PackageGraph, PackageId};
@@ -115,6 +115,7 @@ pub(super) fn ask_graph(
         (["cycle"], _) => put_refused(graph, out)?,
         (["witness", ..], [_, listed @ ..]) => out.put_truth(graph.is_cycle_witness(listed)?),
         (["publish"], _) => put_publish_order(graph, out)?,
+        (["affected", paths @ ..], _) => put_affected(graph, paths, out)?,
         (["cycles"], _) => put_cycles(graph, false, out),
         (["cycles", "from-back"], _) => put_cycles(graph, true, out),
         _ => ask_set(graph, words, ids, out)?,

@@ -1,5 +1,5 @@
-//! Tests of package graphs through the public calls of `guppy` alone, and of the publish order through
-//! that of `guppy_publish`.
+//! Tests of package graphs through the public calls of `guppy` alone, of the publish order through that
+//! of `guppy_publish`, and of whom changes affect through that of `guppy_affected`.
 //!
 //! They stand beside the library and not in it: a crate with tests is proved twice, with them and without.
 //! Most are examples, written as texts: `records` says how a graph is written, and `examples` how a

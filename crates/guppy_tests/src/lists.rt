@@ -1,10 +1,11 @@
-//! Lists of sets, cycles, the publish order, and the looks for the order.
+//! Lists of sets, cycles, the publish order, the members that changes affect, and the looks for the order.
 
 use crate::examples::Answer;
 use crate::records::shape_of;
 use guppy::graph::PackageIx;
 use guppy::positions::{CountedGraph, Graph, GraphSpec, Link, Sccs, TopoWithCycles};
 use guppy::{CycleIds, Error, PackageGraph, PackageId};
+use guppy_affected::affected;
 use guppy_publish::publish_order;
 use std::alloc::{AllocError, Global};
 use std::process::Abort;
@@ -34,6 +35,21 @@ pub(super) fn put_cycles(graph: &PackageGraph, is_from_back: bool, out: &mut Ans
 pub(super) fn put_publish_order(graph: &PackageGraph, out: &mut Answer) -> Result<(), Error> {
     let ids = publish_order(graph)?;
     for id in &ids {
+        out.put(id.repr());
+    }
+    Ok(())
+}
+
+pub(super) fn put_affected(
+    graph: &PackageGraph,
+    paths: &[&str],
+    out: &mut Answer,
+) -> Result<(), Error> {
+    let mut owned = Vec::new(graph.alloc());
+    for path in paths {
+        owned.push(String::from_str(graph.alloc(), path)?)?;
+    }
+    for id in &affected(graph, owned.as_slice())? {
         out.put(id.repr());
     }
     Ok(())
@@ -115,6 +131,27 @@ publish_empty | :
 
 publish_self | @a @b: a>a a>b
     publish = b a
+";
+
+pub(super) const AFFECTED: &str = "
+members_are_affected_by_what_they_depend_on | @base @mid @mid/deep @base-more @top outside: mid~base top~mid \
+    top~outside outside~base-more
+    affected base/src/lib.rs = base mid top
+    affected base-more/x = base-more top
+    affected mid//deep/./x = mid/deep
+    affected top/x mid/x = mid top
+    affected = nothing
+
+all_members_are_affected_by_what_is_no_members | @base @mid @mid/deep @base-more @top outside: mid~base top~mid \
+    top~outside outside~base-more
+    sorted affected base mid mid/deep base-more top = base base-more mid mid/deep top
+    sorted affected elsewhere/x = base base-more mid mid/deep top
+    sorted affected outside/x = base base-more mid mid/deep top
+    sorted affected Cargo.toml = base base-more mid mid/deep top
+    sorted affected Cargo.lock = base base-more mid mid/deep top
+    sorted affected bas = base base-more mid mid/deep top
+    sorted affected /base/x = base base-more mid mid/deep top
+    sorted affected ../base/x = base base-more mid mid/deep top
 ";
 
 /// A graph whose links say whether they are dev-only.
