@@ -8,7 +8,7 @@ use std::process::Abort;
 
 // The metadata of a workspace with the member `app`, whose libraries are one outside of the workspace, and
 // one of a registry.
-const METADATA: &str = r#"{
+pub(super) const METADATA: &str = r#"{
 "packages": [
  {"name": "app", "version": "0.3.1-pre.1", "id": "path+file:///w/app#0.3.1-pre.1", "license": "MIT",
   "license_file": "LICENSE", "description": "An app", "source": null, "dependencies": [

@@ -1,0 +1,32 @@
+ghost use Rattle.std.specs.Prelude.{List, IfOk, IsSomeAnd};
+ghost use Rattle.serde_json.specs.Read.{read};
+ghost use Rattle.guppy.specs.DataTypes.records.LinkRecord.{LinkRecord};
+ghost use Rattle.guppy.specs.Links.{AreLinksOf};
+ghost use Rattle.guppy_metadata.specs.Links.{AreLinks};
+ghost use Rattle.guppy_metadata.specs.Package.{ArePackages};
+ghost use Rattle.guppy_metadata.specs.Workspace.{IsWorkspace};
+
+use guppy::{Error, PackageGraph};
+use guppy_metadata::{MetadataFault, records_of};
+use std::alloc::Global;
+
+/// Why a text makes no graph.
+#[derive(Debug, Drop)]
+pub enum LoadError {
+    /// It says no records.
+    Metadata(MetadataFault),
+    /// The records break a rule of package graphs.
+    Graph(Error),
+}
+
+/// The graph that `cargo metadata --format-version 1` described by what it printed.
+pub fn load(alloc: Global, json: &str) -> Result<PackageGraph, LoadError>
+    ensures packages { IfOk result (λ g. IsSomeAnd (read json.now) (λ d. ArePackages d g.packages)) }
+    ensures links { IfOk result (λ g. IsSomeAnd (read json.now) (λ d. (records : List LinkRecord)
+        × AreLinks d records × AreLinksOf g.packages records g.links)) }
+    ensures workspace { IfOk result (λ g. IsSomeAnd (read json.now) (λ d. IsWorkspace d g.workspace)) }
+{
+    let records = records_of(alloc, json).map_err(LoadError::Metadata)?;
+    let graph = records.into_graph().map_err(LoadError::Graph)?;
+    Ok(graph)
+}
