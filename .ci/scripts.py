@@ -46,7 +46,8 @@ class World:
         folders = {"CARGO_HOME": ".cargo", "RUSTUP_HOME": ".rustup"}
         self.environment = {it: os.environ.get(it, str(Path.home() / folder)) for it, folder in folders.items()}
         self.environment |= {"PATH": str(self.bin), "TMPDIR": str(self.temporary), "HOME": str(self.home)}
-        self.environment |= {"BUILT": BUILT}
+        self.started = room / "started"
+        self.environment |= {"BUILT": BUILT, "STARTED": str(self.started)}
 
     def start(self, words, stand_in="", given=None, where=None, **how):
         """Starts a script of the clone; `given` is a file or None."""
@@ -133,10 +134,10 @@ def refusal(ran, status, *words):
 def try_interrupts(world):
     metadata = world.top / "examples/metadata.json"
     for number in (signal.SIGINT, signal.SIGTERM, signal.SIGHUP):
-        for words, stand_in in ((["guppy-cargo", *AFFECTED], "slow"), (["prove"], "slow"), (["quick-tests"], "slow")):
+        for words in (["guppy-cargo", *AFFECTED], ["prove"], ["quick-tests"]):
             with open(metadata, "rb") as given:
-                started = world.start(words, stand_in=stand_in, given=given, start_new_session=True)
-            time.sleep(2)
+                started = world.start(words, stand_in="slow", given=given, start_new_session=True)
+            wait_for(world.started)
             # As a terminal does, or kill.
             (os.killpg if number == signal.SIGINT else os.kill)(started.pid, number)
             output, errors = started.communicate(timeout=SECONDS)
@@ -147,6 +148,15 @@ def try_interrupts(world):
     yield "what comes next proves", ran[0] == 0, ran
     ran = world.ask()
     yield "and answers", ran == (0, ANSWER, ""), ran
+
+
+def wait_for(file):
+    """Waits until the file is there, and removes it."""
+    ends = time.monotonic() + SECONDS
+    while not file.exists() and time.monotonic() < ends:
+        time.sleep(0.1)
+    file.unlink(missing_ok=True)
+    time.sleep(0.5)
 
 
 def still_running(session):
