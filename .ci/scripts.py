@@ -6,7 +6,6 @@ the gate has just built; two runs are with rt itself. Needs git, cargo and the p
 'N passed, M failed'.
 """
 
-import contextlib
 import os
 import shutil
 import signal
@@ -142,8 +141,9 @@ def try_interrupts(world):
             (os.killpg if number == signal.SIGINT else os.kill)(started.pid, number)
             output, errors = started.communicate(timeout=SECONDS)
             status = started.returncode
-            is_clean = status == 128 + number and not world.left() and not still_running(started.pid)
-            yield f"{words[0]} is ended by {number.name}", is_clean, (status, output, errors, world.left())
+            left = world.left() + still_running(started.pid)
+            is_clean = status == 128 + number and not left
+            yield f"{words[0]} is ended by {number.name}", is_clean, (status, output, errors, left)
     ran = world.build()
     yield "what comes next proves", ran[0] == 0, ran
     ran = world.ask()
@@ -160,14 +160,14 @@ def wait_for(file):
 
 
 def still_running(session):
-    """Whether anything of the session runs; what was ended may take a moment to go."""
+    """What runs of the session; what was ended may take a moment to go."""
     for _ in range(50):
-        with contextlib.suppress(subprocess.CalledProcessError):
-            subprocess.run(["pgrep", "-s", str(session)], stdout=subprocess.DEVNULL, check=True)
-            time.sleep(0.1)
-            continue
-        return False
-    return True
+        ran = subprocess.run(["ps", "-o", "stat=,args=", "-s", str(session)], capture_output=True, text=True, check=False)
+        running = [it for it in ran.stdout.splitlines() if not it.startswith("Z")]
+        if not running:
+            return []
+        time.sleep(0.1)
+    return running
 
 
 def try_proved(world):

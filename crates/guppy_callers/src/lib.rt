@@ -1,5 +1,9 @@
-//! A caller of each library, which stands in its page `CALLING.md` too: of `guppy` in `graph`, and of
-//! `guppy_metadata`, `guppy_publish` and `guppy_affected` in the module that is named as these end.
+//! Callers of the libraries, each of which its library's page `CALLING.md` shows:
+//!
+//! - `graph`: of `guppy`;
+//! - `metadata`: of `guppy_metadata`;
+//! - `publish`: of `guppy_publish`;
+//! - `affected`: of `guppy_affected`.
 #![tactic(auto)]
 
 pub mod affected;

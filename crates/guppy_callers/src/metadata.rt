@@ -13,13 +13,13 @@ use std::alloc::Global;
 /// Why a text makes no graph.
 #[derive(Debug, Drop)]
 pub enum LoadError {
-    /// It says no records.
+    /// `records_of` refused the text.
     Metadata(MetadataFault),
-    /// The records break a rule of package graphs.
+    /// `into_graph` refused the records.
     Graph(Error),
 }
 
-/// The graph that `cargo metadata --format-version 1` described by what it printed.
+/// The graph that the output of `cargo metadata --format-version 1` describes.
 pub fn load(alloc: Global, json: &str) -> Result<PackageGraph, LoadError>
     ensures packages { IfOk result (λ g. IsSomeAnd (read json.now) (λ d. ArePackages d g.packages)) }
     ensures links { IfOk result (λ g. IsSomeAnd (read json.now) (λ d. (records : List LinkRecord)
