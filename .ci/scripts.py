@@ -242,7 +242,7 @@ def try_installed(world):
 def try_quick(world):
     ran = world.run(["quick-tests"])
     yield "all crates", ran[0] == 0 and ran[1].endswith(" passed, 0 failed\n") and ran[2] == "", ran
-    ran = world.run(["quick-tests", "guppy_run_tests", "guppy_affected"])
+    ran = world.run(["quick-tests", "guppy_run_tests", "guppy_core_tests"])
     yield "two crates", ran[0] == 0 and ran[1].endswith("\n2 passed, 0 failed\n"), ran
     ran = world.run(["quick-tests", "guppy_run_tests"], stand_in="tests-fail")
     is_named = "FAILED: guppy_run_tests: b::wrong\n    why it is wrong\n" in ran[1]
