@@ -45,8 +45,7 @@ class World:
         folders = {"CARGO_HOME": ".cargo", "RUSTUP_HOME": ".rustup"}
         self.environment = {it: os.environ.get(it, str(Path.home() / folder)) for it, folder in folders.items()}
         self.environment |= {"PATH": str(self.bin), "TMPDIR": str(self.temporary), "HOME": str(self.home)}
-        self.started = room / "started"
-        self.environment |= {"BUILT": BUILT, "STARTED": str(self.started)}
+        self.environment |= {"BUILT": BUILT}
 
     def start(self, words, stand_in="", given=None, where=None, **how):
         """Starts a script of the clone; `given` is a file or None."""
@@ -134,9 +133,11 @@ def try_interrupts(world):
     metadata = world.top / "examples/metadata.json"
     for number in (signal.SIGINT, signal.SIGTERM, signal.SIGHUP):
         for words in (["guppy-cargo", *AFFECTED], ["prove"], ["quick-tests"]):
+            file = world.room / f"{words[0]} {number.name}"
+            how = {"environment": {"STARTED": str(file)}, "start_new_session": True}
             with open(metadata, "rb") as given:
-                started = world.start(words, stand_in="slow", given=given, start_new_session=True)
-            wait_for(world.started)
+                started = world.start(words, stand_in="slow", given=given, **how)
+            wait_for(file)
             # As a terminal does, or kill.
             (os.killpg if number == signal.SIGINT else os.kill)(started.pid, number)
             output, errors = started.communicate(timeout=SECONDS)
@@ -151,11 +152,10 @@ def try_interrupts(world):
 
 
 def wait_for(file):
-    """Waits until the file is there, and removes it."""
+    """Waits until the file is there, and then for what stands beside it."""
     ends = time.monotonic() + SECONDS
     while not file.exists() and time.monotonic() < ends:
         time.sleep(0.1)
-    file.unlink(missing_ok=True)
     time.sleep(0.5)
 
 
