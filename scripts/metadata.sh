@@ -21,11 +21,12 @@ take_metadata() {
     cargo=${CARGO:-cargo}
     command -v "$cargo" > /dev/null || fail "cargo is not on the path, and no metadata is given on standard input"
     tell "asking cargo for the metadata of the workspace"
-    metadata=$(mktemp) || fail "no temporary file can be made"
+    metadata=
     trap 'rm -f "$metadata"' EXIT
     trap 'exit 129' HUP
     trap 'exit 130' INT
     trap 'exit 143' TERM
+    metadata=$(mktemp) || fail "no temporary file can be made"
     "$cargo" metadata --format-version 1 > "$metadata" < /dev/null || fail "cargo gives no metadata"
     exec < "$metadata"
     trap - EXIT HUP INT TERM

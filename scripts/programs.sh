@@ -64,24 +64,23 @@ try_program() {
     command -v rt > /dev/null ||
         fail "the program is not proved on this machine yet, and the toolchain's rt is not on the path"
     echo "$name: this answer takes a minute, and comes from a program that is not proved on this machine yet; '$here/prove' proves it" >&2
-    trying=
-    room=$(mktemp -d) || fail "no temporary folder can be made"
+    room= is_over=
     clean() {
-        if [ -n "$trying" ]; then
-            kill "$trying" 2> /dev/null
-            wait "$trying" 2> /dev/null
+        if [ -n "$!" ] && [ -z "$is_over" ]; then
+            kill "$!" 2> /dev/null
+            wait "$!" 2> /dev/null
         fi
         rm -rf "$room"
     }
     clean_at_the_end
+    room=$(mktemp -d) || fail "no temporary folder can be made"
     cat > "$room/input" 2> /dev/null || fail "standard input can't be read"
     [ "$(wc -c < "$room/input")" -le "$most_bytes" ] || give_up "the input has more than $most_bytes bytes"
     cd "$here/crates/$top" || fail "there is no folder crates/$top"
     rt try --seconds "$most_seconds" -- "$@" < "$room/input" > "$room/answer" 2> "$room/told" &
-    trying=$!
-    wait "$trying"
+    wait "$!"
     status=$?
-    trying=
+    is_over=1
     tell_answer
 }
 
