@@ -331,6 +331,8 @@ def tell(part, tried):
 
 
 def main():
+    # A shell that starts this in the background has it, and all below it, ignore interrupts.
+    signal.signal(signal.SIGINT, signal.default_int_handler)
     with ThreadPoolExecutor(4) as workers:
         passed = [tell(*it) for it in workers.map(tried_in, sys.argv[1:] or PARTS)]
     print(f"{passed.count(True)} passed, {passed.count(False)} failed")
