@@ -1,12 +1,13 @@
 -- Links as visitors are shown them, and the states of visitors over a trace.
-use Rattle.std.proofs.Common.{◌≡◌, ◌∙◌, sym, refl, ap, subst, ℕ, ◌<◌, List, [], ◌∷◌, Bool, Some, slice_get}
+use Rattle.std.proofs.Common.{◌≡◌, ◌∙◌, sym, refl, ap, subst, ℕ, ◌<◌, List, [], ◌∷◌, Bool, Some, slice_get, length}
 use Rattle.std.specs.List.{FoldsTo, Contains}
 use Rattle.std.proofs.lemmas.Fn.{chained_keeps}
+use Rattle.std.proofs.lemmas.Option.{slice_get_within}
 use Rattle.guppy_search.specs.declared.ix.direction.DependencyDirection.{DependencyDirection}
 use Rattle.guppy_search.specs.declared.ix.direction.DependencyDirection.TheVariants.{Forward, Reverse}
 use Rattle.guppy_search.specs.declared.graph_core.link.Link.{Link}
 use Rattle.guppy_core.specs.Links.{near_end}
-use Rattle.guppy_core.specs.Resolve.{IsShown, Visits, IsCallableBelow}
+use Rattle.guppy_core.specs.Resolve.{IsShown, Visits, IsCallable}
 use Rattle.guppy_data.specs.declared.records.PackageRecord.{PackageRecord}
 use Rattle.guppy_data.specs.declared.records.LinkRecord.{LinkRecord}
 use Rattle.guppy_graph.specs.Ids.{HasId}
@@ -27,17 +28,17 @@ pub FoldsTo-along_kept : {S T X : Type 0} (f : S → T) (I : S → Type 0) (R : 
 FoldsTo-along_kept f I R Q step [] s t i h = ap f h
 FoldsTo-along_kept f I R Q step (e ∷ es) s t i h = let r = step s e h.0 i h.1 in (f h.0, r.0, FoldsTo-along_kept f I R Q step es h.0 t r.1 h.2)
 
--- a visitor whose states keep I may be called with each number below the count once where what f reads of them may
-pub IsCallableBelow-along_kept : {S T : Type 0} (f : S → T) (I : S → Type 0) (may_call : S → ℕ → Type 0) (may_call' : T → ℕ → Type 0) (calls : S → ℕ → Bool → S → Type 0) (calls' : T → ℕ → Bool → T → Type 0) (count : ℕ)
-    (may : (s : S) (n : ℕ) → I s → n < count → may_call' (f s) n → may_call s n) (step : (s : S) (e : ℕ × Bool) (t : S) → I s → calls s e.0 e.1 t → calls' (f s) e.0 e.1 (f t) × I t)
-    (s : S) → I s → IsCallableBelow may_call' calls' count (f s) → IsCallableBelow may_call calls count s
-IsCallableBelow-along_kept f I may_call may_call' calls calls' count may step s i callable = record {
-  at = λ earlier now n few once new steps below.
+-- a resolve may ask a visitor whose states keep I where it may ask what f reads of them
+pub IsCallable-along_kept : {E S T : Type 0} (f : S → T) (I : S → Type 0) (may_call : S → ℕ → Type 0) (may_call' : T → ℕ → Type 0) (calls : S → ℕ → Bool → S → Type 0) (calls' : T → ℕ → Bool → T → Type 0) (d : DependencyDirection) (links : List (Link E)) (initials : List Bool)
+    (may : (s : S) (n : ℕ) → I s → n < length links → may_call' (f s) n → may_call s n) (step : (s : S) (e : ℕ × Bool) (t : S) → I s → calls s e.0 e.1 t → calls' (f s) e.0 e.1 (f t) × I t)
+    (s : S) → I s → IsCallable may_call' calls' d links initials (f s) → IsCallable may_call calls d links initials s
+IsCallable-along_kept f I may_call may_call' calls calls' d links initials may step s i callable = record {
+  at = λ earlier now n once in_time steps leaves new.
       let kept = chained_keeps _ (λ _ t. I t) (λ _ t e u k h. (step t e u k h).1) earlier s now i steps in
-      may now n kept below (callable.at earlier (f now) n few once new (FoldsTo-along_kept f I _ _ step earlier s now i steps) below);
+      may now n kept (slice_get_within links n leaves.0 leaves.1) (callable.at earlier (f now) n once in_time (FoldsTo-along_kept f I _ _ step earlier s now i steps) leaves new);
 }
 
--- a visitor that may be called with each number below the count, until it was called with it, may be called with each once
+-- a resolve may ask a visitor that may be called with each link, until it was called with it
 module _ {S : Type 0} (may_call : S → ℕ → Type 0) (calls : S → ℕ → Bool → S → Type 0) (others : (s : S) (n : ℕ) (b : Bool) (t : S) → calls s n b t → (m : ℕ) → (m ≡ n → ⊥) → may_call s m → may_call t m) where
   stays_callable : (n : ℕ) (earlier : List (ℕ × Bool)) (s now : S) → Visits calls s earlier now → ¬ IsShown earlier n → may_call s n → may_call now n
   stays_callable n [] s now h new may = subst (λ t. may_call t n) h may
@@ -45,8 +46,8 @@ module _ {S : Type 0} (may_call : S → ℕ → Type 0) (calls : S → ℕ → B
       (λ k. new (k.0, Contains-later e (n, k.0) es k.1))
       (others s e.0 e.1 h.0 h.1 n (λ same. new (e.1, subst (λ m. Contains (e ∷ es) (m, e.1)) (sym same) (Contains-first e es))) may)
 
-  pub IsCallableBelow-others : (count : ℕ) (s : S) → ((n : ℕ) → n < count → may_call s n) → IsCallableBelow may_call calls count s
-  IsCallableBelow-others count s may = record { at = λ earlier now n few once new steps below. stays_callable n earlier s now steps new (may n below) }
+  pub IsCallable-others : {E : Type 0} (d : DependencyDirection) (links : List (Link E)) (initials : List Bool) (s : S) → ((n : ℕ) → n < length links → may_call s n) → IsCallable may_call calls d links initials s
+  IsCallable-others d links initials s may = record { at = λ earlier now n once in_time steps leaves new. stays_callable n earlier s now steps new (may n (slice_get_within links n leaves.0 leaves.1)) }
 
 -- a chain ends at what is equal to its end
 pub ends_at : {V : Type 0} (visits : V → ℕ → Bool → V → Type 0) (s : V) (trace : List (ℕ × Bool)) (t u : V) → Visits visits s trace t → u ≡ t → Visits visits s trace u

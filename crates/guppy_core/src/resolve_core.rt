@@ -11,7 +11,7 @@ ghost use Rattle.guppy_search.specs.Graph.{LinkIs};
 ghost use Rattle.guppy_search.specs.Reach.{IsPlainResolve, LinkStep, Mutual};
 ghost use Rattle.guppy_core.specs.Roots.{IsRoot, AreRoots};
 ghost use Rattle.guppy_search.specs.Walked.{AreWalked, HoldsComponents, IsLinkInside, numbers_of};
-ghost use Rattle.guppy_search.specs.Resolve.{JudgesResolve, AcceptsAll, Visits, IsCallableBelow};
+ghost use Rattle.guppy_search.specs.Resolve.{JudgesResolve, AcceptsAll, Visits, IsCallable};
 
 use crate::scc::Sccs;
 use guppy_search::{
@@ -91,10 +91,10 @@ impl<G: GraphSpec> ResolveCore<G> {
     /// initial ones among them. The filter is asked by number, exactly once for each link that
     /// leaves one of these positions, after that position was included, and for no other link.
     ///
-    /// The initial ones are a set of the graph's positions, and the filter takes every link number,
-    /// also after calls with other numbers. Time grows with the nodes and the links that leave the result.
-    /// Takes memory for the set and a number a node, and fails only where there is none. What the
-    /// filter is like then is told by [`with_edge_filter_mut`](ResolveCore::with_edge_filter_mut).
+    /// The initial ones are a set of the graph's positions, and the filter takes each link that it is
+    /// asked about in this way. Time grows with the nodes and the links that leave the result. Takes
+    /// memory for the set and a number a node, and fails only where there is none. What the filter is
+    /// like then is told by [`with_edge_filter_mut`](ResolveCore::with_edge_filter_mut).
     pub fn with_edge_filter<F: FnMut(usize) -> bool>(
         graph: &Graph<G>,
         initials: &IxSet<G>,
@@ -102,7 +102,7 @@ impl<G: GraphSpec> ResolveCore<G> {
         filter: F,
     ) -> Result<Self, AllocError>
         requires count { length initials.now ≡ length graph.now.nodes }
-        requires callable { IsCallableBelow F.pre F.step (length graph.now.links) filter }
+        requires callable { IsCallable F.pre F.step direction graph.now.links initials.now filter }
         ensures count { IfOk result (λ set. length set ≡ length graph.now.nodes) }
         ensures judged { IfOk result (λ set. (trace : List (ℕ × Bool)) × (last : F)
             × JudgesResolve direction graph.now.links initials.now trace set
@@ -121,7 +121,7 @@ impl<G: GraphSpec> ResolveCore<G> {
         filter: &mut F,
     ) -> Result<Self, AllocError>
         requires count { length initials.now ≡ length graph.now.nodes }
-        requires callable { IsCallableBelow F.pre F.step (length graph.now.links) filter.old }
+        requires callable { IsCallable F.pre F.step direction graph.now.links initials.now filter.old }
         ensures count { IfOk result (λ set. length set ≡ length graph.now.nodes) }
         ensures judged { IfOk result (λ set. (trace : List (ℕ × Bool))
             × JudgesResolve direction graph.now.links initials.now trace set
@@ -135,11 +135,10 @@ impl<G: GraphSpec> ResolveCore<G> {
     /// The positions that the initial ones lead to over the links that the filter hands back, the
     /// initial ones among them: those of [`reachable_buffered`].
     ///
-    /// The initial ones are a set of the graph's positions, and the filter may be asked about each of
-    /// the graph's positions and links, also after other questions. Time grows with the nodes, the
-    /// links that leave the result, and the links handed back. Takes memory for the set and a number a
-    /// node. `AllocError` comes where there is none, and where the filter answers it; what the filter
-    /// is like then is told by
+    /// The initial ones are a set of the graph's positions, and the filter takes each question that it
+    /// is asked by that search. Time grows with the nodes, the links that leave the result, and the
+    /// links handed back. Takes memory for the set and a number a node. `AllocError` comes where there
+    /// is none, and where the filter answers it; what the filter is like then is told by
     /// [`with_buffered_edge_filter_mut`](ResolveCore::with_buffered_edge_filter_mut).
     pub fn with_buffered_edge_filter<T: BufferedEdgeFilter<G> + Drop>(
         graph: &Graph<G>,
@@ -149,8 +148,8 @@ impl<G: GraphSpec> ResolveCore<G> {
     ) -> Result<Self, AllocError>
         requires count { length initials.now ≡ length graph.now.nodes }
         requires ready { IsAskable (T.can_discover graph.now) (T.can_filter graph.now)
-            (Answers (T.discovers graph.now) (T.filters graph.now)) (length graph.now.nodes)
-            (length graph.now.links) filter }
+            (Answers (T.discovers graph.now) (T.filters graph.now)) direction graph.now.links
+            initials.now filter }
         ensures count { IfOk result (λ set. length set ≡ length graph.now.nodes) }
         ensures judged { IfOk result (λ set. (trace : List (Question × List ℕ)) × (last : T)
             × JudgesBuffered direction graph.now.links initials.now trace set
@@ -171,8 +170,8 @@ impl<G: GraphSpec> ResolveCore<G> {
     ) -> Result<Self, AllocError>
         requires count { length initials.now ≡ length graph.now.nodes }
         requires ready { IsAskable (T.can_discover graph.now) (T.can_filter graph.now)
-            (Answers (T.discovers graph.now) (T.filters graph.now)) (length graph.now.nodes)
-            (length graph.now.links) filter.old }
+            (Answers (T.discovers graph.now) (T.filters graph.now)) direction graph.now.links
+            initials.now filter.old }
         ensures count { IfOk result (λ set. length set ≡ length graph.now.nodes) }
         ensures judged { IfOk result (λ set. (trace : List (Question × List ℕ))
             × JudgesBuffered direction graph.now.links initials.now trace set

@@ -1,6 +1,7 @@
 //! Searches by position, with filters that count what they are asked.
 ghost use Rattle.std.specs.Prelude.{◌≡◌, ◌<◌, length, All, IfOk};
-ghost use Rattle.guppy.specs.Resolve.{IsCallableBelow};
+ghost use Rattle.guppy.specs.Resolve.{IsCallable};
+ghost use Rattle.guppy.specs.SearchTypes.ix.direction.DependencyDirection.TheVariants.{Forward};
 
 use crate::positions::{DevLinks, graph_of, set_of, tell_positions};
 use crate::told::{begin, tell, tell_calls, tell_line};
@@ -106,7 +107,7 @@ fn with_callback<F: FnMut(usize) -> bool>(
     call: &str,
 ) -> Result<ResolveCore<DevLinks>, AllocError>
     requires count { length start.now ≡ length graph.now.nodes }
-    requires callable { IsCallableBelow F.pre F.step (length graph.now.links) callback }
+    requires callable { IsCallable F.pre F.step Forward graph.now.links start.now callback }
 {
     let set = match call {
         "reachable_filtered" => reachable_filtered(graph, start, FORWARD, callback)?,

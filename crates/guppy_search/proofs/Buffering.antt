@@ -9,7 +9,7 @@ use Rattle.guppy_search.specs.declared.graph_core.link.Link.{Link}
 use Rattle.guppy_search.specs.Links.{near_end, links_at, EndsBelow, IsLedTo}
 use Rattle.guppy_search.specs.IxSet.{IsIn, member_count, positions_in}
 use Rattle.guppy_search.specs.Resolve.{LeavesOne}
-use Rattle.guppy_search.specs.Buffered.{Question, IsAsked, IsFound, IsTimely, IsOrderly, IsAbout, AskedOnce, IsAskable, JudgesBuffered, Asks, EndsInError, Adds}
+use Rattle.guppy_search.specs.Buffered.{Question, IsAsked, IsFound, IsTimely, IsOrderly, IsAskable, JudgesBuffered, Asks, EndsInError, Adds}
 use Rattle.guppy_search.specs.Buffered.Question.{discover, filter}
 use Rattle.guppy_search.specs.Buffering.{Buffering, Takes, Stops, MayAskOn}
 use Rattle.guppy_search.proofs.Lists.{nothing_in, Contains-first, Contains-later, Contains-cons_cases, EachAfter-nil, EachAfter-push, FoldsTo-append}
@@ -208,33 +208,16 @@ module _ {E : Type 0} (d : DependencyDirection) (links : List (Link E)) (initial
       timely = b.row n (Contains-first n left);
     }
 
--- What was asked of a filter that may be asked about each position and link once, in a search from positions of the graph.
-module _ {E : Type 0} (d : DependencyDirection) (links : List (Link E)) (initials : List Bool) (ends : All (EndsBelow (length initials)) links) where
-  -- what was asked is about positions and links of the graph, and was asked once
-  pub Buffering-asked : (trace : List (Question × List ℕ)) (s : List Bool) (waiting left : List ℕ) → Buffering d links initials trace s waiting left → AskedOnce (length initials) (length links) trace
-  Buffering-asked trace s waiting left b =
-      let position : (p : ℕ) → IsAsked trace (discover p) → p < length initials = λ p h. elim ((b.included p).0 (b.discovered p h)) [
-        | inl i ↦ IsIn-below initials p i
-        | inr q ↦ subst (λ r. r < length initials) q.2.4 (far_end_below d links (length initials) q.2.0 q.2.1 q.2.3 ends)
-      ] in
-      let link : (n : ℕ) → IsAsked trace (filter n) → n < length links = λ n h. let l = b.filtered n h in slice_get_within links n l.0 l.1 in
-      record {
-        once = b.orderly.once;
-        about = λ question. elim question as (λ q. IsAsked trace q → IsAbout (length initials) (length links) q) [ discover p ↦ position p | filter n ↦ link n ];
-      }
-
-  -- who may be asked along each chain may be asked on from where the search is
-  pub MayAskOn-along : {T : Type 0} (can_discover can_filter : T → ℕ → Type 0) (answers : T → Question → Option (List ℕ) → T → Type 0) (trace : List (Question × List ℕ)) (s : List Bool) (waiting left : List ℕ) (first state : T)
-      → IsAskable can_discover can_filter answers (length initials) (length links) first → Buffering d links initials trace s waiting left → Asks answers first trace state → MayAskOn can_filter answers d links s waiting left state
-  MayAskOn-along can_discover can_filter answers trace s waiting left first state askable buffering asks = record {
-    at = λ asked now n s' waiting' left' takes due more.
-        let after = takes.after initials trace buffering in
-        askable.at_link (trace ++ asked) now n
-        (Buffering-asked (trace ++ asked) s' waiting' left' after)
-        (after.unfiltered n due)
-        (FoldsTo-append _ first trace state asked now asks more)
-        (let l = after.row n due in slice_get_within links n l.0 l.1);
-  }
+-- who may be asked along each chain may be asked on from where the search is
+pub MayAskOn-along : {E T : Type 0} (d : DependencyDirection) (links : List (Link E)) (initials : List Bool) (can_discover can_filter : T → ℕ → Type 0) (answers : T → Question → Option (List ℕ) → T → Type 0) (trace : List (Question × List ℕ)) (s : List Bool) (waiting left : List ℕ) (first state : T)
+    → IsAskable can_discover can_filter answers d links initials first → Buffering d links initials trace s waiting left → Asks answers first trace state → MayAskOn can_filter answers d links s waiting left state
+MayAskOn-along d links initials can_discover can_filter answers trace s waiting left first state askable buffering asks = record {
+  at = λ asked now n s' waiting' left' takes due more.
+      let after = takes.after initials trace buffering in
+      askable.at_link (trace ++ asked) now n after.orderly
+      (FoldsTo-append _ first trace state asked now asks more)
+      (after.row n due) (after.unfiltered n due);
+}
 
 -- What the links asked about so far make of a search, where row are all that leave the position.
 pub Takes-none : {E : Type 0} (d : DependencyDirection) (links : List (Link E)) (s : List Bool) (waiting row : List ℕ) → Takes d links [] s waiting row s waiting row

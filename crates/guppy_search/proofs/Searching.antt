@@ -10,7 +10,7 @@ use Rattle.guppy_search.specs.declared.ix.direction.DependencyDirection.TheVaria
 use Rattle.guppy_search.specs.declared.graph_core.link.Link.{Link}
 use Rattle.guppy_search.specs.Links.{near_end, far_end, links_at, EndsBelow}
 use Rattle.guppy_search.specs.IxSet.{has, IsIn, member_count, positions_in}
-use Rattle.guppy_search.specs.Resolve.{IsShown, LeavesOne, IsIncluded, JudgesResolve, Visits, IsCallableBelow}
+use Rattle.guppy_search.specs.Resolve.{IsShown, LeavesOne, IsIncluded, JudgesResolve, Visits, IsCallable}
 use Rattle.guppy_search.specs.Searching.{IsAscending, Waits, Seeded, Searching, Shows, MayGoOn}
 use Rattle.guppy_search.proofs.Lists.{nothing_in, Contains-first, Contains-later, Contains-cons_cases, EachAfter-nil, EachAfter-push, EachAfter-pop, FoldsTo-append}
 use Rattle.guppy_search.proofs.Members.{IsIn-below, member-set_cases, member-set_keeps, member_count-set, member_count-lt-length}
@@ -299,18 +299,17 @@ module _ {E : Type 0} (d : DependencyDirection) (links : List (Link E)) (shown :
             (Searching-new d links initials (trace ++ shown) s' waiting' left n link found below lacks (h.after initials trace k));
       }
 
--- a visitor that may be shown each link once may be shown the next one of a search under way
+-- a visitor that a resolve may ask may be shown the next link of one under way
 pub MayGoOn-along : {E V : Type 0} (may_call : V → ℕ → Type 0) (calls : V → ℕ → Bool → V → Type 0) (d : DependencyDirection) (links : List (Link E)) (initials : List Bool) (trace : List (ℕ × Bool)) (s : List Bool) (waiting left : List ℕ) (first state : V)
-    → IsCallableBelow may_call calls (length links) first → Searching d links initials trace s waiting left → Visits calls first trace state → MayGoOn may_call calls d links s waiting left state
+    → IsCallable may_call calls d links initials first → Searching d links initials trace s waiting left → Visits calls first trace state → MayGoOn may_call calls d links s waiting left state
 MayGoOn-along may_call calls d links initials trace s waiting left first state callable searching steps = record {
   at = λ shown now n s' waiting' left' shows due more.
       let after = shows.after initials trace searching in
-      callable.at (trace ++ shown) now n
-      (λ m h. let l = after.shown m h in slice_get_within links m l.0 l.1)
-      after.once
-      (after.not_yet n (inr due))
+      let l = after.row n due in
+      callable.at (trace ++ shown) now n after.once after.led_to
       (FoldsTo-append _ first trace state shown now steps more)
-      (let l = after.row n due in slice_get_within links n l.0 l.1);
+      (l.0, l.1, (after.included _).0 l.2.0)
+      (after.not_yet n (inr due));
 }
 
 -- what waits and what is not in the set, after a position is put in

@@ -9,7 +9,7 @@ use Rattle.std.proofs.lemmas.List.Elements.{All-nil, All-push, Contains-append_l
 use Rattle.guppy_search.specs.declared.ix.direction.DependencyDirection.{DependencyDirection}
 use Rattle.guppy_search.specs.declared.graph_core.link.Link.{Link}
 use Rattle.guppy_search.specs.IxSet.{has, IsIn, member_count}
-use Rattle.guppy_search.specs.Resolve.{IsShown, ShownOnce, JudgesResolve, IsCallableBelow}
+use Rattle.guppy_search.specs.Resolve.{IsShown, ShownOnce, JudgesResolve, IsCallable}
 use Rattle.guppy_search.proofs.Lists.{EachAfter-along}
 use Rattle.guppy_search.proofs.Members.{member_count-replicate, member_count-le-length, member_count-set, has-replicate, member-set_cases}
 
@@ -27,22 +27,22 @@ each_answer {S} {X} R P I step trace s t i h =
     (λ es q e v j k. let r = step q e v j.1 k in (All-push P es e j.0 r.0, r.1))
     trace s t (All-nil P, i) h).0
 
--- A visitor that may be called with each number below the count once.
-module _ {S : Type 0} (may_call : S → ℕ → Type 0) (calls : S → ℕ → Bool → S → Type 0) (count : ℕ) (s : S) where
+-- A visitor that a resolve may ask.
+module _ {E S : Type 0} (may_call : S → ℕ → Type 0) (calls : S → ℕ → Bool → S → Type 0) (d : DependencyDirection) (links : List (Link E)) (initials : List Bool) (s : S) where
   -- one whose states are read by f, and which calls what is read
-  pub IsCallableBelow-along : {T : Type 0} (f : S → T) (may_call' : T → ℕ → Type 0) (calls' : T → ℕ → Bool → T → Type 0)
+  pub IsCallable-along : {T : Type 0} (f : S → T) (may_call' : T → ℕ → Type 0) (calls' : T → ℕ → Bool → T → Type 0)
       (may : (t : S) (n : ℕ) → may_call' (f t) n → may_call t n) (step : (t : S) (n : ℕ) (b : Bool) (u : S) → calls t n b u → calls' (f t) n b (f u))
-      → IsCallableBelow may_call' calls' count (f s) → IsCallableBelow may_call calls count s
-  IsCallableBelow-along f may_call' calls' may step callable = record {
-    at = λ earlier now n few once new steps below. may now n (callable.at earlier (f now) n few once new (FoldsTo-along f _ _ (λ t e u k. step t e.0 e.1 u k) earlier s now steps) below);
+      → IsCallable may_call' calls' d links initials (f s) → IsCallable may_call calls d links initials s
+  IsCallable-along f may_call' calls' may step callable = record {
+    at = λ earlier now n once in_time steps leaves new. may now n (callable.at earlier (f now) n once in_time (FoldsTo-along f _ _ (λ t e u k. step t e.0 e.1 u k) earlier s now steps) leaves new);
   }
 
   -- one that no call changes
-  pub IsCallableBelow-same : (stays : (t : S) (n : ℕ) (b : Bool) (u : S) → calls t n b u → u ≡ t) → ((n : ℕ) → n < count → may_call s n) → IsCallableBelow may_call calls count s
-  IsCallableBelow-same stays may = record {
-    at = λ earlier now n few once new steps below.
+  pub IsCallable-same : (stays : (t : S) (n : ℕ) (b : Bool) (u : S) → calls t n b u → u ≡ t) → ((n : ℕ) → n < length links → may_call s n) → IsCallable may_call calls d links initials s
+  IsCallable-same stays may = record {
+    at = λ earlier now n once in_time steps leaves new.
         let same : now ≡ s = chained_keeps _ (λ _ t. t ≡ s) (λ _ t e u k h. stays t e.0 e.1 u h ∙ k) earlier s now refl steps in
-        subst (λ t. may_call t n) (sym same) (may n below);
+        subst (λ t. may_call t n) (sym same) (may n (slice_get_within links n leaves.0 leaves.1));
   }
 
 -- the numbers of a trace, as a set

@@ -1,5 +1,5 @@
 -- What a search with a buffered filter asks, and which positions it includes.
-use Rattle.std.specs.Prelude.{◌≡◌, ◌⊎◌, ◌↔◌, ℕ, ◌<◌, Bool, true, if◌then◌else◌, List, [], ◌∷◌, Option, Some, None, MatchOption}
+use Rattle.std.specs.Prelude.{◌≡◌, ◌⊎◌, ◌↔◌, ℕ, Bool, true, if◌then◌else◌, List, [], ◌∷◌, Option, Some, None, MatchOption}
 use Rattle.std.specs.List.{Contains, FoldsTo}
 use Rattle.std.specs.Borrow.{Bor}
 use Rattle.guppy_search.specs.declared.ix.direction.DependencyDirection.{DependencyDirection}
@@ -68,27 +68,19 @@ abbrev pub Asks : {T : Type 0} → (T → Question → Option (List ℕ) → T �
     → List (Question × List ℕ) → T → Type 0
 Asks answers = FoldsTo (λ s entry t. answers s entry.0 (Some entry.1) t)
 
--- the question is about a position below the one count, or about a link below the other
-abbrev pub IsAbout : (nodes links : ℕ) → Question → Type 0
-IsAbout nodes links (discover p) = p < nodes
-IsAbout nodes links (filter n) = n < links
-
--- no question is asked twice, and each is about one of so many positions and links
-pub record AskedOnce (nodes links : ℕ) (trace : List (Question × List ℕ)) : Type 0 where
-  pub once : EachAfter (λ before entry. ¬ IsAsked before entry.0) trace
-  pub about : (question : Question) → IsAsked trace question → IsAbout nodes links question
-
--- a filter may be asked about each of so many positions and links once, in any order: after it
--- answered other such questions
-pub record IsAskable {T : Type 0} (can_discover can_filter : T → ℕ → Type 0)
-    (answers : T → Question → Option (List ℕ) → T → Type 0) (nodes links : ℕ)
-    (first : T) : Type 0 where
+-- a filter may be asked as a search asks it: a question that isn't too early after the answers so
+-- far, and that wasn't asked yet
+pub record IsAskable {E T : Type 0} (can_discover can_filter : T → ℕ → Type 0)
+    (answers : T → Question → Option (List ℕ) → T → Type 0) (d : DependencyDirection)
+    (links : List (Link E)) (initials : List Bool) (first : T) : Type 0 where
   pub at_position : (earlier : List (Question × List ℕ)) (now : T) (p : ℕ)
-      → AskedOnce nodes links earlier → ¬ IsAsked earlier (discover p)
-      → Asks answers first earlier now → p < nodes → can_discover now p
+      → IsOrderly d links initials earlier → Asks answers first earlier now
+      → IsTimely d links initials earlier (discover p) → ¬ IsAsked earlier (discover p)
+      → can_discover now p
   pub at_link : (earlier : List (Question × List ℕ)) (now : T) (n : ℕ)
-      → AskedOnce nodes links earlier → ¬ IsAsked earlier (filter n)
-      → Asks answers first earlier now → n < links → can_filter now n
+      → IsOrderly d links initials earlier → Asks answers first earlier now
+      → IsTimely d links initials earlier (filter n) → ¬ IsAsked earlier (filter n)
+      → can_filter now n
 
 -- the last question was answered by an error; it and those before it are in order
 pub record EndsInError {E T : Type 0} (answers : T → Question → Option (List ℕ) → T → Type 0)

@@ -1,5 +1,5 @@
 -- What a resolve shows to a visitor, and which positions it includes.
-use Rattle.std.specs.Prelude.{◌≡◌, ◌⊎◌, ◌↔◌, ℕ, ◌<◌, Bool, true, List, ◌∷◌, ◌++◌, Some, slice_get, map}
+use Rattle.std.specs.Prelude.{◌≡◌, ◌⊎◌, ◌↔◌, ℕ, Bool, true, List, ◌∷◌, ◌++◌, Some, slice_get, map}
 use Rattle.std.specs.List.{Contains, FoldsTo, filter}
 use Rattle.guppy_search.specs.declared.ix.direction.DependencyDirection.{DependencyDirection}
 use Rattle.guppy_search.specs.declared.graph_core.link.Link.{Link}
@@ -34,6 +34,12 @@ IsIncluded {E} d links initials trace p =
     IsIn initials p ⊎ ((n : ℕ) × (l : Link E) × Contains trace (n, true)
     × (slice_get links n ≡ Some l) × (far_end d l ≡ p))
 
+-- each link is shown only after the end that it leaves was included
+abbrev pub ShownInTime : {E : Type 0} → DependencyDirection → List (Link E) → List Bool
+    → List (ℕ × Bool) → Type 0
+ShownInTime d links initials =
+    EachAfter (λ before entry. LeavesOne d links (IsIncluded d links initials before) entry.0)
+
 -- the trace and the set judge a resolve from the initial positions
 pub record JudgesResolve {E : Type 0} (d : DependencyDirection) (links : List (Link E))
     (initials : List Bool) (trace : List (ℕ × Bool)) (set : List Bool) : Type 0 where
@@ -44,8 +50,7 @@ pub record JudgesResolve {E : Type 0} (d : DependencyDirection) (links : List (L
   -- the set has the initial positions, those to which accepted links lead, and no other
   pub included : (p : ℕ) → IsIn set p ↔ IsIncluded d links initials trace p
   -- a link is shown only after the end that it leaves was included
-  pub led_to : EachAfter (λ before entry. LeavesOne d links
-      (IsIncluded d links initials before) entry.0) trace
+  pub led_to : ShownInTime d links initials trace
 
 -- each answer of the trace accepts
 abbrev pub AcceptsAll : List (ℕ × Bool) → Type 0
@@ -60,10 +65,12 @@ accepted_links trace =
 abbrev pub Visits : {V : Type 0} → (V → ℕ → Bool → V → Type 0) → V → List (ℕ × Bool) → V → Type 0
 Visits visits = FoldsTo (λ state entry next. visits state entry.0 entry.1 next)
 
--- a filter may be called with each number below the count once, in any order: after calls with
--- other such numbers
-pub record IsCallableBelow {F : Type 0} (may_call : F → ℕ → Type 0)
-    (calls : F → ℕ → Bool → F → Type 0) (count : ℕ) (filter : F) : Type 0 where
-  pub at : (earlier : List (ℕ × Bool)) (now : F) (n : ℕ) → ((m : ℕ) → IsShown earlier m → m < count)
-      → ShownOnce earlier → ¬ IsShown earlier n
-      → Visits calls filter earlier now → n < count → may_call now n
+-- a filter may be asked as a resolve asks it: about a link that leaves what the answers so far
+-- include, and that it wasn't asked about yet
+pub record IsCallable {E F : Type 0} (may_call : F → ℕ → Type 0)
+    (calls : F → ℕ → Bool → F → Type 0) (d : DependencyDirection) (links : List (Link E))
+    (initials : List Bool) (filter : F) : Type 0 where
+  pub at : (earlier : List (ℕ × Bool)) (now : F) (n : ℕ) → ShownOnce earlier
+      → ShownInTime d links initials earlier → Visits calls filter earlier now
+      → LeavesOne d links (IsIncluded d links initials earlier) n → ¬ IsShown earlier n
+      → may_call now n

@@ -4,7 +4,7 @@ use Rattle.std.specs.List.{Contains}
 use Rattle.guppy_search.specs.declared.ix.direction.DependencyDirection.{DependencyDirection}
 use Rattle.guppy_search.specs.declared.graph_core.link.Link.{Link}
 use Rattle.guppy_search.specs.IxSet.{IsIn, member_count}
-use Rattle.guppy_search.specs.Resolve.{EachAfter, IsShown, ShownOnce, LeavesOne, IsIncluded, Visits}
+use Rattle.guppy_search.specs.Resolve.{EachAfter, IsShown, ShownOnce, ShownInTime, LeavesOne, IsIncluded, Visits}
 
 -- each number is above those before it
 abbrev pub IsAscending : List ℕ → Type 0
@@ -34,8 +34,7 @@ pub record Searching {E : Type 0} (d : DependencyDirection) (links : List (Link 
     (initials : List Bool) (trace : List (ℕ × Bool)) (set : List Bool)
     (waiting left : List ℕ) : Type 0 where
   pub once : ShownOnce trace
-  pub led_to : EachAfter (λ before entry. LeavesOne d links
-      (IsIncluded d links initials before) entry.0) trace
+  pub led_to : ShownInTime d links initials trace
   pub included : (p : ℕ) → IsIn set p ↔ IsIncluded d links initials trace p
   pub shown : (n : ℕ) → IsShown trace n → LeavesOne d links (IsIn set) n
   pub due : (n : ℕ) → LeavesOne d links (IsIn set) n → IsShown trace n

@@ -2,7 +2,7 @@
 ghost use Rattle.std.specs.Prelude.{◌≡◌, ◌↔◌, ℕ, ◌<◌, Bool, List, length, IfOk, OnErr, IsOkUnless};
 ghost use Rattle.guppy_core.specs.IxSet.{IsIn};
 ghost use Rattle.guppy_core.specs.Reach.{LinkStep, ReachedFrom};
-ghost use Rattle.guppy_core.specs.Resolve.{JudgesResolve, AcceptsAll, Visits, IsCallableBelow};
+ghost use Rattle.guppy_core.specs.Resolve.{JudgesResolve, AcceptsAll, Visits, IsCallable};
 ghost use Rattle.guppy.specs.Visitors.{VisitsAt, MayVisitAt, CallsAt, MayCallAt};
 
 use crate::link::PackageLink;
@@ -160,15 +160,15 @@ impl<'g> PackageQuery<'g> {
         Ok(set)
     }
 
-    /// As [`resolve_with`](PackageQuery::resolve_with), with a closure in the visitor's place. It is
-    /// called with a context of this query and a link of its graph, and may be called with each such
-    /// link, also after calls with other links.
+    /// As [`resolve_with`](PackageQuery::resolve_with), with a closure in the visitor's place. It takes
+    /// what it is called with: a context of this query, and each link that leaves one of these packages,
+    /// once, after that package was included.
     pub fn resolve_with_fn<F: FnMut(&PackageLinkContext<'g>, PackageLink<'g>) -> bool>(
         self,
         mut ask: F,
     ) -> Result<PackageSet<'g>, Error>
-        requires callable { IsCallableBelow (MayCallAt F.pre self) (CallsAt F.step self)
-            (length self.graph.links) ask }
+        requires callable { IsCallable (MayCallAt F.pre self) (CallsAt F.step self)
+            self.direction self.graph.links self.initials ask }
         ensures graph { IfOk result (λ set. set.graph ≡ self.entry.graph) }
         ensures count { IfOk result (λ set. length set.included
             ≡ length self.entry.graph.packages) }
@@ -188,8 +188,8 @@ impl<'g> PackageQuery<'g> {
         self,
         ask: &mut F,
     ) -> Result<PackageSet<'g>, Error>
-        requires callable { IsCallableBelow (MayCallAt F.pre self) (CallsAt F.step self)
-            (length self.graph.links) ask.old }
+        requires callable { IsCallable (MayCallAt F.pre self) (CallsAt F.step self)
+            self.direction self.graph.links self.initials ask.old }
         ensures graph { IfOk result (λ set. set.graph ≡ self.entry.graph) }
         ensures count { IfOk result (λ set. length set.included
             ≡ length self.entry.graph.packages) }
@@ -216,8 +216,8 @@ fn resolve_by_number<'g, V: LinkVisitor>(
     context: &PackageLinkContext<'g>,
     visitor: &mut V,
 ) -> Result<PackageSet<'g>, Error>
-    requires ready { IsCallableBelow V.can_visit V.visits
-        (length context.now.graph.links) visitor.old }
+    requires ready { IsCallable V.can_visit V.visits
+        context.now.direction context.now.graph.links context.now.initials visitor.old }
     ensures graph { IfOk result (λ set. set.graph ≡ context.now.graph) }
     ensures count { IfOk result (λ set. length set.included ≡ length context.now.graph.packages) }
     ensures judged { IfOk result (λ set. (trace : List (ℕ × Bool))

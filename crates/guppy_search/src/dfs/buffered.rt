@@ -19,11 +19,10 @@ use std::alloc::AllocError;
 /// end in the direction, whatever its other end is, and may be handed back any number of times. An
 /// error that it answers ends the search at once.
 ///
-/// The initial ones are a set of the graph's positions, and the filter may be asked about each of the
-/// graph's positions and links, also after other questions. Time grows with the nodes, the links that
-/// leave the result, and the links handed back. Takes memory for the set and a number a node.
-/// `AllocError` comes where there is none, and where the filter answers it; what the filter is like
-/// then is told by [`reachable_buffered_mut`].
+/// The initial ones are a set of the graph's positions, and the filter takes each question that it is
+/// asked in this way. Time grows with the nodes, the links that leave the result, and the links handed
+/// back. Takes memory for the set and a number a node. `AllocError` comes where there is none, and
+/// where the filter answers it; what the filter is like then is told by [`reachable_buffered_mut`].
 pub fn reachable_buffered<G: GraphSpec, T: BufferedEdgeFilter<G> + Drop>(
     graph: &Graph<G>,
     initials: &IxSet<G>,
@@ -32,8 +31,8 @@ pub fn reachable_buffered<G: GraphSpec, T: BufferedEdgeFilter<G> + Drop>(
 ) -> Result<IxSet<G>, AllocError>
     requires count { length initials.now ≡ length graph.now.nodes }
     requires ready { IsAskable (T.can_discover graph.now) (T.can_filter graph.now)
-        (Answers (T.discovers graph.now) (T.filters graph.now)) (length graph.now.nodes)
-        (length graph.now.links) filter }
+        (Answers (T.discovers graph.now) (T.filters graph.now)) direction graph.now.links
+        initials.now filter }
     ensures count { IfOk result (λ set. length set ≡ length graph.now.nodes) }
     ensures judged { IfOk result (λ set. (trace : List (Question × List ℕ)) × (last : T)
         × JudgesBuffered direction graph.now.links initials.now trace set
@@ -55,8 +54,8 @@ pub fn reachable_buffered_mut<G: GraphSpec, T: BufferedEdgeFilter<G>>(
 ) -> Result<IxSet<G>, AllocError>
     requires count { length initials.now ≡ length graph.now.nodes }
     requires ready { IsAskable (T.can_discover graph.now) (T.can_filter graph.now)
-        (Answers (T.discovers graph.now) (T.filters graph.now)) (length graph.now.nodes)
-        (length graph.now.links) filter.old }
+        (Answers (T.discovers graph.now) (T.filters graph.now)) direction graph.now.links
+        initials.now filter.old }
     ensures count { IfOk result (λ set. length set ≡ length graph.now.nodes) }
     ensures judged { IfOk result (λ set. (trace : List (Question × List ℕ))
         × JudgesBuffered direction graph.now.links initials.now trace set
@@ -88,8 +87,8 @@ fn search<G: GraphSpec, T: BufferedEdgeFilter<G>>(
     requires graph { IsGraph graph.now }
     requires count { length set.old ≡ length graph.now.nodes }
     requires ready { IsAskable (T.can_discover graph.now) (T.can_filter graph.now)
-        (Answers (T.discovers graph.now) (T.filters graph.now)) (length graph.now.nodes)
-        (length graph.now.links) filter.old }
+        (Answers (T.discovers graph.now) (T.filters graph.now)) direction graph.now.links
+        set.old filter.old }
     requires waiting { waiting.old.items ≡ positions_in set.old }
     requires room { length graph.now.nodes ≤ vec_capacity waiting.old }
     ensures count { length set.new ≡ length graph.now.nodes }

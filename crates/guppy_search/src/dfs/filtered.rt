@@ -1,5 +1,5 @@
 ghost use Rattle.std.specs.Prelude.{◌≡◌, ℕ, Bool, List, length, IfOk, OnErr};
-ghost use Rattle.guppy_search.specs.Resolve.{JudgesResolve, Visits, IsCallableBelow};
+ghost use Rattle.guppy_search.specs.Resolve.{JudgesResolve, Visits, IsCallable};
 
 use crate::dfs::search::reachable_with;
 use crate::dfs::visitor::LinkVisitor;
@@ -31,10 +31,10 @@ impl<F: FnMut(usize) -> bool> LinkVisitor for Asking<'_, F> {
 /// ones among them. The filter is asked by number, exactly once for each link that leaves one of
 /// these positions, after that position was included, and for no other link.
 ///
-/// The initial ones are a set of the graph's positions, and the filter takes every link number, also
-/// after calls with other numbers. Time grows with the nodes and the links that leave the result.
-/// Takes memory for the set and a number a node, and fails only where there is none. What the filter
-/// is like then is told by [`reachable_with_fn`].
+/// The initial ones are a set of the graph's positions, and the filter takes each link that it is
+/// asked about in this way. Time grows with the nodes and the links that leave the result. Takes
+/// memory for the set and a number a node, and fails only where there is none. What the filter is
+/// like then is told by [`reachable_with_fn`].
 pub fn reachable_filtered<G: GraphSpec, F: FnMut(usize) -> bool>(
     graph: &Graph<G>,
     initials: &IxSet<G>,
@@ -42,7 +42,7 @@ pub fn reachable_filtered<G: GraphSpec, F: FnMut(usize) -> bool>(
     mut filter: F,
 ) -> Result<IxSet<G>, AllocError>
     requires count { length initials.now ≡ length graph.now.nodes }
-    requires callable { IsCallableBelow F.pre F.step (length graph.now.links) filter }
+    requires callable { IsCallable F.pre F.step direction graph.now.links initials.now filter }
     ensures count { IfOk result (λ set. length set ≡ length graph.now.nodes) }
     ensures judged { IfOk result (λ set. (trace : List (ℕ × Bool)) × (last : F)
         × JudgesResolve direction graph.now.links initials.now trace set
@@ -61,7 +61,7 @@ pub fn reachable_with_fn<G: GraphSpec, F: FnMut(usize) -> bool>(
     filter: &mut F,
 ) -> Result<IxSet<G>, AllocError>
     requires count { length initials.now ≡ length graph.now.nodes }
-    requires callable { IsCallableBelow F.pre F.step (length graph.now.links) filter.old }
+    requires callable { IsCallable F.pre F.step direction graph.now.links initials.now filter.old }
     ensures count { IfOk result (λ set. length set ≡ length graph.now.nodes) }
     ensures judged { IfOk result (λ set. (trace : List (ℕ × Bool))
         × JudgesResolve direction graph.now.links initials.now trace set

@@ -1,5 +1,5 @@
 ghost use Rattle.std.specs.Prelude.{◌≡◌, ℕ, ◌<◌, ◌≤◌, [], length, IfOk, vec_capacity};
-ghost use Rattle.guppy_search.specs.Resolve.{JudgesResolve, Visits, IsCallableBelow};
+ghost use Rattle.guppy_search.specs.Resolve.{JudgesResolve, Visits, IsCallable};
 
 use crate::dfs::search::reachable_with;
 use crate::dfs::visitor::LinkVisitor;
@@ -66,7 +66,7 @@ pub fn reachable_recorded<G: GraphSpec, V: LinkVisitor + Drop>(
     visitor: V,
 ) -> Result<(IxSet<G>, Recorder<V>), AllocError>
     requires count { length initials.now ≡ length graph.now.nodes }
-    requires ready { IsCallableBelow V.can_visit V.visits (length graph.now.links) visitor }
+    requires ready { IsCallable V.can_visit V.visits direction graph.now.links initials.now visitor }
     ensures count { IfOk result (λ r. length r.0 ≡ length graph.now.nodes) }
     ensures judged { IfOk result
         (λ r. JudgesResolve direction graph.now.links initials.now r.1.entries.items r.0) }

@@ -2,7 +2,7 @@ ghost use Rattle.std.specs.Prelude.{◌≡◌, ◌⊎◌, ℕ, ◌+◌, ◌<◌,
 ghost use Rattle.guppy_search.specs.IxSet.{IsIn, member_count};
 ghost use Rattle.guppy_search.specs.Links.{links_at};
 ghost use Rattle.guppy_search.specs.Reach.{IsPlainResolve};
-ghost use Rattle.guppy_search.specs.Resolve.{JudgesResolve, AcceptsAll, Visits, IsCallableBelow};
+ghost use Rattle.guppy_search.specs.Resolve.{JudgesResolve, AcceptsAll, Visits, IsCallable};
 ghost use Rattle.guppy_search.specs.Searching.{Seeded, Shows, MayGoOn};
 
 use crate::dfs::visitor::{AcceptAll, LinkVisitor};
@@ -45,7 +45,7 @@ pub fn reachable_with<G: GraphSpec, V: LinkVisitor>(
     visitor: &mut V,
 ) -> Result<IxSet<G>, AllocError>
     requires count { length initials.now ≡ length graph.now.nodes }
-    requires ready { IsCallableBelow V.can_visit V.visits (length graph.now.links) visitor.old }
+    requires ready { IsCallable V.can_visit V.visits direction graph.now.links initials.now visitor.old }
     ensures count { IfOk result (λ set. length set ≡ length graph.now.nodes) }
     ensures judged { IfOk result (λ set. (trace : List (ℕ × Bool))
         × JudgesResolve direction graph.now.links initials.now trace set
@@ -70,7 +70,7 @@ pub(crate) fn search<G: GraphSpec, V: LinkVisitor>(
     visitor: &mut V,
 )
     requires count { length initials.now ≡ length graph.now.nodes }
-    requires ready { IsCallableBelow V.can_visit V.visits (length graph.now.links) visitor.old }
+    requires ready { IsCallable V.can_visit V.visits direction graph.now.links initials.now visitor.old }
     requires set { set.old ≡ replicate (length graph.now.nodes) false }
     requires waiting { waiting.old.items ≡ [] }
     requires room { length graph.now.nodes ≤ vec_capacity waiting.old }

@@ -16,9 +16,6 @@ pub trait IndexType: Copy {
     fn index(self) -> usize
         ensures position { result ≡ index_of self }
         ensures small { index_of self < 2 ^ 32 };
-
-    // A position has one index.
-    ghost one_index: { (a b : Self) → index_of a ≡ index_of b → a ≡ b };
 }
 
 /// The position of a package. It prints its number.
@@ -26,9 +23,6 @@ pub trait IndexType: Copy {
 pub struct PackageIx(u32);
 
 impl IndexType for PackageIx {
-    ghost use Rattle.std.proofs.Common.{ap};
-    ghost use Rattle.guppy_search.specs.declared.ix.index_type.PackageIx.{PackageIx};
-
     ghost index_of = { λ a. a.0 };
 
     fn new(position: usize) -> Self {
@@ -38,9 +32,6 @@ impl IndexType for PackageIx {
     fn index(self) -> usize {
         self.0 as usize
     }
-
-    ghost one_index = { λ a b same. ap
-        (λ (n : ℕ). let p : PackageIx = record { 0 = n } in p) same };
 }
 
 impl fmt::Display for PackageIx {

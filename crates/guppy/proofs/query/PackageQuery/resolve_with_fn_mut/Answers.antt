@@ -1,10 +1,10 @@
 use Rattle.std.proofs.Common.{◌≡◌, ◌∙◌, refl, ap, rules}
-use Rattle.guppy.proofs.Visiting.{FoldsTo-along_kept, IsCallableBelow-along_kept, ends_at}
+use Rattle.guppy.proofs.Visiting.{FoldsTo-along_kept, IsCallable-along_kept, ends_at}
 use Rattle.guppy.proofs.query.PackageQuery.resolve_with_fn_mut.Goals as goal
 
 pub resolve_by_number-requires : goal.resolve_by_number-requires
 resolve_by_number-requires g c = record {
-  ready = IsCallableBelow-along_kept (λ a. a.ask.now) (λ a. a.context.now ≡ c.args.self) _ _ _ _ _
+  ready = IsCallable-along_kept (λ a. a.ask.now) (λ a. a.context.now ≡ c.args.self) _ _ _ _ _ _ _
       (λ a n i below h. rw i (below, h)) (λ a e b i k. (rw i at k.0, ap (λ z. z.now) k.1 ∙ i)) _ refl c.requires.callable;
 }
 

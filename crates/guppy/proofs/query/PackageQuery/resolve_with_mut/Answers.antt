@@ -1,11 +1,11 @@
 use Rattle.std.proofs.Common.{◌≡◌, ◌∙◌, refl, ap, rules}
 use Rattle.guppy.specs.Visitors.{VisitsAt}
-use Rattle.guppy.proofs.Visiting.{FoldsTo-along_kept, IsCallableBelow-others, ends_at}
+use Rattle.guppy.proofs.Visiting.{FoldsTo-along_kept, IsCallable-others, ends_at}
 use Rattle.guppy.proofs.query.PackageQuery.resolve_with_mut.Goals as goal
 
 pub resolve_by_number-requires : goal.resolve_by_number-requires
 resolve_by_number-requires g c = record {
-  ready = IsCallableBelow-others _ _ (λ a n b t k m other h. rw k.1 (h.0, k.2 m other h.1)) _ _ (λ n below. (below, c.requires.ready n below));
+  ready = IsCallable-others _ _ (λ a n b t k m other h. rw k.1 (h.0, k.2 m other h.1)) _ _ _ _ (λ n below. (below, c.requires.ready n below));
 }
 
 pub returns-clause-judged : goal.returns-clause-judged

@@ -6,7 +6,7 @@ use Rattle.guppy_search.proofs.Exits.{on_err}
 use Rattle.guppy_search.proofs.Lists.{no_items, FoldsTo-append}
 use Rattle.guppy_search.proofs.Members.{member_count-le-length}
 use Rattle.guppy_search.proofs.Searching.{taken_below, taken_room}
-use Rattle.guppy_search.proofs.Buffering.{Buffering-begin, Buffering-followed, Buffering-discover_error, Buffering-end, Buffering-asked, MayAskOn-along}
+use Rattle.guppy_search.proofs.Buffering.{Buffering-begin, Buffering-followed, Buffering-discover_error, Buffering-end, MayAskOn-along}
 use Rattle.guppy_search.proofs.dfs.buffered.search.Goals as goal
 
 pub positions-init : goal.positions-init
@@ -32,22 +32,17 @@ discover-requires-clause-node g c =
 
 pub discover-requires-clause-ready : goal.discover-requires-clause-ready
 discover-requires-clause-ready g c =
-    let s = c.positions.invariant in
-    let b = rw c.in-Some.ensures.items at s.searched.1 in
-    let ends = rw (← c.requires.count) at c.requires.graph.ends in
-    let below = taken_below _ _ _ _ s.searched.1.waits c.in-Some.ensures.items in
-    let all = Buffering-asked c.args.direction c.args.graph.now.links c.args.set.now ends s.searched.0 c.positions.set c.positions.waiting.items [] s.searched.1 in
-    let asked = rw c.requires.count at all in
-    rw c.new.ensures (c.requires.ready.at_position s.searched.0 _ c.in-Some.position asked (b.undiscovered _ (Contains-push _ _)) s.searched.2 (rw (← s.size) below))
+    let s = c.positions.invariant.searched in
+    let b = rw c.in-Some.ensures.items at s.1 in
+    let waited = Contains-push c.pop.new.self.items c.in-Some.position in
+    rw c.new.ensures (c.requires.ready.at_position s.0 _ c.in-Some.position b.orderly s.2 ((b.included _).0 (b.waits.in_set _ waited)) (b.undiscovered _ waited))
 
 pub ask_links-requires-clause-ready : goal.ask_links-requires-clause-ready
 ask_links-requires-clause-ready g c =
     let s = c.positions.invariant in
     let k = c.follow_all.ensures.added in
     let answered = rw c.new.ensures at c.in_ok-handed.ensures.discovers in
-    let ends = rw (← c.requires.count) at c.requires.graph.ends in
-    let ready = rw (← c.requires.count) at c.requires.ready in
-    MayAskOn-along _ _ _ ends _ _ _ (s.searched.0 ++ (discover c.in-Some.position, c.in_ok-handed.handed.items) ∷ []) _ _ _ _ _ ready
+    MayAskOn-along _ _ _ _ _ _ (s.searched.0 ++ (discover c.in-Some.position, c.in_ok-handed.handed.items) ∷ []) _ _ _ _ _ c.requires.ready
     (Buffering-followed _ _ _ s.searched.0 _ _ _ _ k.2 _ _ _ c.in-Some.position c.in-Some.ensures.items k.1 c.follow_all.ensures.balance s.searched.1)
     (FoldsTo-push _ _ s.searched.0 _ (discover c.in-Some.position, c.in_ok-handed.handed.items) _ s.searched.2 answered)
 

@@ -1,7 +1,7 @@
 use Rattle.std.proofs.Common.{◌≡◌, ℕ, Bool, List, rules}
 use Rattle.guppy_search.proofs.Exits.{if_ok}
 use Rattle.guppy_search.specs.Resolve.{Visits}
-use Rattle.guppy_search.proofs.Traces.{FoldsTo-along, IsCallableBelow-along}
+use Rattle.guppy_search.proofs.Traces.{FoldsTo-along, IsCallable-along}
 use Rattle.guppy_search.proofs.dfs.filtered.reachable_with_fn.Goals as goal
 
 -- the state at the end, under another name
@@ -9,7 +9,7 @@ ends_at : {V : Type 0} (visits : V → ℕ → Bool → V → Type 0) (s : V) (t
 ends_at visits s trace t u h e = rw e h
 
 pub reachable_with-requires-clause-ready : goal.reachable_with-requires-clause-ready
-reachable_with-requires-clause-ready g c = IsCallableBelow-along _ _ _ _ (λ a. a.filter.now) _ _ (λ a n h. h) (λ a n b t k. k) c.requires.callable
+reachable_with-requires-clause-ready g c = IsCallable-along _ _ _ _ _ _ (λ a. a.filter.now) _ _ (λ a n h. h) (λ a n b t k. k) c.requires.callable
 
 pub returns-clause-judged : goal.returns-clause-judged
 returns-clause-judged g c =

@@ -1,10 +1,10 @@
 use Rattle.std.proofs.Common.{◌≤◌, length, arith, vec_capacity}
 use Rattle.guppy_search.proofs.Exits.{if_ok}
-use Rattle.guppy_search.proofs.Traces.{FoldsTo-along, IsCallableBelow-along, length-judged, trace_kept}
+use Rattle.guppy_search.proofs.Traces.{FoldsTo-along, IsCallable-along, length-judged, trace_kept}
 use Rattle.guppy_search.proofs.dfs.recorder.reachable_recorded.Goals as goal
 
 pub reachable_with-requires-clause-ready : goal.reachable_with-requires-clause-ready
-reachable_with-requires-clause-ready g c = IsCallableBelow-along _ _ _ _ (λ r. r.visitor) _ _ (λ r n h. h) (λ r n b t k. k.0) (rw (← c.in_ok-recorder.ensures.visitor) at c.requires.ready)
+reachable_with-requires-clause-ready g c = IsCallable-along _ _ _ _ _ _ (λ r. r.visitor) _ _ (λ r n h. h) (λ r n b t k. k.0) (rw (← c.in_ok-recorder.ensures.visitor) at c.requires.ready)
 
 pub returns : goal.returns
 returns g c =

@@ -4,12 +4,12 @@ use Rattle.std.proofs.lemmas.List.Elements.{All-contains}
 use Rattle.guppy_search.specs.declared.graph_core.link.Link.{Link}
 use Rattle.guppy_search.specs.Walked.{IsInside}
 use Rattle.guppy_search.proofs.Reached.{AnswersBy}
-use Rattle.guppy_search.proofs.Traces.{each_answer, IsCallableBelow-same}
+use Rattle.guppy_search.proofs.Traces.{each_answer, IsCallable-same}
 use Rattle.guppy_search.proofs.Walking.{accepted_are_walked}
 use Rattle.guppy_search.proofs.walk.inside.walked_numbers.Goals as goal
 
 pub reachable_recorded-requires-clause-ready : goal.reachable_recorded-requires-clause-ready
-reachable_recorded-requires-clause-ready g c = IsCallableBelow-same _ _ _ _ (λ v n b t k. k.0) (λ n h. (h, c.requires.set))
+reachable_recorded-requires-clause-ready g c = IsCallable-same _ _ _ _ _ _ (λ v n b t k. k.0) (λ n h. (h, c.requires.set))
 
 pub returns : goal.returns
 returns g c =
