@@ -1,12 +1,11 @@
 -- Each step of a search with a buffered filter.
-use Rattle.std.proofs.Common.{◌≡◌, ◌⊎◌, ◌↔◌, ℕ, suc, ◌+◌, ◌<◌, Bool, inl, inr, List, [], ◌∷◌, ◌++◌, length, sym, ap, subst, append_assoc, arith}
-use Rattle.std.specs.Prelude.{Contains, All, Option, None, ◌==◌}
+use Rattle.std.proofs.Common.{◌≡◌, ◌⊎◌, ◌↔◌, ℕ, suc, ◌+◌, Bool, inl, inr, List, [], ◌∷◌, ◌++◌, length, sym, ap, subst, append_assoc, arith}
+use Rattle.std.specs.Prelude.{Contains, Option, None, ◌==◌}
 use Rattle.std.proofs.lemmas.List.{append-nil}
-use Rattle.std.proofs.lemmas.Option.{slice_get_within}
 use Rattle.std.proofs.lemmas.List.Elements.{Contains-push, Contains-append_left, Contains-append_right, Contains-append_cases, Contains-push_cases}
 use Rattle.guppy_search.specs.declared.ix.direction.DependencyDirection.{DependencyDirection}
 use Rattle.guppy_search.specs.declared.graph_core.link.Link.{Link}
-use Rattle.guppy_search.specs.Links.{near_end, links_at, EndsBelow, IsLedTo}
+use Rattle.guppy_search.specs.Links.{near_end, links_at, IsLedTo}
 use Rattle.guppy_search.specs.IxSet.{IsIn, member_count, positions_in}
 use Rattle.guppy_search.specs.Resolve.{LeavesOne}
 use Rattle.guppy_search.specs.Buffered.{Question, IsAsked, IsFound, IsTimely, IsOrderly, IsAskable, JudgesBuffered, Asks, EndsInError, Adds}
@@ -16,8 +15,7 @@ use Rattle.guppy_search.proofs.Lists.{nothing_in, Contains-first, Contains-later
 use Rattle.guppy_search.proofs.Positions.{positions_from-have}
 use Rattle.guppy_search.proofs.Numbers.{numbers_ascend}
 use Rattle.guppy_search.proofs.Rows.{row_has}
-use Rattle.guppy_search.proofs.Members.{IsIn-below}
-use Rattle.guppy_search.proofs.Searching.{Waits-pop, first_once, row_leaves, LeavesOne-both, far_end_below}
+use Rattle.guppy_search.proofs.Searching.{Waits-pop, first_once, row_leaves, LeavesOne-both}
 use Rattle.guppy_search.proofs.Following.{Waits-adds, Waits-all}
 
 module _ {E : Type 0} (d : DependencyDirection) (links : List (Link E)) (initials : List Bool) where
