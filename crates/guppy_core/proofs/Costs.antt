@@ -1,14 +1,16 @@
 -- What positions cost, and what a search still costs.
-use Rattle.std.proofs.Common.{◌≡◌, ℕ, suc, zero, ◌+◌, ◌<◌, ◌≤◌, Bool, true, false, cond, List, [], ◌∷◌, ◌++◌, length, replicate, refl, ap, arith, ⊎_elim}
+use Rattle.std.proofs.Common.{◌≡◌, ℕ, suc, zero, ◌+◌, ◌<◌, ◌≤◌, Bool, true, false, cond, List, [], ◌∷◌, ◌++◌, length, replicate, refl, ap, arith, ⊎_elim, Some}
 use Rattle.std.proofs.Math.ListN.{set}
-use Rattle.std.specs.Prelude.{◌==◌}
-use Rattle.std.proofs.lemmas.Bool.{eqb-true}
+use Rattle.std.specs.Prelude.{◌==◌, ◌↔◌, slice_get, All}
+use Rattle.std.proofs.lemmas.Bool.{eqb-true, eqb-false, cases_lt}
 use Rattle.guppy_search.specs.declared.ix.direction.DependencyDirection.{DependencyDirection}
 use Rattle.guppy_search.specs.declared.graph_core.link.Link.{Link}
-use Rattle.guppy_search.specs.Links.{near_end, numbers_where, links_at}
+use Rattle.guppy_search.specs.declared.ix.direction.DependencyDirection.TheVariants.{Forward, Reverse}
+use Rattle.guppy_search.specs.Links.{near_end, numbers_where, links_at, EndsBelow}
 use Rattle.guppy_search.specs.IxSet.{has}
+use Rattle.guppy_search.proofs.Searching.{far_end_below}
 use Rattle.guppy_core.specs.Mark.{Marks}
-use Rattle.guppy_core.specs.Cost.{missing_cost}
+use Rattle.guppy_core.specs.Cost.{missing_cost, AreLookedAt}
 
 module _ (cost : ℕ → ℕ) where
   -- what the positions of a list cost
@@ -50,6 +52,12 @@ module _ (cost : ℕ → ℕ) where
   cost_from i zero = 0
   cost_from i (suc n) = cost i + cost_from (i + 1) n
 
+  -- no position is missing from a set of all
+  pub none_missing : (i : ℕ) (s : List Bool) → ((p : ℕ) → p < length s → has s p ≡ true) → missing_cost cost i s ≡ 0
+  none_missing i [] all = refl
+  none_missing i (true ∷ s) all = none_missing (i + 1) s (λ p h. all (suc p) (omega arith))
+  none_missing i (false ∷ s) all = absurd (let a = all zero (omega arith) in cc)
+
   pub missing_cost-replicate : (i n : ℕ) → missing_cost cost i (replicate n false) ≡ cost_from i n
   missing_cost-replicate i zero = refl
   missing_cost-replicate i (suc n) = ap (λ m. cost i + m) (missing_cost-replicate (i + 1) n)
@@ -57,7 +65,7 @@ module _ (cost : ℕ → ℕ) where
 abbrev one_at : ℕ → ℕ → ℕ
 one_at x p = cond (x == p) 1 0
 
--- one position is x at most
+-- one position is x
 one_at_past : (x i n : ℕ) → x < i → cost_from (one_at x) i n ≡ 0
 one_at_past x i zero h = refl
 one_at_past x i (suc n) h =
@@ -66,12 +74,15 @@ one_at_past x i (suc n) h =
       | false ↦ λ e. let h' : x < i + 1 = omega arith in omega (arith, one_at_past x (i + 1) n h')
     ] refl
 
-one_at_most : (x i n : ℕ) → cost_from (one_at x) i n ≤ 1
-one_at_most x i zero = omega arith
-one_at_most x i (suc n) =
-    elim (x == i) as (λ b. (x == i) ≡ b → cond b 1 0 + cost_from (one_at x) (i + 1) n ≤ 1) [
+one_at_once : (x i n : ℕ) → i ≤ x → x < i + n → cost_from (one_at x) i n ≡ 1
+one_at_once x i zero h k = absurd (omega arith)
+one_at_once x i (suc n) h k =
+    elim (x == i) as (λ b. (x == i) ≡ b → cond b 1 0 + cost_from (one_at x) (i + 1) n ≡ 1) [
       | true ↦ λ e. let s = eqb-true x i e in let h' : x < i + 1 = omega arith in omega (arith, one_at_past x (i + 1) n h')
-      | false ↦ λ e. omega (arith, one_at_most x (i + 1) n)
+      | false ↦ λ e.
+          let h' : i + 1 ≤ x = ⊎_elim (λ less. omega arith) (λ ge. absurd (eqb-false x i e (omega arith))) (cases_lt i x) in
+          let k' : x < i + 1 + n = omega arith in
+          omega (arith, one_at_once x (i + 1) n h' k')
     ] refl
 
 module _ {A : Type 0} (key : A → ℕ) where
@@ -91,14 +102,18 @@ module _ {A : Type 0} (key : A → ℕ) where
   split f h k e i zero = omega arith
   split f h k e i (suc n) = let a = e i in omega (arith, split f h k e (i + 1) n)
 
-  -- the tallies are as many as the elements at most
-  pub tallies : (xs : List A) (i n : ℕ) → cost_from (tally xs) i n ≤ length xs
-  tallies [] i zero = omega arith
-  tallies [] i (suc n) = let r = tallies [] (i + 1) n in omega arith
-  tallies (x ∷ xs) i n =
-      let s = split (tally (x ∷ xs)) (one_at (key x)) (tally xs) (λ p. refl) i n in
-      let a = one_at_most (key x) i n in
-      let b = tallies xs i n in
+  no_tally : (i n : ℕ) → cost_from (tally []) i n ≡ 0
+  no_tally i zero = refl
+  no_tally i (suc n) = omega (arith, no_tally (i + 1) n)
+
+  -- where all keys are below n, the tallies are as many as the elements
+  pub tallies : (xs : List A) (n : ℕ) → ((k : ℕ) (x : A) → slice_get xs k ≡ Some x → key x < n) → cost_from (tally xs) 0 n ≡ length xs
+  tallies [] n below = no_tally 0 n
+  tallies (x ∷ xs) n below =
+      let s = split (tally (x ∷ xs)) (one_at (key x)) (tally xs) (λ p. refl) 0 n in
+      let low = below zero x refl in
+      let a = one_at_once (key x) 0 n (omega arith) (omega arith) in
+      let b = tallies xs n (λ k y e. below (suc k) y e) in
       omega arith
 
   same_cost : (f h : ℕ → ℕ) → ((p : ℕ) → f p ≡ h p) → (i n : ℕ) → cost_from f i n ≡ cost_from h i n
@@ -109,13 +124,20 @@ module _ {A : Type 0} (key : A → ℕ) where
 abbrev pub degree : {E : Type 0} → DependencyDirection → List (Link E) → ℕ → ℕ
 degree d links p = length (links_at d links p)
 
--- at first no more is owed than there are links
-pub owed_first : {E : Type 0} (d : DependencyDirection) (links : List (Link E)) (n : ℕ) → owed (degree d links) (replicate n false) [] ≤ length links
-owed_first {E} d links n =
+-- each link leaves a position
+near_end_below : {E : Type 0} (d : DependencyDirection) (links : List (Link E)) (n : ℕ) → All (EndsBelow n) links → (k : ℕ) (l : Link E) → slice_get links k ≡ Some l → near_end d l < n
+near_end_below {E} d links n ends k l found = elim d as (λ z. near_end z l < n) [
+  | Forward ↦ far_end_below Reverse links n k l found ends
+  | Reverse ↦ far_end_below Forward links n k l found ends
+]
+
+-- at first each link is owed
+pub owed_first : {E : Type 0} (d : DependencyDirection) (links : List (Link E)) (n : ℕ) → All (EndsBelow n) links → owed (degree d links) (replicate n false) [] ≡ length links
+owed_first {E} d links n ends =
     let key : Link E → ℕ = λ l. near_end d l in
     let a = missing_cost-replicate (degree d links) 0 n in
     let b = same_cost key (degree d links) (tally key links) (λ p. length-numbers_where key 0 links p) 0 n in
-    let c = tallies key links 0 n in
+    let c = tallies key links n (near_end_below d links n ends) in
     omega arith
 
 -- a pop takes a position's cost off
@@ -123,14 +145,33 @@ pub owed-pop : (cost : ℕ → ℕ) (seen : List Bool) (stack stack' : List ℕ)
 owed-pop cost seen stack stack' x e = rw e (let p = cost_of-push cost stack' x in omega arith)
 
 -- the sums, in a loop over the row of a popped position
-pub row_paid : (looks k before popped deg owing looked limit : ℕ) → before ≡ popped + deg → looks + before ≤ limit → owing ≤ popped → looked ≡ looks + k → k ≤ deg → looked + owing ≤ limit
-row_paid looks k before popped deg owing looked limit a b c d e = omega arith
+pub row_paid : (looks k before popped deg owing looked limit : ℕ) → before ≡ popped + deg → looks + before ≡ limit → owing ≡ popped → looked ≡ looks + k → k ≤ deg → deg ≤ k → looked + owing ≡ limit
+row_paid looks k before popped deg owing looked limit a b c d e f = omega arith
 
-pub row_room : (looks k before popped deg owing looked limit : ℕ) → before ≡ popped + deg → looks + before ≤ limit → owing ≤ popped → looked ≡ looks + k → k < deg → looked + 1 ≤ limit
+pub row_room : (looks k before popped deg owing looked limit : ℕ) → before ≡ popped + deg → looks + before ≡ limit → owing ≡ popped → looked ≡ looks + k → k < deg → looked + 1 ≤ limit
 row_room looks k before popped deg owing looked limit a b c d e = omega arith
 
 pub fits_below : (a b : ℕ) → a ≤ b → b < 18446744073709551616 → a < 18446744073709551616
 fits_below a b h k = omega arith
 
+pub fits_same : (a b : ℕ) → a ≡ b → b < 18446744073709551616 → a < 18446744073709551616
+fits_same a b h k = omega arith
+
 pub one_more : (a b : ℕ) → (a + b) + 1 ≡ a + (b + 1)
 one_more a b = omega arith
+
+-- the same positions by another name
+pub looked_same : {E : Type 0} (d : DependencyDirection) (links : List (Link E)) (n : ℕ) (P Q : ℕ → Type 0) (looks looks' : ℕ) → ((p : ℕ) → P p ↔ Q p) → AreLookedAt d links n P looks looks' → AreLookedAt d links n Q looks looks'
+looked_same d links n P Q looks looks' same l = record {
+  set = l.set;
+  count = l.count;
+  members = λ p. (λ i. (same p).0 ((l.members p).0 i), λ q. (l.members p).1 ((same p).1 q));
+  looked = l.looked;
+}
+
+-- all positions are among them: each link was looked at
+pub looked_all : {E : Type 0} (d : DependencyDirection) (links : List (Link E)) (n : ℕ) (P : ℕ → Type 0) (looks looks' : ℕ) → ((p : ℕ) → p < n → P p) → AreLookedAt d links n P looks looks' → looks' ≡ looks + length links
+looked_all d links n P looks looks' all l =
+    let none = none_missing (degree d links) 0 l.set (λ p h. (l.members p).1 (all p (let c = l.count in omega arith))) in
+    let k = l.looked in
+    omega arith

@@ -13,15 +13,16 @@ use Rattle.guppy_search.specs.Reach.{Step}
 use Rattle.guppy_search.proofs.Rows.{row_links, row_has}
 use Rattle.guppy_search.specs.IxSet.{has}
 use Rattle.guppy_core.specs.Finish.{IsFinishList}
+use Rattle.guppy_core.specs.Listing.{Stands}
 use Rattle.guppy_core.specs.Noted.{note, AreNoted}
 use Rattle.guppy_core.specs.declared.topo.finish.Frame.{Frame}
 use Rattle.guppy_core.proofs.Inserted.{has-set_kept}
 use Rattle.guppy_search.proofs.Members.{IsIn-below, has-replicate}
 use Rattle.guppy_search.proofs.Searching.{far_end_below}
 use Rattle.std.proofs.lemmas.Option.{slice_get-get_or}
-use Rattle.guppy_core.specs.Cost.{missing_cost}
+use Rattle.guppy_core.specs.Cost.{missing_cost, AreLookedAt}
 use Rattle.guppy_core.proofs.Costs.{owed_first, degree}
-use Rattle.guppy_core.proofs.Heights.{none_seen, finished_all}
+use Rattle.guppy_core.proofs.Heights.{none_seen, all_placed, finished_all}
 use Rattle.guppy_core.proofs.Frames.{at_place, left, left_done, left_step, left_new, Searches, top_below, skipped, taken_old, taken_new, finished, begun}
 
 -- the link at place k of those at x is kept, and leads to y
@@ -93,11 +94,11 @@ looked_noted {N} {E} d keep graph now same notes noted x k n y e b within number
 pub looked_below : {N E : Type 0} (d : DependencyDirection) (keep : E → Bool) (graph : GraphValue N E) → IsGraph graph → (x k y : ℕ) (b : Bool) → Looked d keep graph.links x k y b → y < length graph.nodes
 looked_below d keep graph g x k y b l = subst (λ z. z < length graph.nodes) l.far (far_end_below d graph.links (length graph.nodes) (get_or (links_at d graph.links x) k 0) l.link l.found g.ends)
 
--- a search whose first i starts were seen, and which may look bound times in all
+-- a search whose first i starts were seen, and which would look bound times if it came to all links
 pub record Finishing {N E : Type 0} (d : DependencyDirection) (keep : E → Bool) (graph : GraphValue N E) (starts : List ℕ) (i bound looks : ℕ) (seen : List Bool) (frames : List Frame) (order : List ℕ) : Type 0 where
   pub state : Searches (Step d keep graph.links) (Contains starts) (LinkTo d keep graph.links) (length graph.nodes) seen frames order
   pub begun : (k : ℕ) → k < i → has seen (get_or starts k 0) ≡ true
-  pub paid : looks + left 0 (degree d graph.links) seen frames ≤ bound
+  pub paid : looks + left 0 (degree d graph.links) seen frames ≡ bound
 
 set_in : (s : List Bool) (p : ℕ) → has s p ≡ true → set s p true ≡ s
 set_in s p h = subst (λ b. set s p b ≡ s) h (set-get_or s p false)
@@ -108,8 +109,8 @@ no_more cost i (true ∷ s) = no_more cost (i + 1) s
 no_more cost i (false ∷ s) = let r = no_more cost (i + 1) s in omega arith
 
 module _ {N E : Type 0} (d : DependencyDirection) (keep : E → Bool) (graph : GraphValue N E) (starts : List ℕ) where
-  pub finishing_first : (n looks : ℕ) → n ≡ length graph.nodes → Finishing d keep graph starts 0 (looks + length graph.links) looks (replicate n false) [] []
-  finishing_first n looks e = record {
+  pub finishing_first : (n looks : ℕ) → n ≡ length graph.nodes → IsGraph graph → Finishing d keep graph starts 0 (looks + length graph.links) looks (replicate n false) [] []
+  finishing_first n looks e g = record {
     state = record {
       height = λ _. 0;
       limit_is = length-replicate n false ∙ e;
@@ -118,7 +119,7 @@ module _ {N E : Type 0} (d : DependencyDirection) (keep : E → Bool) (graph : G
       ahead = All-nil _;
     };
     begun = λ k h. absurd (omega arith);
-    paid = let a = no_more (degree d graph.links) 0 (replicate n false) in let b = owed_first d graph.links n in omega arith;
+    paid = let a = no_more (degree d graph.links) 0 (replicate n false) in let b = owed_first d graph.links n (rw e g.ends) in omega arith;
   }
 
   module _ (i bound looks : ℕ) (seen : List Bool) (order : List ℕ) where
@@ -161,7 +162,7 @@ module _ {N E : Type 0} (d : DependencyDirection) (keep : E → Bool) (graph : G
       }
 
       module _ (v : ℕ) (b : Bool) (l : Looked d keep graph.links f.position f.next v b) where
-        mid_paid : (looks + 1) + left 0 (degree d graph.links) seen (front ++ at_place f.position (f.next + 1) ∷ []) ≤ bound
+        mid_paid : (looks + 1) + left 0 (degree d graph.links) seen (front ++ at_place f.position (f.next + 1) ∷ []) ≡ bound
         mid_paid = let a = left_step 0 (degree d graph.links) seen front f l.within in let p = s.paid in omega arith
 
         pub link_skipped : b ≡ false → Finishing d keep graph starts i bound (looks + 1) seen (front ++ at_place f.position (f.next + 1) ∷ []) order
@@ -194,6 +195,18 @@ module _ {N E : Type 0} (d : DependencyDirection) (keep : E → Bool) (graph : G
         let a = IsIn-below seen (get_or order k e) t in
         let b = s.state.limit_is in
         omega arith
+
+    -- no frame is left, so each link that leaves one of the order was looked at, and no other
+    pub finishing_looked : (first : ℕ) → bound ≡ first + length graph.links → Finishing d keep graph starts i bound looks seen [] order → AreLookedAt d graph.links (length graph.nodes) (Stands order) first looks
+    finishing_looked first is s = record {
+      set = seen;
+      count = s.state.limit_is;
+      members = λ p. (
+        all_placed (Step d keep graph.links) (Contains starts) seen order s.state.height s.state.heights p,
+        λ t. s.state.heights.order_seen p t,
+      );
+      looked = let a = no_more (degree d graph.links) 0 seen in let b = s.paid in omega arith;
+    }
 
     -- all starts were seen, and no frame is left
     pub finishing_all : Finishing d keep graph starts i bound looks seen [] order → length starts ≤ i → IsFinishList (Step d keep graph.links) (Contains starts) order

@@ -330,7 +330,7 @@ none_seen R IsStart seen none =
     }
 
 module _ (R : ℕ → ℕ → Type 0) (IsStart : ℕ → Type 0) (seen : List Bool) (order : List ℕ) (h : ℕ → ℕ) (s : Heights R IsStart seen [] order h) where
-  all_placed : (x : ℕ) → has seen x ≡ true → Stands order x
+  pub all_placed : (x : ℕ) → has seen x ≡ true → Stands order x
   all_placed x i = ⊎_elim (λ t. t) (λ k. absurd k) (s.placed x i)
 
   walk_stands : {x y : ℕ} → Walk R x y → Stands order x → Stands order y

@@ -128,3 +128,10 @@ pub topo_from : (R : ℕ → ℕ → Type 0) (n : ℕ) (starts F rest : List ℕ
 topo_from R n starts F rest set roots f below limit members a =
     let a' : IsAbsence set n rest = subst (λ z. IsAbsence set z rest) limit a in
     topo_of R n F rest set (Contains starts) (λ p. (λ c. (roots p).0 (contains_stands starts p c), λ r. stands_contains starts p ((roots p).1 r))) f (λ i x h. All-contains (λ p. p < n) F x below (stands_contains F x (i, h))) members a'
+
+-- what was finished from all roots is what roots lead to
+pub finished_from_roots : (R : ℕ → ℕ → Type 0) (n : ℕ) (starts F : List ℕ) → ((p : ℕ) → Stands starts p ↔ IsIndexRoot R n p) → IsFinishList R (Contains starts) F → (p : ℕ) → Stands F p ↔ FromRoot R n p
+finished_from_roots R n starts F roots f p = (
+  λ t. let r = (f.reached p).0 t in (r.0, (roots r.0).0 (contains_stands starts r.0 r.1), r.2),
+  λ r. (f.reached p).1 (r.0, stands_contains starts r.0 ((roots r.0).1 r.1), r.2),
+)

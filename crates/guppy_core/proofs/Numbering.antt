@@ -157,14 +157,18 @@ module _ (R B : ℕ → ℕ → Type 0) (back : (x y : ℕ) → R x y → B y x)
           few = let l = s.few in omega arith;
         }
 
-    -- the whole order was taken
-    pub second_all : length (reverse F) ≤ i → AreNumbers R n numbers count
-    second_all end =
-        let seen_all : (p : ℕ) → p < n → has seen p ≡ true = λ p l.
+    -- the whole order was taken, so each position was seen
+    pub second_seen : length (reverse F) ≤ i → (p : ℕ) → p < n → has seen p ≡ true
+    second_seen end p l =
         let t = all p l in
         let t' = at_reversed (reverse F) t.0 p (subst (λ z. slice_get z t.0 ≡ Some p) (sym (reverse-reverse F)) t.1) in
         let w = slice_get_within (reverse F) t'.0 p t'.1 in
-        s.taken t'.0 p (omega arith) t'.1 in
+        s.taken t'.0 p (omega arith) t'.1
+
+    -- and has its number
+    pub second_all : length (reverse F) ≤ i → AreNumbers R n numbers count
+    second_all end =
+        let seen_all = second_seen end in
         record {
           length_is = s.length_is;
           below = λ p l. s.below p (seen_all p l);

@@ -316,11 +316,11 @@ pub record Tracing {N E : Type 0} (keep : E → Bool) (graph : GraphValue N E) (
   pub paid : looks + left 0 (degree Forward graph.links) seen frames ≤ bound
 
 module _ {N E : Type 0} (keep : E → Bool) (graph : GraphValue N E) where
-  pub tracing_first : (n looks : ℕ) → n ≡ length graph.nodes → Tracing keep graph 0 (looks + length graph.links) looks (replicate n false) (replicate n false) []
-  tracing_first n looks e = record {
+  pub tracing_first : (n looks : ℕ) → n ≡ length graph.nodes → IsGraph graph → Tracing keep graph 0 (looks + length graph.links) looks (replicate n false) (replicate n false) []
+  tracing_first n looks e g = record {
     state = trace_none (Step Forward keep graph.links) (LinkTo Forward keep graph.links) (length graph.nodes) (replicate n false) (replicate n false) (length-replicate n false ∙ e) (length-replicate n false ∙ e) (has-replicate n) (has-replicate n);
     begun = λ x h. absurd (omega arith);
-    paid = let a = no_more (degree Forward graph.links) 0 (replicate n false) in let b = owed_first Forward graph.links n in omega arith;
+    paid = let a = no_more (degree Forward graph.links) 0 (replicate n false) in let b = owed_first Forward graph.links n (rw e g.ends) in omega arith;
   }
 
   module _ (i bound looks : ℕ) (seen done : List Bool) where

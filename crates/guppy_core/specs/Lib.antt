@@ -14,6 +14,7 @@ pub mod Finish
 pub mod Cost
 pub mod Cycle
 pub mod Noted
+pub mod Kept
 pub mod Topo
 pub mod Mark
 pub mod Claim

@@ -34,7 +34,8 @@ fn claim_one<G: GraphSpec>(
 }
 
 /// Gives the number to the start, and to each position without a number that links lead from to
-/// the start. The stack is lent empty, and left empty.
+/// the start. Looks once at each link that leads to one of these. The stack is lent empty, and left
+/// empty.
 pub(crate) fn claim<G: GraphSpec>(
     graph: &mut CountedGraph<'_, G>,
     seen: &mut IxSet<G>,
@@ -58,9 +59,10 @@ pub(crate) fn claim<G: GraphSpec>(
     ensures numbers { OnOk result
         (Claims number seen.old numbers.old.items seen.new numbers.new.items) }
     ensures paid { OnOk result (graph.new.looks + links_left Reverse graph.old.graph.links seen.new
-        ≤ graph.old.looks + links_left Reverse graph.old.graph.links seen.old) }
+        ≡ graph.old.looks + links_left Reverse graph.old.graph.links seen.old) }
     ensures looks { graph.new.looks ≤ graph.old.looks + links_left Reverse graph.old.graph.links
         seen.old }
+    ensures counted { graph.old.looks ≤ graph.new.looks }
     ensures graph { graph.new.graph ≡ graph.old.graph }
 {
     claim_one(seen, numbers, stack, start, number)?;

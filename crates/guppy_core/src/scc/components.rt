@@ -1,4 +1,4 @@
-ghost use Rattle.std.specs.Prelude.{◌≡◌, ◌↔◌, ℕ, ◌+◌, ◌*◌, ◌<◌, ◌≤◌, ◌^◌, Bool, true, List, length, map, IfOk};
+ghost use Rattle.std.specs.Prelude.{◌≡◌, ◌↔◌, ℕ, ◌+◌, ◌*◌, ◌<◌, ◌≤◌, ◌^◌, Bool, true, List, length, map, IfOk, OnOk};
 ghost use Rattle.std.specs.List.{concat};
 ghost use Rattle.guppy_search.specs.declared.ix.direction.DependencyDirection.TheVariants.{Forward};
 ghost use Rattle.guppy_search.specs.Reach.{LinkStep, Step, Mutual};
@@ -48,7 +48,7 @@ impl<Ix: IndexType> Sccs<Ix> {
     /// The components of the graph, each ordered by the index, which is of as many nodes as the
     /// graph. `looks` plus twice the link count fits u64.
     ///
-    /// Looks at each link at most twice, also where it fails. Takes memory for some numbers a node,
+    /// Looks at each link twice; where it fails, at most twice. Takes memory for some numbers a node,
     /// and fails only where there is none.
     pub fn new<G: GraphSpec<Ix = Ix>>(
         graph: &mut CountedGraph<'_, G>,
@@ -65,6 +65,9 @@ impl<Ix: IndexType> Sccs<Ix> {
             → LeadsOn (Step Forward keep graph.old.graph.links) topo.now
             → LeadsOn (Step Forward keep graph.old.graph.links) (concat blocks)) }
         ensures looks { graph.new.looks ≤ graph.old.looks + 2 * length graph.old.graph.links }
+        ensures counted { graph.old.looks ≤ graph.new.looks }
+        ensures twice { OnOk result
+            (graph.new.looks ≡ graph.old.looks + 2 * length graph.old.graph.links) }
         ensures graph { graph.new.graph ≡ graph.old.graph }
     {
         let alloc = graph.alloc();

@@ -1,4 +1,4 @@
-ghost use Rattle.std.specs.Prelude.{◌≡◌, ℕ, ◌<◌, ◌≤◌, ◌+◌, ◌*◌, ◌^◌, length, IfOk, All};
+ghost use Rattle.std.specs.Prelude.{◌≡◌, ℕ, ◌<◌, ◌≤◌, ◌+◌, ◌*◌, ◌^◌, length, IfOk, OnOk, All};
 ghost use Rattle.guppy_search.specs.declared.ix.direction.DependencyDirection.TheVariants.{Forward};
 ghost use Rattle.guppy_core.specs.Listing.{Stands};
 ghost use Rattle.guppy_search.specs.Reach.{LinkStep};
@@ -16,7 +16,7 @@ pub(crate) struct Numbered {
     pub(crate) count: usize,
 }
 
-/// Numbers the components, dependents first. The starts are all positions.
+/// Numbers the components, dependents first. Looks at each link twice. The starts are all positions.
 pub(crate) fn number_components<G: GraphSpec>(
     graph: &mut CountedGraph<'_, G>,
     starts: &[usize],
@@ -30,6 +30,9 @@ pub(crate) fn number_components<G: GraphSpec>(
     ensures few { IfOk result (λ r. r.count ≤ length graph.old.graph.nodes) }
     ensures small { IfOk result (λ _. length graph.old.graph.nodes < 2 ^ 32) }
     ensures looks { graph.new.looks ≤ graph.old.looks + 2 * length graph.old.graph.links }
+    ensures counted { graph.old.looks ≤ graph.new.looks }
+    ensures twice { OnOk result
+        (graph.new.looks ≡ graph.old.looks + 2 * length graph.old.graph.links) }
     ensures graph { graph.new.graph ≡ graph.old.graph }
 {
     let alloc = graph.alloc();

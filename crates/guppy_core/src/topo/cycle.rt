@@ -3,6 +3,7 @@ ghost use Rattle.std.specs.Prelude.{◌≡◌, ℕ, ◌+◌, ◌<◌, ◌≤◌,
 ghost use Rattle.guppy_search.specs.declared.ix.direction.DependencyDirection.TheVariants.{Forward};
 ghost use Rattle.guppy_search.specs.Reach.{Step};
 ghost use Rattle.guppy_core.specs.Cycle.{IsCycle, IsAcyclic, from_first};
+ghost use Rattle.guppy_core.specs.Kept.{OnLinks};
 
 use crate::topo::finish::Frame;
 use guppy_search::{CountedGraph, DependencyDirection, GraphSpec, IndexType, IxSet};
@@ -10,8 +11,8 @@ use std::alloc::{AllocError, Global};
 
 /// A cycle over the links that `keep` answers true for: two or more positions, each once, each with
 /// a kept link to the next, and the last with one to the first. So a link from a position to itself
-/// makes none. None where there is no cycle. `keep` owes one answer for each value, and may always
-/// be called; `looks` plus the link count fits u64.
+/// makes none. None where there is no cycle. `keep` may be called on the data of each link, and owes
+/// one answer for each of these; `looks` plus the link count fits u64.
 ///
 /// Looks at each link at most once, also where it fails. Takes memory for a few bytes a node, and
 /// fails only where there is none.
@@ -21,12 +22,14 @@ pub fn find_cycle<G: GraphSpec, F: Fn(&G::Edge) -> bool + Drop>(
 ) -> Result<Option<Vec<G::Ix>>, AllocError>
     ghost kept: { G.Edge → Bool }
     requires room { graph.old.looks + length graph.old.graph.links < 2 ^ 64 }
-    requires callable { F.IsAlwaysCallable keep }
-    requires keeps { (e : _) (b : Bool) → F.post keep e b → b ≡ kept e.now }
+    requires callable { OnLinks graph.old.graph.links (F.pre keep) }
+    requires keeps { OnLinks graph.old.graph.links
+        (λ e. (b : Bool) → F.post keep e b → b ≡ kept e.now) }
     ensures cycle { IfOk result
         (λ found. MatchOption found (IsAcyclic (Step Forward kept graph.old.graph.links))
         (λ list. IsCycle (Step Forward kept graph.old.graph.links) (map G.Ix.index_of list.items))) }
     ensures looks { graph.new.looks ≤ graph.old.looks + length graph.old.graph.links }
+    ensures counted { graph.old.looks ≤ graph.new.looks }
     ensures graph { graph.new.graph ≡ graph.old.graph }
 {
     let alloc = graph.alloc();

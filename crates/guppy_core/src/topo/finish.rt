@@ -1,7 +1,9 @@
 ghost use Rattle.std.specs.Prelude.{◌≡◌, ℕ, ◌+◌, ◌<◌, ◌≤◌, ◌^◌, Bool, List, length, IfOk, All, Contains};
 ghost use Rattle.guppy_search.specs.declared.ix.direction.DependencyDirection.TheVariants.{Forward};
 ghost use Rattle.guppy_search.specs.Reach.{Step};
+ghost use Rattle.guppy_core.specs.Cost.{AreLookedAt};
 ghost use Rattle.guppy_core.specs.Finish.{IsFinishList};
+ghost use Rattle.guppy_core.specs.Listing.{Stands};
 ghost use Rattle.guppy_core.specs.Noted.{note, AreNoted};
 
 use guppy_search::{CountedGraph, DependencyDirection, GraphSpec, IxSet};
@@ -25,8 +27,8 @@ fn is_kept(notes: &[bool], number: usize) -> bool
 }
 
 /// The positions that kept links lead to from the starts, in the order in which a depth-first
-/// search finishes them. Each link is looked at once at most. The notes say which links are kept;
-/// where there are none, all are.
+/// search finishes them. Looks at each link that leaves one of them once, and at no other. The notes
+/// say which links are kept; where there are none, all are.
 pub(crate) fn finish_order<G: GraphSpec>(
     graph: &mut CountedGraph<'_, G>,
     starts: &[usize],
@@ -41,6 +43,9 @@ pub(crate) fn finish_order<G: GraphSpec>(
     ensures positions { IfOk result
         (λ order. All (λ p. p < length graph.old.graph.nodes) order.items) }
     ensures looks { graph.new.looks ≤ graph.old.looks + length graph.old.graph.links }
+    ensures counted { graph.old.looks ≤ graph.new.looks }
+    ensures looked { IfOk result (λ order. AreLookedAt Forward graph.old.graph.links
+        (length graph.old.graph.nodes) (Stands order.items) graph.old.looks graph.new.looks) }
     ensures graph { graph.new.graph ≡ graph.old.graph }
 {
     let alloc = graph.alloc();

@@ -1,9 +1,11 @@
-ghost use Rattle.std.specs.Prelude.{◌≡◌, ℕ, ◌+◌, ◌*◌, ◌<◌, ◌≤◌, ◌^◌, Bool, length, IfOk, Some, slice_get};
+ghost use Rattle.std.specs.Prelude.{◌≡◌, ℕ, ◌+◌, ◌*◌, ◌<◌, ◌≤◌, ◌^◌, Bool, length, IfOk, OnOk, Some, slice_get};
 ghost use Rattle.std.specs.List.Sorted.{IsPermutation, IsNonDecreasingBy};
 ghost use Rattle.guppy_search.specs.declared.ix.direction.DependencyDirection.TheVariants.{Forward};
 ghost use Rattle.guppy_search.specs.Reach.{Step};
+ghost use Rattle.guppy_core.specs.Cost.{AreLookedAt};
+ghost use Rattle.guppy_core.specs.Kept.{OnLinks};
 ghost use Rattle.guppy_core.specs.Listing.{IsListing, place_in};
-ghost use Rattle.guppy_core.specs.Topo.{IsTopo, HasNoCycle, LeadsOn};
+ghost use Rattle.guppy_core.specs.Topo.{FromRoot, IsTopo, HasNoCycle, LeadsOn};
 
 use crate::topo::finish::finish_order;
 use crate::topo::lists::{absent, places, set_of};
@@ -40,25 +42,34 @@ impl<Ix> Model for TopoWithCycles<Ix> {
 }
 
 impl<Ix: IndexType> TopoWithCycles<Ix> {
-    /// The index by the links that `keep` answers true for. `keep` owes one answer for each value,
-    /// and may always be called; `looks` plus twice the link count fits u64.
+    /// The index by the links that `keep` answers true for. `keep` may be called on the data of each
+    /// link, and owes one answer for each of these; `looks` plus twice the link count fits u64.
     ///
-    /// Looks at each link at most twice, also where it fails. Takes memory for some numbers a node
-    /// and a byte a link, and fails only where there is none.
+    /// Looks at each link once, and once more at those that leave positions to which roots lead;
+    /// where it fails, at each at most twice. Takes memory for some numbers a node and a byte a link,
+    /// and fails only where there is none.
     pub fn new<G: GraphSpec<Ix = Ix>, F: Fn(&G::Edge) -> bool + Drop>(
         graph: &mut CountedGraph<'_, G>,
         keep: F,
     ) -> Result<Self, AllocError>
         ghost kept: { G.Edge → Bool }
         requires room { graph.old.looks + 2 * length graph.old.graph.links < 2 ^ 64 }
-        requires callable { F.IsAlwaysCallable keep }
-        requires keeps { (e : _) (b : Bool) → F.post keep e b → b ≡ kept e.now }
+        requires callable { OnLinks graph.old.graph.links (F.pre keep) }
+        requires keeps { OnLinks graph.old.graph.links
+            (λ e. (b : Bool) → F.post keep e b → b ≡ kept e.now) }
         ensures topo { IfOk result (λ order. IsTopo (Step Forward kept graph.old.graph.links)
             (length graph.old.graph.nodes) order) }
         ensures acyclic { IfOk result
             (λ order. HasNoCycle (Step Forward kept graph.old.graph.links)
             → LeadsOn (Step Forward kept graph.old.graph.links) order) }
         ensures looks { graph.new.looks ≤ graph.old.looks + 2 * length graph.old.graph.links }
+        ensures counted { graph.old.looks ≤ graph.new.looks }
+        ensures least { OnOk result
+            (graph.old.looks + length graph.old.graph.links ≤ graph.new.looks) }
+        ensures looked { IfOk result (λ _. AreLookedAt Forward graph.old.graph.links
+            (length graph.old.graph.nodes)
+            (FromRoot (Step Forward kept graph.old.graph.links) (length graph.old.graph.nodes))
+            (graph.old.looks + length graph.old.graph.links) graph.new.looks) }
         ensures graph { graph.new.graph ≡ graph.old.graph }
     {
         let alloc = graph.alloc();
@@ -114,14 +125,22 @@ fn order_of<G: GraphSpec, F: Fn(&G::Edge) -> bool>(
 ) -> Result<Vec<usize>, AllocError>
     ghost kept: { G.Edge → Bool }
     requires room { graph.old.looks + 2 * length graph.old.graph.links < 2 ^ 64 }
-    requires callable { F.IsAlwaysCallable keep.now }
-    requires keeps { (e : _) (b : Bool) → F.post keep.now e b → b ≡ kept e.now }
+    requires callable { OnLinks graph.old.graph.links (F.pre keep.now) }
+    requires keeps { OnLinks graph.old.graph.links
+        (λ e. (b : Bool) → F.post keep.now e b → b ≡ kept e.now) }
     ensures topo { IfOk result (λ order. IsTopo (Step Forward kept graph.old.graph.links)
         (length graph.old.graph.nodes) order.items) }
     ensures acyclic { IfOk result
         (λ order. HasNoCycle (Step Forward kept graph.old.graph.links)
         → LeadsOn (Step Forward kept graph.old.graph.links) order.items) }
     ensures looks { graph.new.looks ≤ graph.old.looks + 2 * length graph.old.graph.links }
+    ensures counted { graph.old.looks ≤ graph.new.looks }
+    ensures least { OnOk result
+        (graph.old.looks + length graph.old.graph.links ≤ graph.new.looks) }
+    ensures looked { IfOk result (λ _. AreLookedAt Forward graph.old.graph.links
+        (length graph.old.graph.nodes)
+        (FromRoot (Step Forward kept graph.old.graph.links) (length graph.old.graph.nodes))
+        (graph.old.looks + length graph.old.graph.links) graph.new.looks) }
     ensures graph { graph.new.graph ≡ graph.old.graph }
 {
     let alloc = graph.alloc();

@@ -47,6 +47,7 @@ loop-position-init g c =
       numbering = numbering_more (length graph.nodes) c.args.number c.args.seen.now c.args.numbers.now.items c.args.seen.now c.args.numbers.now.items (numbering_first (length graph.nodes) c.args.number c.args.seen.now c.args.numbers.now.items limit c.requires.count) c.args.start c.requires.start _ _ _ _ marks c.in_ok-claim_one.ensures.numbers;
       graph = refl;
       paid = omega arith;
+      counted = omega arith;
     }
 
 pub leaving_at-k-end-requires : goal.leaving_at-k-end-requires
@@ -69,7 +70,8 @@ loop-position-preserved g c =
       between = between_again Reverse c.args.graph.now.graph (From c.args.seen.now c.args.start) c.in-Some.position _ _ _ _ _ c.loop-k.invariant.inside (rw (← len) c.loop-k-test.false);
       numbering = c.loop-k.invariant.numbering;
       graph = c.loop-k.invariant.graph;
-      paid = row_paid _ _ _ _ _ _ _ _ (owes g at) c.loop-position.invariant.paid c.loop-k.invariant.paid c.loop-k.invariant.looked (rw (← len) c.loop-k.auto.k-end);
+      paid = row_paid _ _ _ _ _ _ _ _ (owes g at) c.loop-position.invariant.paid c.loop-k.invariant.paid c.loop-k.invariant.looked (rw (← len) c.loop-k.auto.k-end) (rw (← len) c.loop-k-test.false);
+      counted = let old = c.loop-position.invariant.counted in let k = c.loop-k.invariant.looked in omega arith;
     }
 
 pub look_at-number-requires-clause-room : goal.look_at-number-requires-clause-room
@@ -158,8 +160,12 @@ returns-clause-numbers g c = c.loop-position.invariant.numbering.claims
 
 pub returns-clause-paid : goal.returns-clause-paid
 returns-clause-paid g c =
-    let paid = c.loop-position.invariant.paid in
+    let empty : length c.loop-position.stack.items ≡ 0 = let none = c.in_default.ensures.cases.0 in let ok = c.loop-position.stack.ok in omega arith in
+    let paid = rw (no_items _ empty) at c.loop-position.invariant.paid in
     omega arith
+
+pub returns-clause-counted : goal.returns-clause-counted
+returns-clause-counted g c = c.loop-position.invariant.counted
 
 pub returns-clause-looks : goal.returns-clause-looks
 returns-clause-looks g c =
@@ -172,7 +178,7 @@ returns-clause-graph g c = c.loop-position.invariant.graph
 pub returns-in_err-claim_one : goal.returns-in_err-claim_one
 returns-in_err-claim_one g c =
     let none = c.from_residual.ensures.0 in
-    record { empty = on_ok _ _ none; limit = on_ok _ _ none; count = on_ok _ _ none; seen = on_ok _ _ none; numbers = on_ok _ _ none; paid = on_ok _ _ none; looks = omega arith; graph = refl }
+    record { empty = on_ok _ _ none; limit = on_ok _ _ none; count = on_ok _ _ none; seen = on_ok _ _ none; numbers = on_ok _ _ none; paid = on_ok _ _ none; looks = omega arith; counted = omega arith; graph = refl }
 
 pub returns-in_err-claim_one-2 : goal.returns-in_err-claim_one-2
 returns-in_err-claim_one-2 g c =
@@ -187,5 +193,6 @@ returns-in_err-claim_one-2 g c =
       numbers = on_ok _ _ none;
       paid = on_ok _ _ none;
       looks = rw c.look_at-number.ensures.counted (row_room _ _ _ _ _ _ _ _ (owes g at) c.loop-position.invariant.paid c.loop-k.invariant.paid c.loop-k.invariant.looked (rw (← len) c.loop-k-test.true));
+      counted = let old = c.loop-position.invariant.counted in let k = c.loop-k.invariant.looked in rw c.look_at-number.ensures.counted (omega arith);
       graph = rw c.look_at-number.ensures.counted c.loop-k.invariant.graph;
     }

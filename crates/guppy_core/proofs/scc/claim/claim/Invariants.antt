@@ -15,7 +15,7 @@ invariant-loop-k g l = record {
   numbering : Numbering (length l.fn.graph.graph.nodes) l.number l.fn.seen l.fn.numbers.items l.seen l.numbers.items;
   graph : l.graph.graph ≡ l.fn.graph.graph;
   looked : l.graph.looks ≡ l.initial.graph.looks + l.k;
-  paid : owed (degree Reverse l.fn.graph.graph.links) l.seen l.stack.items ≤ owed (degree Reverse l.fn.graph.graph.links) l.initial.seen l.initial.stack.items;
+  paid : owed (degree Reverse l.fn.graph.graph.links) l.seen l.stack.items ≡ owed (degree Reverse l.fn.graph.graph.links) l.initial.seen l.initial.stack.items;
 }
 
 abbrev pub invariant-loop-position : goal.invariant-loop-position
@@ -23,7 +23,8 @@ invariant-loop-position g l = record {
   between : Between (Step Reverse (λ _. true) l.fn.graph.graph.links) (From l.fn.seen l.start) (length l.fn.graph.graph.nodes) l.seen l.stack.items;
   numbering : Numbering (length l.fn.graph.graph.nodes) l.number l.fn.seen l.fn.numbers.items l.seen l.numbers.items;
   graph : l.graph.graph ≡ l.fn.graph.graph;
-  paid : l.graph.looks + owed (degree Reverse l.fn.graph.graph.links) l.seen l.stack.items ≤ l.fn.graph.looks + links_left Reverse l.fn.graph.graph.links l.fn.seen;
+  paid : l.graph.looks + owed (degree Reverse l.fn.graph.graph.links) l.seen l.stack.items ≡ l.fn.graph.looks + links_left Reverse l.fn.graph.graph.links l.fn.seen;
+  counted : l.fn.graph.looks ≤ l.graph.looks;
 }
 
 abbrev pub decreases-loop-position : goal.decreases-loop-position

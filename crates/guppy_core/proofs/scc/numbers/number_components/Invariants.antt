@@ -10,7 +10,8 @@ invariant-loop-root g l = record {
   numbering : SecondPass (Step Forward (λ _. true) l.fn.graph.graph.links) (Step Reverse (λ _. true) l.fn.graph.graph.links) (length l.fn.graph.graph.nodes) l.root-items l.root-index l.seen l.numbers.items l.count;
   empty : l.stack.items ≡ [];
   graph : l.graph.graph ≡ l.fn.graph.graph;
-  paid : l.graph.looks + links_left Reverse l.fn.graph.graph.links l.seen ≤ l.fn.graph.looks + 2 * length l.fn.graph.graph.links;
+  paid : l.graph.looks + links_left Reverse l.fn.graph.graph.links l.seen ≡ l.fn.graph.looks + 2 * length l.fn.graph.graph.links;
+  counted : l.fn.graph.looks ≤ l.graph.looks;
 }
 
 abbrev pub ghost-finish_order : goal.ghost-finish_order

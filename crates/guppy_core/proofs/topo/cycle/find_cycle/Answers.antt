@@ -1,4 +1,5 @@
-use Rattle.std.proofs.Common.{◌≡◌, ◌+◌, ◌<◌, ◌≤◌, Bool, [], length, refl, sym, ◌∙◌, arith}
+use Rattle.std.proofs.Common.{◌≡◌, ◌+◌, ◌<◌, ◌≤◌, Bool, [], length, refl, sym, ◌∙◌, arith, Some}
+use Rattle.std.specs.Prelude.{slice_get}
 use Rattle.std.proofs.lemmas.Bool.{not-true, not-false}
 use Rattle.guppy_search.specs.declared.ix.direction.DependencyDirection.TheVariants.{Forward}
 use Rattle.guppy_search.proofs.Lists.{no_items}
@@ -15,9 +16,10 @@ loop-start-init g c =
     let count : c.node_count.result ≡ length graph.nodes = c.node_count.ensures.count in
     let same : c.node_count-2.result ≡ c.node_count.result = c.node_count-2.ensures.count ∙ sym c.node_count.ensures.count in
     rw (c.in_ok-seen.ensures, c.in_ok-done.ensures, same, c.new-frames.ensures.items) (record {
-      search = tracing_first g.kept graph c.node_count.result c.args.graph.now.looks count;
+      search = tracing_first g.kept graph c.node_count.result c.args.graph.now.looks count c.node_count.ensures.graph;
       empty = refl;
       graph = refl;
+      counted = omega arith;
     })
 
 pub loop-frame-init : goal.loop-frame-init
@@ -32,12 +34,14 @@ loop-frame-init g c =
           rw (w.frames-is, w.in_ok-push.ensures.items, no_items _ c.loop-start.invariant.empty, c.insert_position.ensures.after) (record {
             search = tracing_new K graph _ _ _ _ _ s (let t = c.loop-start-test.true in omega arith) lacks;
             graph = c.loop-start.invariant.graph;
+            counted = c.loop-start.invariant.counted;
           })
       | else-insert_position w ↦
           let old = not-false _ (sym c.insert_position.ensures.is_new ∙ w.if-insert_position.false) in
           rw (w.frames-is, no_items _ c.loop-start.invariant.empty, inserted_old _ _ _ _ c.insert_position.ensures.is_new c.insert_position.ensures.after w.if-insert_position.false) (record {
             search = tracing_old K graph _ _ _ _ _ s old;
             graph = c.loop-start.invariant.graph;
+            counted = c.loop-start.invariant.counted;
           })
     ]
 
@@ -66,6 +70,19 @@ paid g c =
 -- what it shows
 looked : (g : Over) (c : After-push-then-frame-leaving_at g) (b : Bool) → b ≡ g.kept c.look_at-number.result.2.now → Looked Forward g.kept c.args.graph.now.graph.links c.in-Some.frame.position c.in-Some.frame.next c.look_at-number.result.1 b
 looked g c b is = looked_from {N = g.row.G-Node.Denot} {E = g.row.G-Edge.Denot} Forward g.kept c.args.graph.now.graph c.loop-frame.graph.graph c.loop-frame.invariant.graph c.in-Some.frame.position c.in-Some.frame.next c.look_at-number.result.0 c.look_at-number.result.1 c.look_at-number.result.2.now b (more g c) c.look_at-number.ensures.number c.look_at-number.ensures.link is
+
+-- keep may be asked of it
+asked : (g : Over) (c : After-push-then-frame-leaving_at g) → slice_get c.args.graph.now.graph.links c.look_at-number.result.0 ≡ Some c.look_at-number.ensures.link.0
+asked g c = rw c.loop-frame.invariant.graph at c.look_at-number.ensures.link.1
+
+pub keep-requires : goal.keep-requires
+keep-requires g c =
+    let at = (goal.at.keep-requires g c).After-push-then-frame-leaving_at in
+    c.requires.1.1.1.1.1.1.0 _ _ _ (asked g at) (sym c.look_at-number.ensures.link.4)
+
+-- and answers as it is kept
+answer : (g : Over) (c : After-push-then-frame-leaving_at g) (b : Bool) → g.F.Fn.post c.args.keep (c.look_at-number.result.2, tt) b → b ≡ g.kept c.look_at-number.result.2.now
+answer g c b h = c.requires.1.1.1.1.1.1.1 _ _ _ (asked g c) (sym c.look_at-number.ensures.link.4) b h
 
 -- where it leads
 led_below : (g : Over) (c : After-push-then-frame-leaving_at g) → c.look_at-number.result.1 < length c.args.graph.now.graph.nodes
@@ -104,7 +121,7 @@ returns-in_err-positions_from-clause-looks g c = paid g (goal.at.returns-in_err-
 pub returns-then-not-has_position-clause-cycle : goal.returns-then-not-has_position-clause-cycle
 returns-then-not-has_position-clause-cycle g c =
     let s = rw c.in-Some.ensures.items at c.loop-frame.invariant.search in
-    let l = looked g (goal.at.returns-then-not-has_position-clause-cycle g c).After-push-then-frame-leaving_at c.keep.result (c.requires.1.1.1.1.1.1.1 _ _ c.keep.ensures) in
+    let l = looked g (goal.at.returns-then-not-has_position-clause-cycle g c).After-push-then-frame-leaving_at c.keep.result (answer g (goal.at.returns-then-not-has_position-clause-cycle g c).After-push-then-frame-leaving_at c.keep.result c.keep.ensures) in
     let old = not-false _ (sym c.insert_position-then-far-frame.ensures.is_new ∙ c.if-insert_position-2.false) in
     let not_done = sym c.has_position.ensures.value ∙ c.if-not-has_position.true in
     rw (c.in_ok-positions_from.ensures, c.as_slice.ensures.value, c.in_ok-push-2.ensures.items) (link_back g.kept c.args.graph.now.graph _ _ _ _ _ _ _ s c.look_at-number.result.1 c.keep.result l c.if-keep.true c.if-far-frame.true old not_done)
@@ -134,7 +151,7 @@ loop-frame-preserved-then-far-frame g c =
     let K = g.kept in
     let graph = c.args.graph.now.graph in
     let s = rw c.in-Some.ensures.items at c.loop-frame.invariant.search in
-    let l = looked g (goal.at.loop-frame-preserved-then-far-frame g c).After-push-then-frame-leaving_at c.keep.result (c.requires.1.1.1.1.1.1.1 _ _ c.keep.ensures) in
+    let l = looked g (goal.at.loop-frame-preserved-then-far-frame g c).After-push-then-frame-leaving_at c.keep.result (answer g (goal.at.loop-frame-preserved-then-far-frame g c).After-push-then-frame-leaving_at c.keep.result c.keep.ensures) in
     elim c.if-insert_position-2.branch [
       | then-insert_position-2+in_ok-push-3 w ↦
           let below = led_below g (goal.at.loop-frame-preserved-then-far-frame g c).After-push-then-frame-leaving_at in
@@ -142,6 +159,7 @@ loop-frame-preserved-then-far-frame g c =
           rw (w.frames-is, c.look_at-number.ensures.counted, c.insert_position-then-far-frame.ensures.after, w.in_ok-push-3.ensures.items, c.in_ok-push-2.ensures.items) (record {
             search = link_new K graph _ _ _ _ _ _ _ s c.look_at-number.result.1 c.keep.result l c.if-keep.true lacks below;
             graph = c.loop-frame.invariant.graph;
+            counted = let k = c.loop-frame.invariant.counted in omega arith;
           })
       | else-insert_position-2+else-not-has_position w ↦
           let same = inserted_old _ _ _ _ c.insert_position-then-far-frame.ensures.is_new c.insert_position-then-far-frame.ensures.after w.if-insert_position-2.false in
@@ -149,6 +167,7 @@ loop-frame-preserved-then-far-frame g c =
           rw (w.frames-is, same, c.look_at-number.ensures.counted, c.in_ok-push-2.ensures.items) (record {
             search = link_done K graph _ _ _ _ _ _ _ s c.look_at-number.result.1 c.keep.result l old;
             graph = c.loop-frame.invariant.graph;
+            counted = let k = c.loop-frame.invariant.counted in omega arith;
           })
     ]
 
@@ -162,13 +181,14 @@ loop-frame-preserved-else-keep g c =
     let K = g.kept in
     let graph = c.args.graph.now.graph in
     let s = rw c.in-Some.ensures.items at c.loop-frame.invariant.search in
-    let l = looked g (goal.at.loop-frame-preserved-else-keep g c).After-push-then-frame-leaving_at c.keep.result (c.requires.1.1.1.1.1.1.1 _ _ c.keep.ensures) in
+    let l = looked g (goal.at.loop-frame-preserved-else-keep g c).After-push-then-frame-leaving_at c.keep.result (answer g (goal.at.loop-frame-preserved-else-keep g c).After-push-then-frame-leaving_at c.keep.result c.keep.ensures) in
     rw (c.look_at-number.ensures.counted, c.in_ok-push-2.ensures.items) (record {
       search = elim c.else-keep.branch [
         | else-keep-via-then-keep+else-far-frame w ↦ link_round K graph _ _ _ _ _ _ _ s c.look_at-number.result.1 c.keep.result l w.if-far-frame.false
         | else-keep-via-else-keep w ↦ link_skipped K graph _ _ _ _ _ _ _ s c.look_at-number.result.1 c.keep.result l w.if-keep.false
       ];
       graph = c.loop-frame.invariant.graph;
+      counted = let k = c.loop-frame.invariant.counted in omega arith;
     })
 
 pub insert_position-requires-else-frame-leaving_at-clause-in_range : goal.insert_position-requires-else-frame-leaving_at-clause-in_range
@@ -196,6 +216,7 @@ loop-frame-preserved g c =
     rw c.insert_position-else-frame-leaving_at.ensures.after (record {
       search = tracing_done g.kept graph _ _ _ _ _ _ _ s (rw (← len) c.if-frame-leaving_at.false);
       graph = c.loop-frame.invariant.graph;
+      counted = let k = c.loop-frame.invariant.counted in omega arith;
     })
 
 pub returns-clause-cycle : goal.returns-clause-cycle

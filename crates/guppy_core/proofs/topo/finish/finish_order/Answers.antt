@@ -4,7 +4,7 @@ use Rattle.std.proofs.lemmas.List.{append-nil}
 use Rattle.guppy_search.proofs.Exits.{if_ok}
 use Rattle.guppy_core.specs.Noted.{note}
 use Rattle.guppy_core.proofs.Costs.{degree, fits_below}
-use Rattle.guppy_core.proofs.Finishing.{Looked, looked_noted, looked_below, looks_paid, finishing_first, start_old, start_new, finishing_below, look_paid, finishing_done, link_skipped, link_old, link_new, finishing_all, finishing_positions, inserted_old, smaller_done, smaller_step, smaller_new}
+use Rattle.guppy_core.proofs.Finishing.{Looked, looked_noted, looked_below, looks_paid, finishing_first, start_old, start_new, finishing_below, look_paid, finishing_done, link_skipped, link_old, link_new, finishing_all, finishing_looked, finishing_positions, inserted_old, smaller_done, smaller_step, smaller_new}
 use Rattle.guppy_search.specs.declared.ix.direction.DependencyDirection.TheVariants.{Forward}
 use Rattle.guppy_search.proofs.Lists.{no_items}
 use Rattle.guppy_core.proofs.topo.finish.finish_order.Given.{Over}
@@ -37,9 +37,10 @@ loop-start-init g c =
     let graph = c.args.graph.now.graph in
     let count : c.node_count.result ≡ length graph.nodes = c.node_count.ensures.count in
     rw (c.in_ok-seen.ensures, c.new-frames.ensures.items, c.new-order.ensures.items) (record {
-      search = finishing_first Forward g.kept graph c.args.starts.now c.node_count.result c.args.graph.now.looks count;
+      search = finishing_first Forward g.kept graph c.args.starts.now c.node_count.result c.args.graph.now.looks count c.node_count.ensures.graph;
       empty = refl;
       graph = refl;
+      counted = omega arith;
     })
 
 pub loop-frame-init : goal.loop-frame-init
@@ -53,12 +54,14 @@ loop-frame-init g c =
           rw (w.frames-is, w.in_ok-push.ensures.items, no_items _ c.loop-start.invariant.empty, c.insert_position.ensures.after) (record {
             search = start_new Forward K graph c.args.starts.now _ _ _ _ _ s _ refl c.loop-start-test.true (c.requires.1.1.1.1.0 c.loop-start.start-index 0 c.loop-start-test.true) lacks;
             graph = c.loop-start.invariant.graph;
+            counted = c.loop-start.invariant.counted;
           })
       | else-insert_position w ↦
           let old = not-false _ (sym c.insert_position.ensures.is_new ∙ w.if-insert_position.false) in
           rw (w.frames-is, inserted_old _ _ _ _ c.insert_position.ensures.is_new c.insert_position.ensures.after w.if-insert_position.false) (record {
             search = start_old Forward K graph c.args.starts.now _ _ _ _ _ _ c.loop-start.invariant.search old;
             graph = c.loop-start.invariant.graph;
+            counted = c.loop-start.invariant.counted;
           })
     ]
 
@@ -119,6 +122,7 @@ loop-frame-preserved-then-insert_position-2 g c =
     rw (c.look_at-number.ensures.counted, c.insert_position-then-is_kept.ensures.after, c.in_ok-push-3.ensures.items, c.in_ok-push-2.ensures.items) (record {
       search = link_new Forward K graph c.args.starts.now (c.loop-start.start-index + 1) (c.args.graph.now.looks + length graph.links) _ _ _ _ _ s c.look_at-number.result.1 c.is_kept.result l c.if-is_kept.true lacks below;
       graph = c.loop-frame.invariant.graph;
+      counted = let k = c.loop-frame.invariant.counted in omega arith;
     })
 
 pub loop-frame-smaller-else-is_kept : goal.loop-frame-smaller-else-is_kept
@@ -142,11 +146,13 @@ loop-frame-preserved-else-is_kept g c =
           rw (w.seen-is, inserted_old _ _ _ _ w.insert_position-then-is_kept.ensures.is_new w.insert_position-then-is_kept.ensures.after w.if-insert_position-2.false, c.look_at-number.ensures.counted, c.in_ok-push-2.ensures.items) (record {
             search = link_old Forward K graph c.args.starts.now (c.loop-start.start-index + 1) (c.args.graph.now.looks + length graph.links) _ _ _ _ _ s c.look_at-number.result.1 c.is_kept.result l w.if-is_kept.true old;
             graph = c.loop-frame.invariant.graph;
+            counted = let k = c.loop-frame.invariant.counted in omega arith;
           })
       | else-is_kept-via-else-is_kept w ↦
           rw (w.seen-is, c.look_at-number.ensures.counted, c.in_ok-push-2.ensures.items) (record {
             search = link_skipped Forward K graph c.args.starts.now (c.loop-start.start-index + 1) (c.args.graph.now.looks + length graph.links) _ _ _ _ _ s c.look_at-number.result.1 c.is_kept.result l w.if-is_kept.false;
             graph = c.loop-frame.invariant.graph;
+            counted = let k = c.loop-frame.invariant.counted in omega arith;
           })
     ]
 
@@ -164,6 +170,7 @@ loop-frame-preserved g c =
     rw c.in_ok-push-4.ensures.items (record {
       search = finishing_done Forward K graph c.args.starts.now (c.loop-start.start-index + 1) (c.args.graph.now.looks + length graph.links) _ _ _ _ _ s (rw (← len) c.if-frame-leaving_at.false);
       graph = c.loop-frame.invariant.graph;
+      counted = let k = c.loop-frame.invariant.counted in omega arith;
     })
 
 pub returns-clause-order : goal.returns-clause-order
@@ -244,10 +251,15 @@ pub loop-start-preserved : goal.loop-start-preserved
 loop-start-preserved g c =
     let same : c.pop.new.self.items ≡ c.loop-frame.frames.items = sym (c.in_default.ensures.items ∙ append-nil _) in
     let none : length c.pop.new.self.items ≡ 0 = let empty = c.in_default.ensures.cases.1 in let ok = c.pop.new.self.ok in omega arith in
-    record { search = rw same c.loop-frame.invariant.search; empty = none; graph = c.loop-frame.invariant.graph }
+    record { search = rw same c.loop-frame.invariant.search; empty = none; graph = c.loop-frame.invariant.graph; counted = c.loop-frame.invariant.counted }
 
 pub returns-clause-looks : goal.returns-clause-looks
 returns-clause-looks g c = looks_paid Forward g.kept c.args.graph.now.graph c.args.starts.now _ _ _ _ _ _ c.loop-start.invariant.search
 
 pub returns-clause-graph : goal.returns-clause-graph
 returns-clause-graph g c = c.loop-start.invariant.graph
+
+pub returns-clause-looked : goal.returns-clause-looked
+returns-clause-looked g c =
+    let s = rw (no_items _ c.loop-start.invariant.empty) at c.loop-start.invariant.search in
+    finishing_looked Forward g.kept c.args.graph.now.graph c.args.starts.now _ _ _ _ _ c.args.graph.now.looks refl s

@@ -2,7 +2,11 @@ use Rattle.std.proofs.Common.{◌<◌, subst, ◌≡◌, ◌∙◌, length}
 use Rattle.guppy_search.proofs.Exits.{if_ok}
 use Rattle.guppy_search.specs.Reach.{Step}
 use Rattle.guppy_search.specs.declared.ix.direction.DependencyDirection.TheVariants.{Forward, Reverse}
-use Rattle.guppy_core.proofs.Indexing.{topo_from}
+use Rattle.guppy_core.specs.Cost.{AreLookedAt}
+use Rattle.guppy_core.specs.Listing.{Stands}
+use Rattle.guppy_core.specs.Topo.{FromRoot}
+use Rattle.guppy_core.proofs.Costs.{looked_same}
+use Rattle.guppy_core.proofs.Indexing.{topo_from, finished_from_roots}
 use Rattle.guppy_search.proofs.Searching.{far_end_below}
 use Rattle.guppy_core.proofs.Acyclic.{entered_or_not, topo_leads_on}
 use Rattle.guppy_core.proofs.topo.index.order_of.Goals as goal
@@ -62,3 +66,29 @@ returns-in_err-extend_from_slice-clause-topo g c = if_ok _ _ c.from_residual-in_
 
 pub returns-in_err-extend_from_slice-clause-acyclic : goal.returns-in_err-extend_from_slice-clause-acyclic
 returns-in_err-extend_from_slice-clause-acyclic g c = if_ok _ _ c.from_residual-in_err-extend_from_slice.ensures.0
+
+pub returns-clause-looked : goal.returns-clause-looked
+returns-clause-looked g c =
+    let graph = c.args.graph.now.graph in
+    let R = Step {E = g.row.G-Edge.Denot} Forward g.kept graph.links in
+    let finish = rw (c.in_ok-starts.ensures.graph, c.as_slice.ensures.value) at c.in_ok-order.ensures.order in
+    let looked = rw (c.in_ok-starts.ensures.graph, c.in_ok-starts.ensures.once) at c.in_ok-order.ensures.looked in
+    looked_same Forward graph.links (length graph.nodes) (Stands c.in_ok-order.order.items) (FromRoot R (length graph.nodes)) _ _ (finished_from_roots R (length graph.nodes) c.in_ok-starts.starts.items c.in_ok-order.order.items c.in_ok-starts.ensures.roots finish) looked
+
+pub returns-in_err-notes-clause-looked : goal.returns-in_err-notes-clause-looked
+returns-in_err-notes-clause-looked g c = if_ok _ _ c.from_residual.ensures.0
+
+pub returns-in_err-starts-clause-looked : goal.returns-in_err-starts-clause-looked
+returns-in_err-starts-clause-looked g c = if_ok _ _ c.from_residual-in_err-starts.ensures.0
+
+pub returns-in_err-order-clause-looked : goal.returns-in_err-order-clause-looked
+returns-in_err-order-clause-looked g c = if_ok _ _ c.from_residual-in_err-order.ensures.0
+
+pub returns-in_err-reached-clause-looked : goal.returns-in_err-reached-clause-looked
+returns-in_err-reached-clause-looked g c = if_ok _ _ c.from_residual-in_err-reached.ensures.0
+
+pub returns-in_err-rest-clause-looked : goal.returns-in_err-rest-clause-looked
+returns-in_err-rest-clause-looked g c = if_ok _ _ c.from_residual-in_err-rest.ensures.0
+
+pub returns-in_err-extend_from_slice-clause-looked : goal.returns-in_err-extend_from_slice-clause-looked
+returns-in_err-extend_from_slice-clause-looked g c = if_ok _ _ c.from_residual-in_err-extend_from_slice.ensures.0

@@ -1,4 +1,4 @@
-use Rattle.std.proofs.Common.{◌≡◌, ℕ, ◌<◌, ◌≤◌, false, length, sym, ◌∙◌, arith}
+use Rattle.std.proofs.Common.{◌≡◌, ℕ, ◌<◌, ◌≤◌, false, length, refl, sym, ◌∙◌, arith}
 use Rattle.std.proofs.Math.ListN.{length-replicate}
 use Rattle.std.proofs.lemmas.Option.{slice_get_within}
 use Rattle.guppy_search.specs.declared.ix.direction.DependencyDirection.TheVariants.{Forward}
@@ -18,7 +18,7 @@ loop-number-preserved g c =
     let entered = c.loop-number.invariant.entered in
     let link = seen_link c.link-link.result in
     let found = rw c.loop-number.invariant.graph at c.link-link.ensures.link in
-    let is : c.keep-is_kept.result ≡ g.kept link.edge = c.requires.1.1.1.1.1.1.1.0 _ _ c.keep-is_kept.ensures in
+    let is : c.keep-is_kept.result ≡ g.kept link.edge = c.requires.1.1.1.1.1.1.1.0 number link c.link-link.result.edge found refl _ c.keep-is_kept.ensures in
     let within : number < length c.loop-number.notes = let low = slice_get_within graph.links number link found in let count = c.requires.1.1.1.1.1.1.1.1 in let same = c.loop-number.auto.notes in omega arith in
     let noted = noted_more g.kept graph.links number c.loop-number.notes c.loop-number.invariant.noted link c.keep-is_kept.result found is within in
     elim c.if-is_kept.branch [
@@ -57,3 +57,11 @@ returns-clause-members g c =
     let is = gathered_whole _ (length graph.nodes) c.loop-number.number c.loop-number.set c.loop-number.invariant.entered (enters_within g.kept graph.links c.loop-number.number all) p in
     let steps = entered_is g.kept graph.links p in
     (λ h. steps.0 (is.0 h), λ t. is.1 (steps.1 t))
+
+pub returns-clause-once : goal.returns-clause-once
+returns-clause-once g c =
+    let looked = c.loop-number.invariant.looked in
+    let count = c.link_count-number-end.ensures in
+    let t = c.loop-number-test.false in
+    let end = c.loop-number.auto.number-end in
+    omega arith

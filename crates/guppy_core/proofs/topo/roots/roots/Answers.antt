@@ -26,3 +26,9 @@ returns-in_err-entered-clause-noted g c = if_ok _ _ c.from_residual.ensures.0
 
 pub returns-clause-noted : goal.returns-clause-noted
 returns-clause-noted g c = IfOk-weaker c.absent.result _ _ (λ list a. c.in_ok-entered.ensures.noted) c.absent.ensures
+
+pub returns-clause-ascends : goal.returns-clause-ascends
+returns-clause-ascends g c = IfOk-weaker c.absent.result _ _ (λ list a. a.ascends) c.absent.ensures
+
+pub returns-in_err-entered-clause-ascends : goal.returns-in_err-entered-clause-ascends
+returns-in_err-entered-clause-ascends g c = if_ok _ _ c.from_residual.ensures.0

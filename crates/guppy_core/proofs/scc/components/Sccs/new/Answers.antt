@@ -1,7 +1,7 @@
 use Rattle.std.proofs.Common.{length, get_or, subst, refl, arith}
 use Rattle.std.specs.Prelude.{map}
 use Rattle.std.proofs.lemmas.Option.{slice_get-get_or}
-use Rattle.guppy_search.proofs.Exits.{if_ok}
+use Rattle.guppy_search.proofs.Exits.{if_ok, on_ok}
 use Rattle.guppy_search.specs.declared.ix.direction.DependencyDirection.TheVariants.{Forward}
 use Rattle.guppy_search.specs.Reach.{LinkStep, Step}
 use Rattle.guppy_core.specs.Listing.{IsListing}
@@ -60,7 +60,7 @@ returns-clause-leads_on g c =
     (length c.args.graph.now.graph.nodes) c.args.topo.now _ (listing g at) leads (sccs g at)
 
 pub returns-in_err-numbered : goal.returns-in_err-numbered
-returns-in_err-numbered g c = let none = c.from_residual.ensures.0 in record { sccs = if_ok _ _ none; order = if_ok _ _ none; leads_on = if_ok _ _ none; looks = c.in_err-numbered.ensures.looks; graph = c.in_err-numbered.ensures.graph }
+returns-in_err-numbered g c = let none = c.from_residual.ensures.0 in record { sccs = if_ok _ _ none; order = if_ok _ _ none; leads_on = if_ok _ _ none; looks = c.in_err-numbered.ensures.looks; counted = c.in_err-numbered.ensures.counted; twice = on_ok _ _ none; graph = c.in_err-numbered.ensures.graph }
 
 pub returns-in_err-positions : goal.returns-in_err-positions
-returns-in_err-positions g c = let none = c.from_residual-in_err-positions.ensures.0 in record { sccs = if_ok _ _ none; order = if_ok _ _ none; leads_on = if_ok _ _ none; looks = c.in_ok-numbered.ensures.looks; graph = c.in_ok-numbered.ensures.graph }
+returns-in_err-positions g c = let none = c.from_residual-in_err-positions.ensures.0 in record { sccs = if_ok _ _ none; order = if_ok _ _ none; leads_on = if_ok _ _ none; looks = c.in_ok-numbered.ensures.looks; counted = c.in_ok-numbered.ensures.counted; twice = on_ok _ _ none; graph = c.in_ok-numbered.ensures.graph }

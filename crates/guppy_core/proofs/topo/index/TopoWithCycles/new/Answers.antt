@@ -20,3 +20,9 @@ returns-in_err-index-clause-topo g c = if_ok _ _ c.from_residual-in_err-index.en
 
 pub returns-in_err-index-clause-acyclic : goal.returns-in_err-index-clause-acyclic
 returns-in_err-index-clause-acyclic g c = if_ok _ _ c.from_residual-in_err-index.ensures.0
+
+pub returns-in_err-order-clause-looked : goal.returns-in_err-order-clause-looked
+returns-in_err-order-clause-looked g c = if_ok _ _ c.from_residual.ensures.0
+
+pub returns-in_err-index-clause-looked : goal.returns-in_err-index-clause-looked
+returns-in_err-index-clause-looked g c = if_ok _ _ c.from_residual-in_err-index.ensures.0
