@@ -29,9 +29,6 @@ struct StageIx {
 }
 
 impl IndexType for StageIx {
-    ghost use Rattle.std.proofs.Common.{ap, ℕ};
-    ghost use Rattle.guppy_core_tests.specs.declared.buffered.StageIx.{StageIx};
-
     ghost index_of = { λ a. a.stage };
 
     fn new(position: usize) -> Self {
@@ -43,9 +40,6 @@ impl IndexType for StageIx {
     fn index(self) -> usize {
         self.stage as usize
     }
-
-    ghost one_index = { λ a b same. ap
-        (λ (n : ℕ). let p : StageIx = record { stage = n } in p) same };
 }
 
 #[derive(Clone, Copy, PartialEq)]

@@ -61,7 +61,6 @@ fn graph_of(
 // A cycle, and how many links were looked at.
 fn found_in(graph: &Graph<DevLinks>) -> Result<(Option<Vec<PackageIx>>, u64), AllocError> {
     let mut counted = CountedGraph::new(graph);
-    let _node_count = counted.node_count();
     let found = find_cycle(&mut counted, |is_dev_only: &bool| !*is_dev_only)?;
     Ok((found, counted.looks()))
 }

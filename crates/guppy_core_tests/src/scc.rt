@@ -36,7 +36,6 @@ pub(crate) fn make_ordered(graph: &Graph<DevLinks>) -> Result<Ordered, AllocErro
         (λ ordered. length (concat ordered.sccs) ≡ length graph.now.nodes) }
 {
     let mut counted = CountedGraph::new(graph);
-    let _node_count = counted.node_count();
     let topo = TopoWithCycles::new(&mut counted, |is_dev_only: &bool| !*is_dev_only)?;
     let sccs = Sccs::new(&mut counted, &topo)?;
     Ok(Ordered {

@@ -37,7 +37,6 @@ impl RecordGraph {
             (λ ids. IsFirmCycle self.now ids.items)) }
     {
         let mut counted = CountedGraph::new(self.dep_graph());
-        let _node_count = counted.node_count();
         match find_cycle(&mut counted, |link: &LinkRecord| !is_dev_only(link))? {
             Some(ixs) => Ok(Some(self.ids_at(ixs.as_slice())?)),
             None => Ok(None),

@@ -25,7 +25,6 @@ pub(crate) fn order_of(graph: &Graph<Packages>) -> Result<Order, AllocError>
     ensures looks { IfOk result (λ o. o.looks ≤ 4 * length graph.now.links) }
 {
     let mut counted = CountedGraph::new(graph);
-    let _node_count = counted.node_count();
     let topo = TopoWithCycles::new(&mut counted, |link: &LinkRecord| !is_dev_only(link))?;
     let sccs = Sccs::new(&mut counted, &topo)?;
     Ok(Order {

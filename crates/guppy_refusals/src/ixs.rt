@@ -39,14 +39,12 @@ fn made_core(
 // A cycle over all links.
 fn any_cycle(graph: &Graph<DevLinks>) -> Result<Option<Vec<PackageIx>>, AllocError> {
     let mut counted = CountedGraph::new(graph);
-    let _node_count = counted.node_count();
     find_cycle(&mut counted, |_is_dev_only: &bool| true)
 }
 
 // A cycle over the links that aren't dev-only.
 fn firm_cycle(graph: &Graph<DevLinks>) -> Result<Option<Vec<PackageIx>>, AllocError> {
     let mut counted = CountedGraph::new(graph);
-    let _node_count = counted.node_count();
     find_cycle(&mut counted, |is_dev_only: &bool| !*is_dev_only)
 }
 

@@ -104,7 +104,6 @@ fn index_of(graph: &Graph<DevLinks>) -> Result<TopoWithCycles<PackageIx>, AllocE
     ensures { IfOk result (λ topo. length topo ≡ length graph.now.nodes) }
 {
     let mut counted = CountedGraph::new(graph);
-    let _node_count = counted.node_count();
     TopoWithCycles::new(&mut counted, |is_dev_only: &bool| !*is_dev_only)
 }
 
@@ -116,7 +115,6 @@ fn components_of(
     ensures { IfOk result (λ sccs. length (concat sccs) ≡ length graph.now.nodes) }
 {
     let mut counted = CountedGraph::new(graph);
-    let _node_count = counted.node_count();
     Sccs::new(&mut counted, topo)
 }
 

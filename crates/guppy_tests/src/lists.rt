@@ -176,7 +176,6 @@ const BACKS: [(usize, usize, bool); 5] = [
 
 fn counted_looks(graph: &Graph<DevLinks>) -> Result<u64, AllocError> {
     let mut counted = CountedGraph::new(graph);
-    let _node_count = counted.node_count();
     let topo = TopoWithCycles::new(&mut counted, |is_dev_only: &bool| !*is_dev_only)?;
     let _sccs = Sccs::new(&mut counted, &topo)?;
     Ok(counted.looks())

@@ -8,7 +8,7 @@ ghost use Rattle.guppy.specs.Visitors.{MayVisitAt, StartsFromInitial};
 
 use crate::examples::Answer;
 use crate::sets::{direction_of, put_letters};
-use crate::visitors::{First, Odd, RefusesOnce, odd_calls};
+use crate::visitors::{First, Odd, RefusesOnce, odd_calls, over_even_links};
 use guppy::{
     Error, PackageGraph, PackageId, PackageLink, PackageLinkContext, PackageLinkVisitor,
     PackageQuery, PackageSet,
@@ -168,6 +168,7 @@ pub(super) fn ask_query(
             Ok(())
         }
         "odd-closure" => ask_odd_closure(graph, query, out),
+        "even-links" => put_letters(graph, &over_even_links(query)?, out),
         "from-initials" => ask_visitor(graph, query, FromInitials, out),
         _ => {
             out.put("unknown visitor");
@@ -199,6 +200,11 @@ counting_visitor_behind_dyn | a b c d: a>b b>c c>d
 
 counting_closure | a b c d: a>b b>c c>d
     resolve odd-closure forward a = ab 2 2
+
+closure_that_relies_on_included_ends | a b c d: a>b a>c b>d c>d d>a
+    resolve even-links forward a = abd 3
+    resolve even-links reverse d = abd 3
+    resolve even-links forward c = c 1
 
 empty_start | a b c d: a>b b>c c>d
     resolve all forward = 0 empty

@@ -1,9 +1,16 @@
 //! Visitors, each with its meaning: what it answers at each state, and the state that it leaves.
-ghost use Rattle.std.specs.Prelude.{◌≡◌, ◌==◌, ◌||◌, ℕ, ◌+◌, ◌-◌, ◌%◌, ◌^◌, Bool, true, false, not, max, nat_lt, List, length, slice_get, slice_index_or, IfOk, IsSomeAnd};
+ghost use Rattle.std.specs.Prelude.{◌≡◌, ◌⊎◌, ◌==◌, ◌||◌, if◌then◌else◌, slice_set, ℕ, ◌+◌, ◌-◌, ◌%◌, ◌^◌, Bool, true, false, not, max, nat_lt, List, length, slice_get, slice_index_or, IfOk, IsSomeAnd};
 ghost use Rattle.guppy.specs.DevOnly.{is_dev_only};
-ghost use Rattle.guppy.specs.Resolve.{JudgesResolve};
+ghost use Rattle.guppy.specs.IxSet.{IsIn};
+ghost use Rattle.guppy.specs.LinksByPosition.{far_end};
+ghost use Rattle.guppy.specs.Resolve.{JudgesResolve, LeavesOne};
+ghost use Rattle.guppy.specs.Views.{link_data};
 
-use guppy::{Error, PackageLink, PackageLinkContext, PackageLinkVisitor, PackageQuery};
+use guppy::positions::{DependencyDirection, IxSet};
+use guppy::{
+    Error, PackageLink, PackageLinkContext, PackageLinkVisitor, PackageQuery, PackageSet,
+};
+use guppy::graph::Packages;
 
 /// Accepts the links at whose numbers the list is true. None stands beyond its end.
 #[derive(Drop)]
@@ -64,6 +71,34 @@ pub fn odd_calls(query: PackageQuery<'_>) -> Result<usize, Error>
     let mut visitor = Odd { calls: 0 };
     let _set = query.resolve_with_mut(&mut visitor)?;
     Ok(visitor.calls)
+}
+
+/// What the query includes over the links with even numbers. The closure keeps the set of the packages
+/// that these lead to, and is owed links that leave one of these, or one that the query starts at.
+pub fn over_even_links<'g>(query: PackageQuery<'g>) -> Result<PackageSet<'g>, Error> {
+    let graph = query.graph();
+    let mut led_to = IxSet::<Packages>::empty(graph.alloc(), graph.package_count())?;
+    query.resolve_with_fn(|cx, link|
+        requires leaves { LeavesOne cx.now.direction (link_data link).graph.links
+            (λ p. IsIn cx.now.initials p ⊎ IsIn led_to p) (link_data link).number }
+        requires count { length led_to ≡ length (link_data link).graph.packages }
+        ensures count { length led_to.exit ≡ length led_to.entry }
+        ensures followed { IsSomeAnd
+            (slice_get (link_data link.entry).graph.links (link_data link.entry).number)
+            (λ l. led_to.exit ≡ (if result then slice_set led_to.entry (far_end cx.now.direction l)
+            true else led_to.entry)) }
+    {
+        let is_even = link.link_ix() % 2 == 0;
+        if is_even {
+            let (from, to) = link.endpoints();
+            let end = match cx.direction() {
+                DependencyDirection::Forward => to,
+                DependencyDirection::Reverse => from,
+            };
+            led_to.insert(end.package_ix());
+        }
+        is_even
+    })
 }
 
 /// Accepts the links that are there for development alone.

@@ -28,7 +28,9 @@ impl<'a, G: GraphSpec> CountedGraph<'a, G> {
     pub fn new(graph: &'a Graph<G>) -> Self
         ensures graph { result.graph ≡ graph.now }
         ensures looks { result.looks ≡ 0 }
+        ensures is_graph { IsGraph graph.now }
     {
+        let _node_count = graph.node_count();
         CountedGraph { graph, looks: 0 }
     }
 
