@@ -9,7 +9,7 @@ use Rattle.guppy_graph.specs.declared.build.Indexes.{Indexes}
 use Rattle.guppy_graph.specs.Accepted.{ArePackagesAccepted}
 use Rattle.guppy_graph.specs.Indexes.{AreIndexes}
 use Rattle.guppy_graph.specs.Links.{AreEndsNamed, AreLinksOf}
-use Rattle.guppy_graph.specs.Ordered.{IsOrdered}
+use Rattle.guppy_graph.specs.Ordered.{IsOrdered, AreOrderLooks}
 
 -- the packages by position, the links by number with positions as their ends, the workspace, the
 -- positions by the index, and the components in their order
@@ -44,4 +44,6 @@ pub record Holds (g : GraphData) (packages : List PackageRecord) (links : List L
 pub record IsStored (g : GraphData) (i : Indexes) (looks : ℕ) : Type 0 where
   pub graph : IsPackageGraph g
   pub indexes : AreIndexes g.packages i
+  pub looked : AreOrderLooks (length g.packages) g.links looks
+  pub many_looks : 3 * length g.links ≤ looks
   pub few_looks : looks ≤ 4 * length g.links

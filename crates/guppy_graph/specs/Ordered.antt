@@ -1,10 +1,11 @@
 -- The order of the packages.
-use Rattle.std.specs.Prelude.{ℕ, Bool, not, List}
+use Rattle.std.specs.Prelude.{ℕ, ◌*◌, Bool, not, List, length}
 use Rattle.std.specs.List.{concat}
 use Rattle.guppy_search.specs.declared.graph_core.link.Link.{Link}
 use Rattle.guppy_search.specs.declared.ix.direction.DependencyDirection.TheVariants.{Forward}
 use Rattle.guppy_core.specs.Reach.{LinkStep, Step}
-use Rattle.guppy_core.specs.Topo.{IsTopo, HasNoCycle, LeadsOn}
+use Rattle.guppy_core.specs.Cost.{AreLookedAt}
+use Rattle.guppy_core.specs.Topo.{IsTopo, FromRoot, HasNoCycle, LeadsOn}
 use Rattle.guppy_core.specs.Sccs.{AreSccs}
 use Rattle.guppy_core.specs.Order.{IsOrder}
 use Rattle.guppy_data.specs.declared.records.LinkRecord.{LinkRecord}
@@ -28,3 +29,9 @@ pub record IsOrdered (n : ℕ) (links : List (Link LinkRecord)) (index : List �
   -- where the links that aren't dev-only have no cycle but self-links, each between different
   -- packages leads on
   pub leads_on : HasNoCycle (FirmStep links) → LeadsOn (FirmStep links) (concat components)
+
+-- so often links are looked at to order the n positions: three times each, and once more each that
+-- leaves a position to which links that aren't dev-only lead from a root of these
+abbrev pub AreOrderLooks : ℕ → List (Link LinkRecord) → ℕ → Type 0
+AreOrderLooks n links =
+    AreLookedAt Forward links n (FromRoot (FirmStep links) n) (3 * length links)

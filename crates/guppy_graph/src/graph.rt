@@ -108,6 +108,7 @@ fn parts_of(
 impl RecordGraph {
     ghost use Rattle.guppy_graph.specs.Ids.{HasId, IsKnown, ix_position};
     ghost use Rattle.guppy_graph.specs.Graph.{Holds, IsPackageGraph};
+    ghost use Rattle.guppy_graph.specs.Ordered.{AreOrderLooks};
     ghost use Rattle.guppy_graph.specs.Indexes.{IsTargetIndex};
     ghost use Rattle.guppy_graph.specs.Keys.{DifferBelow};
     ghost use Rattle.guppy_graph.specs.Targets.{HasTarget, IsNamed};
@@ -172,9 +173,13 @@ impl RecordGraph {
         self.graph.link_count()
     }
 
-    /// How many links were looked at to order the packages, each as often as it was.
+    /// How many links were looked at to order the packages, each as often as it was: three times each,
+    /// and once more each link that leaves a package to which links that aren't dev-only lead from a
+    /// root of these, one to which no such link leads from another package.
     pub fn order_looks(&self) -> u64
-        ensures { result ≤ 4 * length self.now.links }
+        ensures looked { AreOrderLooks (length self.now.packages) self.now.links result }
+        ensures least { 3 * length self.now.links ≤ result }
+        ensures most { result ≤ 4 * length self.now.links }
     {
         self.order.looks
     }

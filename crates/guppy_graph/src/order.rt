@@ -1,5 +1,5 @@
 ghost use Rattle.std.specs.Prelude.{◌≡◌, ◌*◌, ◌≤◌, length, IfOk};
-ghost use Rattle.guppy_graph.specs.Ordered.{IsOrdered};
+ghost use Rattle.guppy_graph.specs.Ordered.{IsOrdered, AreOrderLooks};
 
 use crate::dev_only::is_dev_only;
 use crate::graph::Packages;
@@ -18,11 +18,15 @@ pub(crate) struct Order {
     pub(crate) looks: u64,
 }
 
-/// The order of the graph's packages. Looks at each link at most four times.
+/// The order of the graph's packages. Looks at each link three times, and once more at those that
+/// leave packages to which links that aren't dev-only lead from a root of these.
 pub(crate) fn order_of(graph: &Graph<Packages>) -> Result<Order, AllocError>
     ensures ordered { IfOk result
         (λ o. IsOrdered (length graph.now.nodes) graph.now.links o.topo o.sccs) }
-    ensures looks { IfOk result (λ o. o.looks ≤ 4 * length graph.now.links) }
+    ensures looked { IfOk result
+        (λ o. AreOrderLooks (length graph.now.nodes) graph.now.links o.looks) }
+    ensures least { IfOk result (λ o. 3 * length graph.now.links ≤ o.looks) }
+    ensures most { IfOk result (λ o. o.looks ≤ 4 * length graph.now.links) }
 {
     let mut counted = CountedGraph::new(graph);
     let topo = TopoWithCycles::new(&mut counted, |link: &LinkRecord| !is_dev_only(link))?;

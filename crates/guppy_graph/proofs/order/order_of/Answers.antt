@@ -1,4 +1,4 @@
-use Rattle.std.proofs.Common.{◌∙◌, length}
+use Rattle.std.proofs.Common.{◌∙◌, length, arith}
 use Rattle.std.specs.List.{concat}
 use Rattle.guppy_search.specs.declared.ix.direction.DependencyDirection.TheVariants.{Forward}
 use Rattle.guppy_core.specs.Reach.{LinkStep}
@@ -27,3 +27,14 @@ returns-clause-ordered c =
       order_is = order;
       leads_on = λ h. on (acyclic h);
     }
+
+pub returns-clause-looked : goal.returns-clause-looked
+returns-clause-looked c =
+    let same = c.new-counted.ensures.graph in
+    let later = c.in_ok-topo.ensures.graph ∙ same in
+    let none = c.new-counted.ensures.looks in
+    let looked = rw same at c.in_ok-topo.ensures.looked in
+    let twice = rw later at c.in_ok-sccs.ensures.twice in
+    let is = looked.looked in
+    let end = c.looks.ensures in
+    record { set = looked.set; count = looked.count; members = looked.members; looked = omega arith }

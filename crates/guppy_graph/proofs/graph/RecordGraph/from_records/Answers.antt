@@ -13,5 +13,7 @@ invariant_of-result c =
         ordered = ordered;
       };
       indexes = rw made.nodes_are made.indexes;
-      few_looks = c.in_ok-order.ensures.looks;
+      looked = c.in_ok-order.ensures.looked;
+      many_looks = c.in_ok-order.ensures.least;
+      few_looks = c.in_ok-order.ensures.most;
     }
