@@ -46,6 +46,7 @@ pub use Rattle.guppy_core.specs.Counted
 pub use Rattle.guppy_core.specs.Listing
 pub use Rattle.guppy_core.specs.Finish
 pub use Rattle.guppy_core.specs.Cost
+pub use Rattle.guppy_core.specs.Kept
 pub use Rattle.guppy_core.specs.Cycle
 pub use Rattle.guppy_core.specs.Topo
 pub use Rattle.guppy_core.specs.Mark

@@ -36,6 +36,7 @@ impl PackageGraph {
     ghost use Rattle.guppy.specs.Views.{graph_of, package_position};
     ghost use Rattle.guppy_graph.specs.Ids.{HasId, IsKnown, ids_of};
     ghost use Rattle.guppy_graph.specs.Graph.{Holds};
+    ghost use Rattle.guppy_graph.specs.Ordered.{AreOrderLooks};
     ghost use Rattle.guppy_graph.specs.Depends.{DependsOn, DirectlyDependsOn};
     ghost use Rattle.guppy_graph.specs.Refused.{IsFirstUnknown, NamesId};
     ghost use Rattle.guppy.specs.Iterators.{ids_left, packages_of, packages_left};
@@ -88,9 +89,13 @@ impl PackageGraph {
         self.records.link_count()
     }
 
-    /// How many links were looked at to order the packages, each as often as it was.
+    /// How many links were looked at to order the packages, each as often as it was: three times each,
+    /// and once more each link that leaves a package to which links that aren't dev-only lead from a
+    /// root of these, one to which no such link leads from another package.
     pub fn order_looks(&self) -> u64
-        ensures { result ≤ 4 * length self.now.links }
+        ensures looked { AreOrderLooks (length self.now.packages) self.now.links result }
+        ensures least { 3 * length self.now.links ≤ result }
+        ensures most { result ≤ 4 * length self.now.links }
     {
         self.records.order_looks()
     }
