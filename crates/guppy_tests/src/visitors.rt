@@ -6,11 +6,9 @@ ghost use Rattle.guppy.specs.LinksByPosition.{far_end};
 ghost use Rattle.guppy.specs.Resolve.{JudgesResolve, LeavesOne};
 ghost use Rattle.guppy.specs.Views.{link_data};
 
-use guppy::positions::{DependencyDirection, IxSet};
-use guppy::{
-    Error, PackageLink, PackageLinkContext, PackageLinkVisitor, PackageQuery, PackageSet,
-};
 use guppy::graph::Packages;
+use guppy::positions::{DependencyDirection, IxSet};
+use guppy::{Error, PackageLink, PackageLinkContext, PackageLinkVisitor, PackageQuery, PackageSet};
 
 /// Accepts the links at whose numbers the list is true. None stands beyond its end.
 #[derive(Drop)]
@@ -78,27 +76,29 @@ pub fn odd_calls(query: PackageQuery<'_>) -> Result<usize, Error>
 pub fn over_even_links<'g>(query: PackageQuery<'g>) -> Result<PackageSet<'g>, Error> {
     let graph = query.graph();
     let mut led_to = IxSet::<Packages>::empty(graph.alloc(), graph.package_count())?;
-    query.resolve_with_fn(|cx, link|
-        requires leaves { LeavesOne cx.now.direction (link_data link).graph.links
-            (λ p. IsIn cx.now.initials p ⊎ IsIn led_to p) (link_data link).number }
-        requires count { length led_to ≡ length (link_data link).graph.packages }
-        ensures count { length led_to.exit ≡ length led_to.entry }
-        ensures followed { IsSomeAnd
-            (slice_get (link_data link.entry).graph.links (link_data link.entry).number)
-            (λ l. led_to.exit ≡ (if result then slice_set led_to.entry (far_end cx.now.direction l)
-            true else led_to.entry)) }
-    {
-        let is_even = link.link_ix() % 2 == 0;
-        if is_even {
-            let (from, to) = link.endpoints();
-            let end = match cx.direction() {
-                DependencyDirection::Forward => to,
-                DependencyDirection::Reverse => from,
-            };
-            led_to.insert(end.package_ix());
-        }
-        is_even
-    })
+    query.resolve_with_fn(
+        |cx, link|
+            requires leaves { LeavesOne cx.now.direction (link_data link).graph.links
+                (λ p. IsIn cx.now.initials p ⊎ IsIn led_to p) (link_data link).number }
+            requires count { length led_to ≡ length (link_data link).graph.packages }
+            ensures count { length led_to.exit ≡ length led_to.entry }
+            ensures followed { IsSomeAnd
+                (slice_get (link_data link.entry).graph.links (link_data link.entry).number)
+                (λ l. led_to.exit ≡ (if result then slice_set led_to.entry (far_end cx.now.direction l)
+                true else led_to.entry)) }
+        {
+            let is_even = link.link_ix() % 2 == 0;
+            if is_even {
+                let (from, to) = link.endpoints();
+                let end = match cx.direction() {
+                    DependencyDirection::Forward => to,
+                    DependencyDirection::Reverse => from,
+                };
+                led_to.insert(end.package_ix());
+            }
+            is_even
+        },
+    )
 }
 
 /// Accepts the links that are there for development alone.
