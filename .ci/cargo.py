@@ -29,6 +29,12 @@ SECONDS = 60
 # So many starts are asked about in each graph, and so many broken inputs are tried.
 STARTS, BROKEN = 12, 1000
 
+# What is told of bad arguments.
+BAD_ARGUMENTS = (
+    "bad arguments: give `reach forward|reverse PACKAGE..`, `depends PACKAGE PACKAGE`, `order`, `roots forward|reverse`, "
+    "`links forward|reverse`, `cycles`, `verify`, `publish-order` or `affected PATH..`"
+)
+
 
 class Graph:
     """What is read off the JSON of a workspace, each package under the name that the program is to give it."""
@@ -192,6 +198,15 @@ def try_refused(graph):
     deep = [b"[" * 10**6, b'{"a":' * 10**5]
     for text in (b"", b"{}", b"[]", b"\xff", given[:-2], given + b"x", given * 2, without, *deep):
         yield f"order of {text[:20]} and {len(text)} bytes", "status 1", ending(["order"], text)
+    # The texts of the program's own, and one of each kind that it passes on.
+    for words, text, status, fault in (
+        ("reach", given, 2, BAD_ARGUMENTS),
+        ("order", b"\xff", 1, "the input is no UTF-8"),
+        ("order", without, 1, "resolve: no dependencies are resolved"),
+        ("reach forward no-such-package", given, 1, "unknown package ID: no-such-package"),
+    ):
+        told = status, "", f"error: {fault}\n"
+        yield f"{words} of {text[:20]} and {len(text)} bytes, what is told", told, run(words.split(), text)
     firm = Graph(graph.text.replace('"kind":"dev"', '"kind":null'))
     for words in ("verify", "publish-order"):
         wanted = f"status {int(firm.has_firm_cycle())}"

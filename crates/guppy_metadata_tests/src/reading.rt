@@ -1,7 +1,7 @@
 //! What is read of a text that stands here, and what is told of bad ones.
 
 use guppy_data::{LinkRecord, PackageRecord};
-use guppy_metadata::records_of;
+use guppy_metadata::{MetadataFault, records_of};
 use std::alloc::Global;
 use std::fmt;
 use std::process::Abort;
@@ -297,14 +297,16 @@ fn metadata(rt: &impl Abort, alloc: Global, nodes: &str, packages: &str) -> Stri
     .expect(rt, "metadata")
 }
 
+fn tells(rt: &impl Abort, alloc: Global, fault: &MetadataFault, wanted: &str) {
+    let told = fault.to_string(alloc).expect(rt, wanted);
+    let told = told.as_str();
+    assert!(rt; told == wanted, "{told} is not {wanted}");
+}
+
 fn is_told(rt: &impl Abort, alloc: Global, json: &str, wanted: &str) {
     match records_of(alloc, json) {
         Ok(_) => assert!(rt; false, "{wanted} is not told"),
-        Err(fault) => {
-            let told = fault.to_string(alloc).expect(rt, wanted);
-            let told = told.as_str();
-            assert!(rt; told == wanted, "{told} is not {wanted}");
-        }
+        Err(fault) => tells(rt, alloc, &fault, wanted),
     }
 }
 
@@ -414,6 +416,7 @@ fn faults_are_told(rt: HostRuntime) {
         let json = metadata(&rt, alloc, node, package.as_str());
         is_told(&rt, alloc, json.as_str(), wanted);
     }
+    tells(&rt, alloc, &MetadataFault::OutOfMemory, "out of memory");
 }
 
 // The package of this number, which depends on the one of the next number.
