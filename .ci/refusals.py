@@ -3,8 +3,10 @@
 
 Both are run as the gate built them, in crates/*/out, with refuse.c preloaded, which has the C library refuse
 requests. Each case and each command is run with its first request refused, then with its second, until a run has
-no request left to refuse; each time once with this one alone, and once with those after it too. guppy_run is also
-run with less and less address space. The last line is 'N passed, M failed'.
+no request left to refuse; each time once with this one alone, and once with those after it too. None may ask for memory
+that its answer doesn't need: where the answer comes in full though a request was refused, another one was made in its
+place, and with that one refused too it doesn't come. guppy_run is also run with less and less address space. The last
+line is 'N passed, M failed'.
 """
 
 import itertools
@@ -20,6 +22,7 @@ BUILDS = {"": "as LLVM builds them", ".by-rattle": "as Rattle's own compiler bui
 
 REFUSED = "out of memory"
 TOLD = f"error: {REFUSED}\n"
+NEEDLESS = "the answer came in full, so it asks for memory that it doesn't need"
 # What a filter tells where the request for the list that it hands back was refused.
 OWN_LIST = "its own list was refused"
 # So many lines tell what stands before a case, and behind it.
@@ -72,7 +75,7 @@ CARGO_RUNS = ["affected base/src/lib.rs ./top/x", "order", "links forward"]
 
 
 def run(shim, words, number, part, given=b""):
-    """Runs a command with the request of this number refused, or with a + those after it too.
+    """Runs a command with the request of this number refused, or the two of 1-2, or with a + those after it too.
 
     Returns status, output, errors, and a letter for each request, r where it was refused.
     """
@@ -104,6 +107,14 @@ def in_turn(tries, most):
     return most, f"it makes more than {most} requests"
 
 
+def answered(tries, number, has_another):
+    """Whether there was a request, and what is wrong, where the answer came in full though this one was refused.
+
+    A list that found no room to grow may have asked for the less that it needs: that request is refused as well.
+    """
+    return tries(f"{number}-{int(number) + 1}") if has_another and number.isdigit() else (True, NEEDLESS)
+
+
 def wrong_in(lines, full):
     """What is wrong in what a case told that was refused once, where it tells 'full' with ample memory."""
     attempt, again = lines[: -len(full)], lines[-len(full) :]
@@ -122,7 +133,7 @@ def wrong_in(lines, full):
 
 def try_case(shim, program, case, full):
     """Refuses each request of a case in turn, and returns how many there are, and what is wrong."""
-    shown = set()
+    requests = len(run(shim, [program, case], 0, "call")[-1])
 
     def tries(number):
         status, output, errors, told = run(shim, [program, case], number, "call")
@@ -130,10 +141,11 @@ def try_case(shim, program, case, full):
         was_refused = "r" in told
         if status != 0 or errors:
             return was_refused, f"status {status}, and it said {errors!r}"
+        if not was_refused:
+            return False, None if lines == full else f"it told {lines}, where {full} is the answer"
         if lines == full:
-            return was_refused, None
-        shown.add(number)
-        return was_refused, wrong_in(lines, full) if was_refused else f"it told {lines}, where {full} is the answer"
+            return answered(tries, number, len(told) > requests)
+        return True, wrong_in(lines, full)
 
     if full[:WORLD] != full[-WORLD:]:
         return 0, "a call with ample memory changed what stood before it"
@@ -143,8 +155,6 @@ def try_case(shim, program, case, full):
     count, wrong = in_turn(tries, FEWEST.get(case, MANY))
     if wrong is None and not count:
         wrong = "none of its requests was refused"
-    if wrong is None and f"{count}+" not in shown:
-        wrong = "a refusal shows nowhere"
     return count, wrong
 
 
@@ -166,11 +176,15 @@ def try_program(shim, program, name, command, text):
     """Refuses each request of a run of a program in turn, and returns how many there are, and what is wrong."""
     words, given = [program, *command.split()], text.encode()
     full, wrong = full_outcome(name, words, given)
+    requests = len(run(shim, words, 0, "main", given)[-1])
 
     def tries(number):
         *outcome, told = run(shim, words, number, "main", given)
-        is_right = outcome == full or ("r" in told and outcome == [1, "", TOLD])
-        return "r" in told, None if is_right else f"status, output and errors are {outcome}"
+        was_refused = "r" in told
+        if was_refused and outcome == full:
+            return answered(tries, number, len(told) > requests)
+        is_right = outcome == ([1, "", TOLD] if was_refused else full)
+        return was_refused, None if is_right else f"status, output and errors are {outcome}"
 
     return in_turn(tries, MANY) if wrong is None else (0, wrong)
 

@@ -3,7 +3,8 @@
  *
  * REFUSE is the number of the request that malloc, calloc, realloc, posix_memalign, aligned_alloc or memalign
  * refuses, where those that count are numbered from 1. With a "+" behind it those after it are refused too, up
- * to the end of the part that counts. What counts is said by REFUSE_IN:
+ * to the end of the part that counts, and with a "-" and a number those up to this one. What counts is said by
+ * REFUSE_IN:
  *
  * - "main": each request from the start of main on. What the loader and the C library take before is not the
  *   program's, and the loader doesn't ask here.
@@ -15,6 +16,7 @@
 #define _GNU_SOURCE
 #include <dlfcn.h>
 #include <errno.h>
+#include <limits.h>
 #include <stddef.h>
 #include <stdlib.h>
 #include <string.h>
@@ -27,7 +29,7 @@ extern void *__libc_realloc(void *, size_t);
 extern void *__libc_memalign(size_t, size_t);
 
 static long chosen;
-static int goes_on;
+static long last;
 static long count;
 static int told_to;
 static int is_open;
@@ -39,7 +41,7 @@ static int refuses(void)
     if (!is_open)
         return 0;
     count++;
-    int is_refused = count == chosen || (goes_on && count > chosen);
+    int is_refused = count >= chosen && count <= last;
     syscall(SYS_write, told_to, is_refused ? "r" : "c", 1);
     if (is_refused)
         errno = ENOMEM;
@@ -87,7 +89,7 @@ static ssize_t writes(int file, const void *bytes, size_t size)
             is_open = 1;
         if (memcmp(bytes, "done\n", 5) == 0) {
             is_open = 0;
-            goes_on = goes_on && count < chosen;
+            last = count < chosen ? last : 0;
         }
     }
     return syscall(SYS_write, file, bytes, size);
@@ -111,8 +113,9 @@ static int our_main(int words, char **word, char **environment)
     const char *part = getenv("REFUSE_IN");
     const char *to = getenv("REFUSE_TO");
     if (number && part && to) {
-        chosen = atol(number);
-        goes_on = strchr(number, '+') != NULL;
+        char *behind;
+        chosen = strtol(number, &behind, 10);
+        last = *behind == '+' ? LONG_MAX : *behind == '-' ? atol(behind + 1) : chosen;
         told_to = atoi(to);
         is_by_call = strcmp(part, "call") == 0;
         is_open = !is_by_call;
