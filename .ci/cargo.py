@@ -31,8 +31,8 @@ STARTS, BROKEN = 12, 1000
 
 # What is told of bad arguments.
 BAD_ARGUMENTS = (
-    "bad arguments: give `reach forward|reverse PACKAGE..`, `depends PACKAGE PACKAGE`, `order`, `roots forward|reverse`, "
-    "`links forward|reverse`, `cycles`, `verify`, `publish-order` or `affected PATH..`"
+    "bad arguments: give `reach forward|reverse PACKAGE..`, `depends PACKAGE PACKAGE`, `order`, "
+    "`roots forward|reverse`, `links forward|reverse`, `cycles`, `verify`, `publish-order` or `affected PATH..`"
 )
 
 

@@ -77,18 +77,21 @@ CARGO_RUNS = ["affected base/src/lib.rs ./top/x", "order", "links forward"]
 def run(shim, words, number, part, given=b""):
     """Runs a command with the request of this number refused, or the two of 1-2, or with a + those after it too.
 
-    Returns status, output, errors, and a letter for each request, r where it was refused.
+    Its input is a file, which a read finds whole, so that it makes the same requests each time. Returns status, output,
+    errors, and a letter for each request, r where it was refused.
     """
     reader, writer = os.pipe()
     environment = {"LD_PRELOAD": shim, "REFUSE": str(number), "REFUSE_IN": part, "REFUSE_TO": str(writer)}
-    streams = {"stdin": subprocess.PIPE, "stdout": subprocess.PIPE, "stderr": subprocess.PIPE}
-    with os.fdopen(reader, "rb") as told:
+    with os.fdopen(reader, "rb") as told, tempfile.TemporaryFile() as file:
+        file.write(given)
+        file.seek(0)
+        streams = {"stdin": file, "stdout": subprocess.PIPE, "stderr": subprocess.PIPE}
         try:
             started = subprocess.Popen(words, env=environment, pass_fds=[writer], **streams)
         finally:
             os.close(writer)
         with started:
-            output, errors = started.communicate(given, timeout=60)
+            output, errors = started.communicate(timeout=60)
         return started.returncode, output.decode(), errors.decode(), told.read().decode()
 
 
