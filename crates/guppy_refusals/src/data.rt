@@ -7,7 +7,11 @@ use guppy_input::records::id_of;
 use std::alloc::{AllocError, Global};
 
 // The status of two texts.
-fn status_of(alloc: Global, first: &str, second: &str) -> Result<PlatformStatusImpl, AllocError> {
+pub(crate) fn status_of(
+    alloc: Global,
+    first: &str,
+    second: &str,
+) -> Result<PlatformStatusImpl, AllocError> {
     let mut status = PlatformStatusImpl::never(alloc);
     status.add_spec(Some(&TargetSpec::new(String::from_str(alloc, first)?)))?;
     status.add_spec(Some(&TargetSpec::new(String::from_str(alloc, second)?)))?;

@@ -100,7 +100,7 @@ pub(crate) fn tell_list(rt: &impl Print, positions: &[PackageIx]) {
     tell_line(rt, &"in this order");
 }
 
-fn index_of(graph: &Graph<DevLinks>) -> Result<TopoWithCycles<PackageIx>, AllocError>
+pub(crate) fn index_of(graph: &Graph<DevLinks>) -> Result<TopoWithCycles<PackageIx>, AllocError>
     ensures { IfOk result (λ topo. length topo ≡ length graph.now.nodes) }
 {
     let mut counted = CountedGraph::new(graph);

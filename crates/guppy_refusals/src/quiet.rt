@@ -1,13 +1,14 @@
 //! Calls that take no memory.
 ghost use Rattle.std.specs.Prelude.{◌≡◌, length};
 
-use crate::positions::{DevLinks, graph_of, set_of, tell_positions};
+use crate::data::status_of;
+use crate::positions::{DevLinks, graph_of, index_of, set_of, tell_list, tell_positions};
 use crate::told::{begin, tell, tell_line, tell_set};
 use crate::world::{World, tell_graph};
-use guppy::graph::{DependencyDirection, DependencyReqImpl};
-use guppy::platform::{EnabledTernary, PlatformSpec, TargetEval, TargetSpec};
-use guppy::positions::IxSet;
-use guppy::{CycleIds, DependsCache, Error, PackageMetadata, Utf8Path};
+use guppy::graph::{DependencyDirection, DependencyReqImpl, ExternalSource, IndexType, PackageIx};
+use guppy::platform::{EnabledTernary, PlatformSpec, PlatformStatus, TargetEval, TargetSpec};
+use guppy::positions::{IxSet, ResolveCore};
+use guppy::{CycleIds, DependsCache, Error, PackageMetadata, SortedSet, Utf8Path};
 use guppy_input::fault::RunFault;
 use guppy_input::input::records_of;
 use std::alloc::{AllocError, Global};
@@ -56,6 +57,7 @@ fn ask_members(rt: &impl Print, world: &World<'_>) -> Result<(), Error> {
     for (name, _) in workspace.iter_by_name() {
         tell(rt, name);
     }
+    tell(rt, workspace.default_member_ids().len());
     tell_line(rt, &workspace.member_count());
     Ok(())
 }
@@ -65,6 +67,9 @@ fn tell_fields(rt: &impl Print, package: PackageMetadata<'_>) {
     tell(rt, package.id());
     tell(rt, package.in_workspace());
     tell(rt, package.edition());
+    tell(rt, package.version());
+    tell(rt, package.source());
+    tell(rt, package.reverse_direct_links().len());
     tell(rt, package.build_targets().len());
     for link in package.direct_links() {
         let status = link.normal().status();
@@ -167,6 +172,55 @@ fn ask_positions(rt: &impl Print, alloc: Global) -> Result<(), AllocError> {
     Ok(())
 }
 
+// The same of the sets that resolves included.
+fn tell_cores(rt: &impl Print, x: &mut ResolveCore<DevLinks>, y: &ResolveCore<DevLinks>)
+    requires { length x.old ≡ length y.now }
+{
+    begin(rt);
+    x.union_with(y);
+    tell(rt, x.len());
+    x.symmetric_difference_with(y);
+    tell(rt, x.len());
+    x.intersect_with(y);
+    tell_line(rt, &x.is_empty());
+}
+
+fn ask_cores(rt: &impl Print, alloc: Global) -> Result<(), AllocError> {
+    let graph = graph_of(alloc)?;
+    let mut x = ResolveCore::from_included(set_of(&graph, &[0, 1])?);
+    let y = ResolveCore::from_included(set_of(&graph, &[1, 2])?);
+    tell_cores(rt, &mut x, &y);
+    Ok(())
+}
+
+// Positions are sorted by their places in an index.
+fn ask_index(rt: &impl Print, alloc: Global) -> Result<(), AllocError> {
+    let graph = graph_of(alloc)?;
+    let topo = index_of(&graph)?;
+    let mut ixs = [PackageIx::new(2), PackageIx::new(0), PackageIx::new(1)];
+    begin(rt);
+    topo.sort_nodes(&mut ixs);
+    tell_list(rt, &ixs);
+    Ok(())
+}
+
+// Sorted sets, sources, paths and statuses.
+fn ask_data(rt: &impl Print, alloc: Global) -> Result<(), AllocError> {
+    let items = vec![in alloc; "b", "a", "b"]?;
+    let mut status = status_of(alloc, "x", "y")?;
+    let platform = PlatformSpec::one(alloc, ())?;
+    begin(rt);
+    let set = SortedSet::new(items);
+    tell(rt, set.contains(&"a"));
+    tell(rt, ExternalSource::new("git+u?branch=b#r").is_some());
+    tell(rt, Utf8Path::new("a/./b") == Utf8Path::new("a/b"));
+    let value = PlatformStatus::new(&status).enabled_on(&platform, &KnowsNothing);
+    tell(rt, value == EnabledTernary::Unknown);
+    status.add_spec(None)?;
+    tell_line(rt, &status.is_never());
+    Ok(())
+}
+
 pub(crate) fn ask(
     rt: &impl Print,
     alloc: Global,
@@ -181,6 +235,9 @@ pub(crate) fn ask(
         "lists" => ask_lists(rt, world),
         "iterators" => ask_iterators(rt, world)?,
         "cache" => ask_cache(rt, world)?,
+        "index" => ask_index(rt, alloc)?,
+        "data" => ask_data(rt, alloc)?,
+        "cores" => ask_cores(rt, alloc)?,
         _ => ask_positions(rt, alloc)?,
     }
     Ok(())
