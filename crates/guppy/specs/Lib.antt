@@ -28,6 +28,7 @@ pub use Rattle.guppy_graph.specs.Keys
 pub use Rattle.guppy_graph.specs.Links
 pub use Rattle.guppy_graph.specs.Members
 pub use Rattle.guppy_graph.specs.Ordered
+pub use Rattle.guppy_graph.specs.PathOrder
 pub use Rattle.guppy_graph.specs.Refused
 pub use Rattle.guppy_graph.specs.Sections
 pub use Rattle.guppy_graph.specs.Targets
@@ -76,3 +77,4 @@ pub use Rattle.guppy_data.specs.Utf8Path
 pub use Rattle.guppy_search.specs.declared as SearchTypes
 pub use Rattle.guppy_core.specs.declared as CoreTypes
 pub use Rattle.guppy_data.specs.declared as DataTypes
+pub use Rattle.guppy_data.specs.contracts as DataContracts

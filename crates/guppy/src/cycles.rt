@@ -179,8 +179,8 @@ impl<'g> DoubleEndedIterator for AllCycles<'g> {
     }
 }
 
-/// The IDs of a cycle's packages that are still to come, in the order of the graph. Its `len` is
-/// exact.
+/// The IDs of a cycle's packages that are still to come, in the order of the graph. Its `len` and
+/// its `size_hint` are exact.
 #[derive(Drop)]
 pub struct CycleIds<'g> {
     graph: &'g PackageGraph,
@@ -189,7 +189,9 @@ pub struct CycleIds<'g> {
 }
 
 impl<'g> Iterator for CycleIds<'g> {
-    ghost use Rattle.std.specs.Iterator.{YieldsFirstRef, item_count};
+    ghost use Rattle.std.specs.Prelude.{Some};
+    ghost use Rattle.std.specs.Iterator.{YieldsFirstRef, UpTo, item_count};
+    ghost use Rattle.std.specs.Iterator.SizeHint.{IsWithinCount};
     ghost use Rattle.guppy.specs.ListedCycles.{cycle_left};
 
     type Item = &'g PackageId;
@@ -203,8 +205,12 @@ impl<'g> Iterator for CycleIds<'g> {
         Some(&self.graph.package_at(ix.index()).id)
     }
 
-    fn size_hint(&self) -> (usize, Option<usize>) {
-        self.rest.size_hint()
+    fn size_hint(&self) -> (usize, Option<usize>)
+        ensures lower { IsWithinCount result.0 (item_count cycle_left self.now) }
+        ensures upper { IfSome result.1 (UpTo (item_count cycle_left self.now)) }
+        ensures exact { let n = length (cycle_left self.now) in result ≡ (n, Some n) }
+    {
+        (self.len(), Some(self.len()))
     }
 }
 

@@ -5,15 +5,15 @@ use Rattle.std.specs.Iterator.{Yields, YieldsFirstBy}
 use Rattle.std.specs.Ordering.{eq_by_cmp, is_eq}
 use Rattle.std.specs.declared.cmp.Ordering.TheVariants.{Equal}
 use Rattle.std.proofs.lemmas.Iterator.Consumers.{YieldsList-from_first, YieldsList-end}
-use Rattle.guppy_search.specs.declared.ix.direction.DependencyDirection.TheVariants.{Reverse}
-use Rattle.guppy_search.specs.IxSet.{IsIn, IsIntersection}
-use Rattle.guppy_search.specs.Reach.{LinkStep, ReachedFrom}
-use Rattle.guppy_data.specs.Path.{components, path_cmp}
-use Rattle.guppy_data.specs.SamePath.{same_components}
-use Rattle.guppy_data.specs.declared.records.PackageRecord.{PackageRecord}
-use Rattle.guppy_graph.specs.Graph.{GraphData}
-use Rattle.guppy_graph.specs.Members.{IsMember, AreMembersByPath}
-use Rattle.guppy_graph.specs.PathOrder.{path_total}
+use Rattle.guppy.specs.SearchTypes.ix.direction.DependencyDirection.TheVariants.{Reverse}
+use Rattle.guppy.specs.IxSet.{IsIn, IsIntersection}
+use Rattle.guppy.specs.Reach.{LinkStep, ReachedFrom}
+use Rattle.guppy.specs.Path.{components, path_cmp}
+use Rattle.guppy.specs.SamePath.{same_components}
+use Rattle.guppy.specs.DataTypes.records.PackageRecord.{PackageRecord}
+use Rattle.guppy.specs.Graph.{GraphData}
+use Rattle.guppy.specs.Members.{IsMember, AreMembersByPath}
+use Rattle.guppy.specs.PathOrder.{path_total}
 use Rattle.guppy.specs.declared.metadata.PackageMetadata.{PackageMetadata}
 use Rattle.guppy.specs.Query.{IsSetWhere, SetData, QueryData, initials_of}
 use Rattle.guppy.specs.Views.{graph_of, package_position, package_seen}

@@ -1,4 +1,6 @@
 pub mod Begins
+pub mod Elements
 pub mod Owners
+pub mod Walks
 pub mod Touching
 pub mod Found

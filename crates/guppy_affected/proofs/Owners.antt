@@ -9,13 +9,12 @@ use Rattle.std.specs.Cmp.Lexicographic.{slice_cmp, on_texts}
 use Rattle.std.specs.declared.cmp.Ordering.{Ordering}
 use Rattle.std.specs.declared.cmp.Ordering.TheVariants.{Less, Equal, Greater}
 use Rattle.std.proofs.lemmas.List.Elements.{Contains-append_cases, Contains-append_right}
-use Rattle.guppy_data.specs.Path.{Part, components, part_cmp, path_cmp, rank_of, name_of}
-use Rattle.guppy_data.specs.declared.records.PackageRecord.{PackageRecord}
-use Rattle.guppy_graph.specs.Keys.{or_empty}
-use Rattle.guppy_graph.specs.Members.{path_at, IsMember, AreMembersByPath}
-use Rattle.guppy_graph.proofs.Membership.{members_are}
-use Rattle.guppy.proofs.CyclicComponents.{Contains-map, from_map}
+use Rattle.guppy.specs.Path.{Part, components, part_cmp, path_cmp, rank_of, name_of}
+use Rattle.guppy.specs.DataTypes.records.PackageRecord.{PackageRecord}
+use Rattle.guppy.specs.Keys.{or_empty}
+use Rattle.guppy.specs.Members.{path_at, IsMember, AreMembersByPath}
 use Rattle.guppy_affected.specs.Folders.{Begins, Holds, Belongs, depth}
+use Rattle.guppy_affected.proofs.Elements.{Contains-map, from_map, members_are}
 
 own_reverse : (o : Ordering) → o ≡ ordering_reverse o → o ≡ Equal
 own_reverse Less h = absurd (cc)

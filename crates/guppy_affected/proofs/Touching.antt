@@ -2,16 +2,16 @@
 use Rattle.std.proofs.Common.{◌≡◌, ◌≢◌, ◌⊎◌, inl, inr, ⊎_elim, refl, sym, subst, ℕ, zero, suc, ◌<◌, true, false, List, [], ◌∷◌, ◌++◌, Contains, replicate, arith}
 use Rattle.std.specs.Prelude.{◌↔◌}
 use Rattle.std.proofs.lemmas.List.Elements.{Contains-append_cases, Contains-append_left, Contains-append_right}
-use Rattle.guppy_search.specs.declared.ix.direction.DependencyDirection.TheVariants.{Forward, Reverse}
-use Rattle.guppy_search.specs.IxSet.{IsIn}
-use Rattle.guppy_search.specs.Reach.{LinkStep, ReachedFrom, here}
-use Rattle.guppy_search.proofs.Walks.{walk_back, step_back, step_forth}
-use Rattle.guppy_data.specs.declared.records.PackageRecord.{PackageRecord}
-use Rattle.guppy_graph.specs.Graph.{GraphData}
-use Rattle.guppy_graph.specs.Members.{IsMember}
+use Rattle.guppy.specs.SearchTypes.ix.direction.DependencyDirection.TheVariants.{Forward, Reverse}
+use Rattle.guppy.specs.IxSet.{IsIn}
+use Rattle.guppy.specs.Reach.{LinkStep, ReachedFrom, here}
+use Rattle.guppy.specs.DataTypes.records.PackageRecord.{PackageRecord}
+use Rattle.guppy.specs.Graph.{GraphData}
+use Rattle.guppy.specs.Members.{IsMember}
 use Rattle.guppy_affected.specs.Folders.{Belongs, depth}
 use Rattle.guppy_affected.specs.Affected.{IsOfWorkspace, IsEveryones, Touches, IsTouched, IsAffected}
 use Rattle.guppy_affected.proofs.Owners.{Holds-member}
+use Rattle.guppy_affected.proofs.Walks.{walk_back, walk_forth}
 
 -- numbers of which neither differs from the other are one
 same_number : (p q : ℕ) → (p ≢ q → ⊥) → p ≡ q
@@ -68,11 +68,10 @@ module _ (g : GraphData) (paths : List (List ℕ)) (p : ℕ) where
     (
       path,
       there,
-      ⊎_elim (λ everyones. inl everyones)
-          (λ belongs. inr (q, belongs, walk_back (LinkStep Reverse g.links) (LinkStep Forward g.links) (λ x y s. step_forth (λ _. true) g.links x y s) walk)) touches.1,
+      ⊎_elim (λ everyones. inl everyones) (λ belongs. inr (q, belongs, walk_forth g.links walk)) touches.1,
     ),
   )
 
   pub affected_reached : IsAffected g paths p → ReachedFrom (LinkStep Reverse g.links) (IsTouched g.packages paths) p
   affected_reached (member, (path, there, affects)) = ⊎_elim (λ everyones. (p, (path, there, (member, inl everyones)), here))
-      (λ (q, belongs, walk). (q, (path, there, (Holds-member g.packages path q belongs.holds, inr belongs)), walk_back (LinkStep Forward g.links) (LinkStep Reverse g.links) (λ x y s. step_back (λ _. true) g.links x y s) walk)) affects
+      (λ (q, belongs, walk). (q, (path, there, (Holds-member g.packages path q belongs.holds, inr belongs)), walk_back g.links walk)) affects

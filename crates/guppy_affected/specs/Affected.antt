@@ -1,8 +1,8 @@
 -- Which members of a workspace are to be tested after files changed.
 use Rattle.std.specs.Prelude.{◌≡◌, ◌≢◌, ◌⊎◌, ◌↔◌, ℕ, List, Contains, codes}
-use Rattle.guppy_search.specs.declared.ix.direction.DependencyDirection.TheVariants.{Forward, Reverse}
-use Rattle.guppy_data.specs.Path.{components}
-use Rattle.guppy_data.specs.declared.records.PackageRecord.{PackageRecord}
+use Rattle.guppy.specs.SearchTypes.ix.direction.DependencyDirection.TheVariants.{Forward, Reverse}
+use Rattle.guppy.specs.Path.{components}
+use Rattle.guppy.specs.DataTypes.records.PackageRecord.{PackageRecord}
 use Rattle.guppy.specs.FirmCycles.{HasNoFirmCycle}
 use Rattle.guppy.specs.Graph.{GraphData}
 use Rattle.guppy.specs.Listed.{ids_at, positions_listed}

@@ -1,9 +1,9 @@
 -- Which member of a workspace a path belongs to.
 use Rattle.std.specs.Prelude.{◌≡◌, ◌≢◌, ℕ, ◌<◌, List, ◌++◌, length, IsSomeAnd}
-use Rattle.guppy_data.specs.Path.{components}
-use Rattle.guppy_data.specs.declared.records.PackageRecord.{PackageRecord}
-use Rattle.guppy_graph.specs.Keys.{or_empty}
-use Rattle.guppy_graph.specs.Members.{path_at}
+use Rattle.guppy.specs.Path.{components}
+use Rattle.guppy.specs.DataTypes.records.PackageRecord.{PackageRecord}
+use Rattle.guppy.specs.Keys.{or_empty}
+use Rattle.guppy.specs.Members.{path_at}
 
 -- the list begins with these
 abbrev pub Begins : {X : Type 0} → List X → List X → Type 0

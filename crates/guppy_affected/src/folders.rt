@@ -1,7 +1,7 @@
 //! The member that a path belongs to.
 ghost use Rattle.std.specs.Prelude.{◌≡◌, ◌↔◌, ℕ, IsTrue, MatchOption};
-ghost use Rattle.guppy_data.specs.Path.{components};
-ghost use Rattle.guppy_data.specs.Utf8Path.{path_text};
+ghost use Rattle.guppy.specs.Path.{components};
+ghost use Rattle.guppy.specs.Utf8Path.{path_text};
 ghost use Rattle.guppy.specs.Views.{graph_of, package_position};
 ghost use Rattle.guppy_affected.specs.Folders.{Begins, Holds, Belongs};
 

@@ -1,7 +1,7 @@
 //! The members that changed themselves.
 ghost use Rattle.std.specs.Prelude.{◌≡◌, ◌↔◌, IsTrue, map, string_bytes, IfOk, IsOkUnless};
-ghost use Rattle.guppy_data.specs.Path.{components};
-ghost use Rattle.guppy_data.specs.Utf8Path.{path_text};
+ghost use Rattle.guppy.specs.Path.{components};
+ghost use Rattle.guppy.specs.Utf8Path.{path_text};
 ghost use Rattle.guppy.specs.Query.{IsSetWhere};
 ghost use Rattle.guppy_affected.specs.Affected.{IsOfWorkspace, Touches, IsTouched};
 

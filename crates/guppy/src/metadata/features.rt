@@ -67,14 +67,16 @@ impl<'g> PackageMetadata<'g> {
     }
 }
 
-/// The names of named features that are still to come. Its `len` is exact.
+/// The names of named features that are still to come. Its `len` and its `size_hint` are exact.
 #[derive(Drop)]
 pub struct NamedFeatures<'g> {
     rest: map::Keys<'g, String, Vec<NamedFeatureDep>>,
 }
 
 impl<'g> Iterator for NamedFeatures<'g> {
-    ghost use Rattle.std.specs.Iterator.{YieldsFirstRef, item_count};
+    ghost use Rattle.std.specs.Prelude.{Some, IfSome};
+    ghost use Rattle.std.specs.Iterator.{YieldsFirstRef, UpTo, item_count};
+    ghost use Rattle.std.specs.Iterator.SizeHint.{IsWithinCount};
     ghost use Rattle.guppy.specs.FeatureIterators.{names_left};
 
     type Item = &'g str;
@@ -90,8 +92,12 @@ impl<'g> Iterator for NamedFeatures<'g> {
         }
     }
 
-    fn size_hint(&self) -> (usize, Option<usize>) {
-        self.rest.size_hint()
+    fn size_hint(&self) -> (usize, Option<usize>)
+        ensures lower { IsWithinCount result.0 (item_count names_left self.now) }
+        ensures upper { IfSome result.1 (UpTo (item_count names_left self.now)) }
+        ensures exact { let n = length (names_left self.now) in result ≡ (n, Some n) }
+    {
+        (self.len(), Some(self.len()))
     }
 }
 
@@ -102,7 +108,7 @@ impl ExactSizeIterator for NamedFeatures<'_> {
 }
 
 /// The named features that are still to come, each with its place, its name and what it switches
-/// on. Its `len` is exact.
+/// on. Its `len` and its `size_hint` are exact.
 #[derive(Drop)]
 pub struct NamedFeaturesFull<'g> {
     place: usize,
@@ -111,7 +117,9 @@ pub struct NamedFeaturesFull<'g> {
 }
 
 impl<'g> Iterator for NamedFeaturesFull<'g> {
-    ghost use Rattle.std.specs.Iterator.{YieldsFirstBy, item_count};
+    ghost use Rattle.std.specs.Prelude.{Some, IfSome};
+    ghost use Rattle.std.specs.Iterator.{YieldsFirstBy, UpTo, item_count};
+    ghost use Rattle.std.specs.Iterator.SizeHint.{IsWithinCount};
     ghost use Rattle.guppy.specs.FeatureIterators.{feature_seen, features_left};
 
     type Item = (FeatureIndexInPackage, &'g str, &'g [NamedFeatureDep]);
@@ -131,8 +139,12 @@ impl<'g> Iterator for NamedFeaturesFull<'g> {
         }
     }
 
-    fn size_hint(&self) -> (usize, Option<usize>) {
-        self.rest.size_hint()
+    fn size_hint(&self) -> (usize, Option<usize>)
+        ensures lower { IsWithinCount result.0 (item_count features_left self.now) }
+        ensures upper { IfSome result.1 (UpTo (item_count features_left self.now)) }
+        ensures exact { let n = length (features_left self.now) in result ≡ (n, Some n) }
+    {
+        (self.len(), Some(self.len()))
     }
 }
 
@@ -142,8 +154,8 @@ impl ExactSizeIterator for NamedFeaturesFull<'_> {
     }
 }
 
-/// The optional dependencies that are still to come, each with its place and its name. Its `len` is
-/// exact.
+/// The optional dependencies that are still to come, each with its place and its name. Its `len`
+/// and its `size_hint` are exact.
 #[derive(Drop)]
 pub struct OptionalDepsFull<'g> {
     place: usize,
@@ -152,7 +164,9 @@ pub struct OptionalDepsFull<'g> {
 }
 
 impl<'g> Iterator for OptionalDepsFull<'g> {
-    ghost use Rattle.std.specs.Iterator.{YieldsFirstBy, item_count};
+    ghost use Rattle.std.specs.Prelude.{Some, IfSome};
+    ghost use Rattle.std.specs.Iterator.{YieldsFirstBy, UpTo, item_count};
+    ghost use Rattle.std.specs.Iterator.SizeHint.{IsWithinCount};
     ghost use Rattle.guppy.specs.FeatureIterators.{dep_seen, deps_left};
 
     type Item = (FeatureIndexInPackage, &'g str);
@@ -172,8 +186,12 @@ impl<'g> Iterator for OptionalDepsFull<'g> {
         }
     }
 
-    fn size_hint(&self) -> (usize, Option<usize>) {
-        self.rest.size_hint()
+    fn size_hint(&self) -> (usize, Option<usize>)
+        ensures lower { IsWithinCount result.0 (item_count deps_left self.now) }
+        ensures upper { IfSome result.1 (UpTo (item_count deps_left self.now)) }
+        ensures exact { let n = length (deps_left self.now) in result ≡ (n, Some n) }
+    {
+        (self.len(), Some(self.len()))
     }
 }
 

@@ -114,7 +114,7 @@ impl<'g> PackageMetadata<'g> {
     }
 }
 
-/// Links of a graph that are still to come. Its `len` is exact.
+/// Links of a graph that are still to come. Its `len` and its `size_hint` are exact.
 #[derive(Drop)]
 pub struct PackageLinks<'g> {
     graph: &'g PackageGraph,
@@ -123,7 +123,9 @@ pub struct PackageLinks<'g> {
 }
 
 impl<'g> Iterator for PackageLinks<'g> {
-    ghost use Rattle.std.specs.Iterator.{YieldsFirstBy, item_count};
+    ghost use Rattle.std.specs.Prelude.{Some, IfSome};
+    ghost use Rattle.std.specs.Iterator.{YieldsFirstBy, UpTo, item_count};
+    ghost use Rattle.std.specs.Iterator.SizeHint.{IsWithinCount};
     ghost use Rattle.guppy.specs.Views.{link_seen};
     ghost use Rattle.guppy.specs.DirectLinks.{links_left};
 
@@ -143,8 +145,12 @@ impl<'g> Iterator for PackageLinks<'g> {
         }
     }
 
-    fn size_hint(&self) -> (usize, Option<usize>) {
-        self.rest.size_hint()
+    fn size_hint(&self) -> (usize, Option<usize>)
+        ensures lower { IsWithinCount result.0 (item_count links_left self.now) }
+        ensures upper { IfSome result.1 (UpTo (item_count links_left self.now)) }
+        ensures exact { let n = length (links_left self.now) in result ≡ (n, Some n) }
+    {
+        (self.len(), Some(self.len()))
     }
 }
 

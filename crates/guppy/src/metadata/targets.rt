@@ -90,7 +90,7 @@ fn target_with_id<'g>(
     None
 }
 
-/// The build targets of a package that are still to come. Its `len` is exact.
+/// The build targets of a package that are still to come. Its `len` and its `size_hint` are exact.
 #[derive(Drop)]
 pub struct BuildTargets<'g> {
     targets: &'g [BuildTargetRecord],
@@ -100,7 +100,9 @@ pub struct BuildTargets<'g> {
 }
 
 impl<'g> Iterator for BuildTargets<'g> {
-    ghost use Rattle.std.specs.Iterator.{YieldsFirstBy, item_count};
+    ghost use Rattle.std.specs.Prelude.{Some, IfSome};
+    ghost use Rattle.std.specs.Iterator.{YieldsFirstBy, UpTo, item_count};
+    ghost use Rattle.std.specs.Iterator.SizeHint.{IsWithinCount};
     ghost use Rattle.guppy_data.specs.BuildTarget.{seen_target};
     ghost use Rattle.guppy.specs.TargetIterators.{targets_left};
 
@@ -117,8 +119,12 @@ impl<'g> Iterator for BuildTargets<'g> {
         }
     }
 
-    fn size_hint(&self) -> (usize, Option<usize>) {
-        self.rest.size_hint()
+    fn size_hint(&self) -> (usize, Option<usize>)
+        ensures lower { IsWithinCount result.0 (item_count targets_left self.now) }
+        ensures upper { IfSome result.1 (UpTo (item_count targets_left self.now)) }
+        ensures exact { let n = length (targets_left self.now) in result ≡ (n, Some n) }
+    {
+        (self.len(), Some(self.len()))
     }
 }
 

@@ -221,14 +221,16 @@ impl PackageGraph {
     }
 }
 
-/// The IDs of a graph's packages that are still to come. Its `len` is exact.
+/// The IDs of a graph's packages that are still to come. Its `len` and its `size_hint` are exact.
 #[derive(Drop)]
 pub struct PackageIds<'g> {
     rest: slice::Iter<'g, PackageRecord>,
 }
 
 impl<'g> Iterator for PackageIds<'g> {
-    ghost use Rattle.std.specs.Iterator.{YieldsFirstRef, item_count};
+    ghost use Rattle.std.specs.Prelude.{Some, IfSome};
+    ghost use Rattle.std.specs.Iterator.{YieldsFirstRef, UpTo, item_count};
+    ghost use Rattle.std.specs.Iterator.SizeHint.{IsWithinCount};
     ghost use Rattle.guppy.specs.Iterators.{ids_left};
 
     type Item = &'g PackageId;
@@ -244,8 +246,12 @@ impl<'g> Iterator for PackageIds<'g> {
         }
     }
 
-    fn size_hint(&self) -> (usize, Option<usize>) {
-        self.rest.size_hint()
+    fn size_hint(&self) -> (usize, Option<usize>)
+        ensures lower { IsWithinCount result.0 (item_count ids_left self.now) }
+        ensures upper { IfSome result.1 (UpTo (item_count ids_left self.now)) }
+        ensures exact { let n = length (ids_left self.now) in result ≡ (n, Some n) }
+    {
+        (self.len(), Some(self.len()))
     }
 }
 
@@ -255,7 +261,7 @@ impl ExactSizeIterator for PackageIds<'_> {
     }
 }
 
-/// The packages of a graph that are still to come. Its `len` is exact.
+/// The packages of a graph that are still to come. Its `len` and its `size_hint` are exact.
 #[derive(Drop)]
 pub struct AllPackages<'g> {
     graph: &'g PackageGraph,
@@ -264,7 +270,9 @@ pub struct AllPackages<'g> {
 }
 
 impl<'g> Iterator for AllPackages<'g> {
-    ghost use Rattle.std.specs.Iterator.{YieldsFirstBy, item_count};
+    ghost use Rattle.std.specs.Prelude.{Some, IfSome};
+    ghost use Rattle.std.specs.Iterator.{YieldsFirstBy, UpTo, item_count};
+    ghost use Rattle.std.specs.Iterator.SizeHint.{IsWithinCount};
     ghost use Rattle.guppy.specs.Views.{package_seen};
     ghost use Rattle.guppy.specs.Iterators.{packages_left};
 
@@ -284,8 +292,12 @@ impl<'g> Iterator for AllPackages<'g> {
         }
     }
 
-    fn size_hint(&self) -> (usize, Option<usize>) {
-        self.rest.size_hint()
+    fn size_hint(&self) -> (usize, Option<usize>)
+        ensures lower { IsWithinCount result.0 (item_count packages_left self.now) }
+        ensures upper { IfSome result.1 (UpTo (item_count packages_left self.now)) }
+        ensures exact { let n = length (packages_left self.now) in result ≡ (n, Some n) }
+    {
+        (self.len(), Some(self.len()))
     }
 }
 

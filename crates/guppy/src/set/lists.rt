@@ -56,7 +56,7 @@ impl<'g> PackageSet<'g> {
 }
 
 /// The packages of a set that are still to come, in the order of the graph or from its end. Its
-/// `len` is exact.
+/// `len` and its `size_hint` are exact.
 #[derive(Drop)]
 pub struct ListedPackages<'s, 'g> {
     graph: &'g PackageGraph,
@@ -65,7 +65,9 @@ pub struct ListedPackages<'s, 'g> {
 }
 
 impl<'s, 'g> Iterator for ListedPackages<'s, 'g> {
-    ghost use Rattle.std.specs.Iterator.{YieldsFirstBy, item_count};
+    ghost use Rattle.std.specs.Prelude.{Some, IfSome};
+    ghost use Rattle.std.specs.Iterator.{YieldsFirstBy, UpTo, item_count};
+    ghost use Rattle.std.specs.Iterator.SizeHint.{IsWithinCount};
     ghost use Rattle.guppy.specs.Views.{package_data};
     ghost use Rattle.guppy.specs.Listed.{listed_left};
 
@@ -85,8 +87,12 @@ impl<'s, 'g> Iterator for ListedPackages<'s, 'g> {
         }
     }
 
-    fn size_hint(&self) -> (usize, Option<usize>) {
-        self.rest.size_hint()
+    fn size_hint(&self) -> (usize, Option<usize>)
+        ensures lower { IsWithinCount result.0 (item_count listed_left self.now) }
+        ensures upper { IfSome result.1 (UpTo (item_count listed_left self.now)) }
+        ensures exact { let n = length (listed_left self.now) in result ≡ (n, Some n) }
+    {
+        (self.len(), Some(self.len()))
     }
 }
 
@@ -97,14 +103,16 @@ impl ExactSizeIterator for ListedPackages<'_, '_> {
 }
 
 /// The IDs of a set's packages that are still to come, in the order of the graph or from its end.
-/// Its `len` is exact.
+/// Its `len` and its `size_hint` are exact.
 #[derive(Drop)]
 pub struct ListedPackageIds<'s, 'g> {
     packages: ListedPackages<'s, 'g>,
 }
 
 impl<'s, 'g> Iterator for ListedPackageIds<'s, 'g> {
-    ghost use Rattle.std.specs.Iterator.{YieldsFirstRef, item_count};
+    ghost use Rattle.std.specs.Prelude.{Some, IfSome};
+    ghost use Rattle.std.specs.Iterator.{YieldsFirstRef, UpTo, item_count};
+    ghost use Rattle.std.specs.Iterator.SizeHint.{IsWithinCount};
     ghost use Rattle.guppy.specs.Listed.{listed_ids_left};
 
     type Item = &'g PackageId;
@@ -120,8 +128,12 @@ impl<'s, 'g> Iterator for ListedPackageIds<'s, 'g> {
         }
     }
 
-    fn size_hint(&self) -> (usize, Option<usize>) {
-        self.packages.size_hint()
+    fn size_hint(&self) -> (usize, Option<usize>)
+        ensures lower { IsWithinCount result.0 (item_count listed_ids_left self.now) }
+        ensures upper { IfSome result.1 (UpTo (item_count listed_ids_left self.now)) }
+        ensures exact { let n = length (listed_ids_left self.now) in result ≡ (n, Some n) }
+    {
+        (self.len(), Some(self.len()))
     }
 }
 

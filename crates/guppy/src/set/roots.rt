@@ -45,7 +45,7 @@ impl<'g> PackageSet<'g> {
     }
 }
 
-/// The roots of a set that are still to come, by position. Its `len` is exact.
+/// The roots of a set that are still to come, by position. Its `len` and its `size_hint` are exact.
 #[derive(Drop)]
 pub struct RootPackages<'g> {
     graph: &'g PackageGraph,
@@ -55,7 +55,9 @@ pub struct RootPackages<'g> {
 }
 
 impl<'g> Iterator for RootPackages<'g> {
-    ghost use Rattle.std.specs.Iterator.{YieldsFirstBy, item_count};
+    ghost use Rattle.std.specs.Prelude.{Some, IfSome};
+    ghost use Rattle.std.specs.Iterator.{YieldsFirstBy, UpTo, item_count};
+    ghost use Rattle.std.specs.Iterator.SizeHint.{IsWithinCount};
     ghost use Rattle.guppy.specs.Views.{package_data};
     ghost use Rattle.guppy.specs.Rooted.{roots_left};
 
@@ -75,8 +77,12 @@ impl<'g> Iterator for RootPackages<'g> {
         }
     }
 
-    fn size_hint(&self) -> (usize, Option<usize>) {
-        self.rest.size_hint()
+    fn size_hint(&self) -> (usize, Option<usize>)
+        ensures lower { IsWithinCount result.0 (item_count roots_left self.now) }
+        ensures upper { IfSome result.1 (UpTo (item_count roots_left self.now)) }
+        ensures exact { let n = length (roots_left self.now) in result ≡ (n, Some n) }
+    {
+        (self.len(), Some(self.len()))
     }
 }
 
@@ -86,14 +92,17 @@ impl ExactSizeIterator for RootPackages<'_> {
     }
 }
 
-/// The IDs of a set's roots that are still to come, by position. Its `len` is exact.
+/// The IDs of a set's roots that are still to come, by position. Its `len` and its `size_hint` are
+/// exact.
 #[derive(Drop)]
 pub struct RootIds<'g> {
     packages: RootPackages<'g>,
 }
 
 impl<'g> Iterator for RootIds<'g> {
-    ghost use Rattle.std.specs.Iterator.{YieldsFirstRef, item_count};
+    ghost use Rattle.std.specs.Prelude.{Some, IfSome};
+    ghost use Rattle.std.specs.Iterator.{YieldsFirstRef, UpTo, item_count};
+    ghost use Rattle.std.specs.Iterator.SizeHint.{IsWithinCount};
     ghost use Rattle.guppy.specs.Rooted.{root_ids_left};
 
     type Item = &'g PackageId;
@@ -109,8 +118,12 @@ impl<'g> Iterator for RootIds<'g> {
         }
     }
 
-    fn size_hint(&self) -> (usize, Option<usize>) {
-        self.packages.size_hint()
+    fn size_hint(&self) -> (usize, Option<usize>)
+        ensures lower { IsWithinCount result.0 (item_count root_ids_left self.now) }
+        ensures upper { IfSome result.1 (UpTo (item_count root_ids_left self.now)) }
+        ensures exact { let n = length (root_ids_left self.now) in result ≡ (n, Some n) }
+    {
+        (self.len(), Some(self.len()))
     }
 }
 

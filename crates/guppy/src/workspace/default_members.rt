@@ -38,14 +38,16 @@ impl<'g> Workspace<'g> {
     }
 }
 
-/// The IDs of default members that are still to come. Its `len` is exact.
+/// The IDs of default members that are still to come. Its `len` and its `size_hint` are exact.
 #[derive(Drop)]
 pub struct DefaultMemberIds<'g> {
     rest: slice::Iter<'g, PackageId>,
 }
 
 impl<'g> Iterator for DefaultMemberIds<'g> {
-    ghost use Rattle.std.specs.Iterator.{YieldsFirstRef, item_count};
+    ghost use Rattle.std.specs.Prelude.{Some, IfSome, length};
+    ghost use Rattle.std.specs.Iterator.{YieldsFirstRef, UpTo, item_count};
+    ghost use Rattle.std.specs.Iterator.SizeHint.{IsWithinCount};
     ghost use Rattle.guppy.specs.WorkspaceIterators.{default_ids_left};
 
     type Item = &'g PackageId;
@@ -58,8 +60,12 @@ impl<'g> Iterator for DefaultMemberIds<'g> {
         self.rest.next()
     }
 
-    fn size_hint(&self) -> (usize, Option<usize>) {
-        self.rest.size_hint()
+    fn size_hint(&self) -> (usize, Option<usize>)
+        ensures lower { IsWithinCount result.0 (item_count default_ids_left self.now) }
+        ensures upper { IfSome result.1 (UpTo (item_count default_ids_left self.now)) }
+        ensures exact { let n = length (default_ids_left self.now) in result ≡ (n, Some n) }
+    {
+        (self.len(), Some(self.len()))
     }
 }
 
@@ -69,7 +75,7 @@ impl ExactSizeIterator for DefaultMemberIds<'_> {
     }
 }
 
-/// Default members that are still to come. Its `len` is exact.
+/// Default members that are still to come. Its `len` and its `size_hint` are exact.
 #[derive(Drop)]
 pub struct DefaultMembers<'g> {
     graph: &'g PackageGraph,
@@ -79,7 +85,9 @@ pub struct DefaultMembers<'g> {
 }
 
 impl<'g> Iterator for DefaultMembers<'g> {
-    ghost use Rattle.std.specs.Iterator.{YieldsFirstBy, item_count};
+    ghost use Rattle.std.specs.Prelude.{Some, IfSome, length};
+    ghost use Rattle.std.specs.Iterator.{YieldsFirstBy, UpTo, item_count};
+    ghost use Rattle.std.specs.Iterator.SizeHint.{IsWithinCount};
     ghost use Rattle.guppy.specs.WorkspaceIterators.{default_seen, defaults_left};
 
     type Item = PackageMetadata<'g>;
@@ -101,8 +109,12 @@ impl<'g> Iterator for DefaultMembers<'g> {
         }
     }
 
-    fn size_hint(&self) -> (usize, Option<usize>) {
-        self.rest.size_hint()
+    fn size_hint(&self) -> (usize, Option<usize>)
+        ensures lower { IsWithinCount result.0 (item_count defaults_left self.now) }
+        ensures upper { IfSome result.1 (UpTo (item_count defaults_left self.now)) }
+        ensures exact { let n = length (defaults_left self.now) in result ≡ (n, Some n) }
+    {
+        (self.len(), Some(self.len()))
     }
 }
 

@@ -65,7 +65,7 @@ impl<'g> Workspace<'g> {
     }
 }
 
-/// Members of a workspace that are still to come. Its `len` is exact.
+/// Members of a workspace that are still to come. Its `len` and its `size_hint` are exact.
 #[derive(Drop)]
 pub struct Members<'g> {
     graph: &'g PackageGraph,
@@ -74,7 +74,9 @@ pub struct Members<'g> {
 }
 
 impl<'g> Iterator for Members<'g> {
-    ghost use Rattle.std.specs.Iterator.{YieldsFirstBy, item_count};
+    ghost use Rattle.std.specs.Prelude.{Some, IfSome};
+    ghost use Rattle.std.specs.Iterator.{YieldsFirstBy, UpTo, item_count};
+    ghost use Rattle.std.specs.Iterator.SizeHint.{IsWithinCount};
     ghost use Rattle.guppy.specs.Views.{package_seen};
     ghost use Rattle.guppy.specs.WorkspaceIterators.{members_left};
 
@@ -94,8 +96,12 @@ impl<'g> Iterator for Members<'g> {
         }
     }
 
-    fn size_hint(&self) -> (usize, Option<usize>) {
-        self.rest.size_hint()
+    fn size_hint(&self) -> (usize, Option<usize>)
+        ensures lower { IsWithinCount result.0 (item_count members_left self.now) }
+        ensures upper { IfSome result.1 (UpTo (item_count members_left self.now)) }
+        ensures exact { let n = length (members_left self.now) in result ≡ (n, Some n) }
+    {
+        (self.len(), Some(self.len()))
     }
 }
 
@@ -105,14 +111,17 @@ impl ExactSizeIterator for Members<'_> {
     }
 }
 
-/// Members of a workspace that are still to come, each with its path. Its `len` is exact.
+/// Members of a workspace that are still to come, each with its path. Its `len` and its `size_hint`
+/// are exact.
 #[derive(Drop)]
 pub struct MembersByPath<'g> {
     members: Members<'g>,
 }
 
 impl<'g> Iterator for MembersByPath<'g> {
-    ghost use Rattle.std.specs.Iterator.{YieldsFirstBy, item_count};
+    ghost use Rattle.std.specs.Prelude.{Some, IfSome};
+    ghost use Rattle.std.specs.Iterator.{YieldsFirstBy, UpTo, item_count};
+    ghost use Rattle.std.specs.Iterator.SizeHint.{IsWithinCount};
     ghost use Rattle.guppy.specs.WorkspaceIterators.{path_and_member_seen, by_path_left};
 
     type Item = (Utf8Path<'g>, PackageMetadata<'g>);
@@ -131,8 +140,12 @@ impl<'g> Iterator for MembersByPath<'g> {
         }
     }
 
-    fn size_hint(&self) -> (usize, Option<usize>) {
-        self.members.size_hint()
+    fn size_hint(&self) -> (usize, Option<usize>)
+        ensures lower { IsWithinCount result.0 (item_count by_path_left self.now) }
+        ensures upper { IfSome result.1 (UpTo (item_count by_path_left self.now)) }
+        ensures exact { let n = length (by_path_left self.now) in result ≡ (n, Some n) }
+    {
+        (self.len(), Some(self.len()))
     }
 }
 
@@ -142,14 +155,17 @@ impl ExactSizeIterator for MembersByPath<'_> {
     }
 }
 
-/// Members of a workspace that are still to come, each with its name. Its `len` is exact.
+/// Members of a workspace that are still to come, each with its name. Its `len` and its `size_hint`
+/// are exact.
 #[derive(Drop)]
 pub struct MembersByName<'g> {
     members: Members<'g>,
 }
 
 impl<'g> Iterator for MembersByName<'g> {
-    ghost use Rattle.std.specs.Iterator.{YieldsFirstBy, item_count};
+    ghost use Rattle.std.specs.Prelude.{Some, IfSome};
+    ghost use Rattle.std.specs.Iterator.{YieldsFirstBy, UpTo, item_count};
+    ghost use Rattle.std.specs.Iterator.SizeHint.{IsWithinCount};
     ghost use Rattle.guppy.specs.WorkspaceIterators.{name_and_member_seen, by_name_left};
 
     type Item = (&'g str, PackageMetadata<'g>);
@@ -168,8 +184,12 @@ impl<'g> Iterator for MembersByName<'g> {
         }
     }
 
-    fn size_hint(&self) -> (usize, Option<usize>) {
-        self.members.size_hint()
+    fn size_hint(&self) -> (usize, Option<usize>)
+        ensures lower { IsWithinCount result.0 (item_count by_name_left self.now) }
+        ensures upper { IfSome result.1 (UpTo (item_count by_name_left self.now)) }
+        ensures exact { let n = length (by_name_left self.now) in result ≡ (n, Some n) }
+    {
+        (self.len(), Some(self.len()))
     }
 }
 
@@ -179,14 +199,17 @@ impl ExactSizeIterator for MembersByName<'_> {
     }
 }
 
-/// The IDs of members of a workspace that are still to come. Its `len` is exact.
+/// The IDs of members of a workspace that are still to come. Its `len` and its `size_hint` are
+/// exact.
 #[derive(Drop)]
 pub struct MemberIds<'g> {
     members: Members<'g>,
 }
 
 impl<'g> Iterator for MemberIds<'g> {
-    ghost use Rattle.std.specs.Iterator.{YieldsFirstRef, item_count};
+    ghost use Rattle.std.specs.Prelude.{Some, IfSome};
+    ghost use Rattle.std.specs.Iterator.{YieldsFirstRef, UpTo, item_count};
+    ghost use Rattle.std.specs.Iterator.SizeHint.{IsWithinCount};
     ghost use Rattle.guppy.specs.WorkspaceIterators.{member_ids_left};
 
     type Item = &'g PackageId;
@@ -202,8 +225,12 @@ impl<'g> Iterator for MemberIds<'g> {
         }
     }
 
-    fn size_hint(&self) -> (usize, Option<usize>) {
-        self.members.size_hint()
+    fn size_hint(&self) -> (usize, Option<usize>)
+        ensures lower { IsWithinCount result.0 (item_count member_ids_left self.now) }
+        ensures upper { IfSome result.1 (UpTo (item_count member_ids_left self.now)) }
+        ensures exact { let n = length (member_ids_left self.now) in result ≡ (n, Some n) }
+    {
+        (self.len(), Some(self.len()))
     }
 }
 

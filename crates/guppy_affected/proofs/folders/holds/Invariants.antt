@@ -1,7 +1,7 @@
 use Rattle.std.specs.Prelude.{◌↔◌}
-use Rattle.guppy_data.specs.Component.{parts_left}
-use Rattle.guppy_data.specs.Path.{components}
-use Rattle.guppy_data.specs.Utf8Path.{path_text}
+use Rattle.guppy.specs.Component.{parts_left}
+use Rattle.guppy.specs.Path.{components}
+use Rattle.guppy.specs.Utf8Path.{path_text}
 use Rattle.guppy_affected.specs.Folders.{Begins}
 use Rattle.guppy_affected.proofs.folders.holds.Given as goal
 

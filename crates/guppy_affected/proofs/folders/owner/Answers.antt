@@ -1,8 +1,8 @@
 use Rattle.std.proofs.Common.{◌≡◌, ◌∙◌, subst, true, map, Bor}
 use Rattle.std.specs.Prelude.{ℕ, MatchOption}
 use Rattle.std.proofs.lemmas.List.{map_push}
-use Rattle.guppy_data.specs.Path.{components}
-use Rattle.guppy_data.specs.Utf8Path.{path_text}
+use Rattle.guppy.specs.Path.{components}
+use Rattle.guppy.specs.Utf8Path.{path_text}
 use Rattle.guppy.specs.Graph.{GraphData}
 use Rattle.guppy.specs.Views.{graph_of, package_position, workspace_graph}
 use Rattle.guppy.specs.WorkspaceIterators.{by_path_left, path_and_member_seen}

@@ -1,7 +1,7 @@
 use Rattle.std.proofs.Common.{map}
 use Rattle.std.specs.Prelude.{option_map}
-use Rattle.guppy_data.specs.Path.{components}
-use Rattle.guppy_data.specs.Utf8Path.{path_text}
+use Rattle.guppy.specs.Path.{components}
+use Rattle.guppy.specs.Utf8Path.{path_text}
 use Rattle.guppy.specs.Views.{package_seen}
 use Rattle.guppy.specs.WorkspaceIterators.{path_and_member_seen}
 use Rattle.guppy_affected.proofs.Owners.{IsLast}

@@ -1,5 +1,5 @@
 use Rattle.guppy_affected.proofs.Found.{same_path}
-use Rattle.guppy_data.specs.Utf8Path.{path_text}
+use Rattle.guppy.specs.Utf8Path.{path_text}
 use Rattle.guppy_affected.proofs.touched.is_path.Goals as goal
 
 pub returns : goal.returns

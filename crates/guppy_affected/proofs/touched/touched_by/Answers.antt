@@ -1,5 +1,5 @@
 use Rattle.std.proofs.Common.{inl, inr, subst, ap, ◌≡◌, ◌∙◌, true, Bor}
-use Rattle.guppy_data.specs.Utf8Path.{path_text}
+use Rattle.guppy.specs.Utf8Path.{path_text}
 use Rattle.guppy.specs.Graph.{GraphData}
 use Rattle.guppy.specs.Query.{IsSetWhere}
 use Rattle.guppy.specs.Views.{package_position}

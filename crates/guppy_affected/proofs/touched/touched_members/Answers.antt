@@ -1,10 +1,10 @@
 use Rattle.std.proofs.Common.{◌≡◌, ◌∙◌, inl, inr, ⊎_elim, sym, ap, subst, ◌+◌, false, length, map, take, string_bytes, [], ◌∷◌, ◌++◌}
 use Rattle.std.specs.Prelude.{◌↔◌}
 use Rattle.std.proofs.lemmas.List.{length-replicate, map_push, take_more, take_all}
-use Rattle.guppy_search.specs.IxSet.{IsIn}
+use Rattle.guppy.specs.IxSet.{IsIn}
 use Rattle.guppy.specs.Graph.{GraphData}
 use Rattle.guppy.specs.Ids.{ids_of}
-use Rattle.guppy_data.specs.Utf8Path.{path_text}
+use Rattle.guppy.specs.Utf8Path.{path_text}
 use Rattle.guppy_affected.specs.Affected.{IsTouched, Touches}
 use Rattle.guppy_affected.proofs.Touching.{IsTouched-none, IsTouched-push, none_in}
 use Rattle.guppy_affected.proofs.touched.touched_members.Goals as goal

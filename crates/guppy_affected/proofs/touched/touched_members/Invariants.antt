@@ -1,6 +1,6 @@
 use Rattle.std.proofs.Common.{◌≡◌, ℕ, map, take, length, string_bytes}
 use Rattle.std.specs.Prelude.{◌↔◌}
-use Rattle.guppy_search.specs.IxSet.{IsIn}
+use Rattle.guppy.specs.IxSet.{IsIn}
 use Rattle.guppy_affected.specs.Affected.{IsTouched}
 use Rattle.guppy_affected.proofs.touched.touched_members.Given as goal
 
