@@ -1,8 +1,8 @@
 -- Which members the paths touch, and which they affect.
-use Rattle.std.proofs.Common.{◌≡◌, ◌≢◌, ◌⊎◌, inl, inr, ⊎_elim, refl, sym, subst, ℕ, zero, suc, ◌<◌, true, false, List, [], ◌∷◌, ◌++◌, Contains, replicate, arith}
+use Rattle.std.proofs.Common.{◌≡◌, ◌≢◌, ◌⊎◌, inl, inr, ⊎_elim, refl, sym, subst, ℕ, zero, suc, ◌<◌, false, List, [], ◌∷◌, ◌++◌, Contains, replicate, arith}
 use Rattle.std.specs.Prelude.{◌↔◌}
 use Rattle.std.proofs.lemmas.List.Elements.{Contains-append_cases, Contains-append_left, Contains-append_right}
-use Rattle.guppy.specs.SearchTypes.ix.direction.DependencyDirection.TheVariants.{Forward, Reverse}
+use Rattle.guppy.specs.SearchTypes.ix.direction.DependencyDirection.TheVariants.{Reverse}
 use Rattle.guppy.specs.IxSet.{IsIn}
 use Rattle.guppy.specs.Reach.{LinkStep, ReachedFrom, here}
 use Rattle.guppy.specs.DataTypes.records.PackageRecord.{PackageRecord}

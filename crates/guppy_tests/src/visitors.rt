@@ -1,5 +1,5 @@
 //! Visitors, each with its meaning: what it answers at each state, and the state that it leaves.
-ghost use Rattle.std.specs.Prelude.{◌≡◌, ◌⊎◌, ◌==◌, ◌||◌, if◌then◌else◌, slice_set, ℕ, ◌+◌, ◌-◌, ◌%◌, ◌^◌, Bool, true, false, not, max, nat_lt, List, length, slice_get, slice_index_or, IfOk, IsSomeAnd};
+ghost use Rattle.std.specs.Prelude.{◌≡◌, ◌⊎◌, ◌==◌, ◌||◌, ℕ, ◌+◌, ◌-◌, ◌%◌, ◌^◌, Bool, true, false, not, max, nat_lt, List, length, slice_get, slice_index_or, IfOk, IsSomeAnd};
 ghost use Rattle.guppy.specs.DevOnly.{is_dev_only};
 ghost use Rattle.guppy.specs.IxSet.{IsIn};
 ghost use Rattle.guppy.specs.LinksByPosition.{far_end};
@@ -82,10 +82,10 @@ pub fn over_even_links<'g>(query: PackageQuery<'g>) -> Result<PackageSet<'g>, Er
                 (λ p. IsIn cx.now.initials p ⊎ IsIn led_to p) (link_data link).number }
             requires count { length led_to ≡ length (link_data link).graph.packages }
             ensures count { length led_to.exit ≡ length led_to.entry }
-            ensures followed { IsSomeAnd
+            ensures kept { (p : ℕ) → IsIn led_to.entry p → IsIn led_to.exit p }
+            ensures followed { result ≡ true → IsSomeAnd
                 (slice_get (link_data link.entry).graph.links (link_data link.entry).number)
-                (λ l. led_to.exit ≡ (if result then slice_set led_to.entry (far_end cx.now.direction l)
-                true else led_to.entry)) }
+                (λ l. IsIn led_to.exit (far_end cx.now.direction l)) }
         {
             let is_even = link.link_ix() % 2 == 0;
             if is_even {
