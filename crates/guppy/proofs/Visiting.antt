@@ -2,7 +2,6 @@
 use Rattle.std.proofs.Common.{◌≡◌, ◌∙◌, sym, refl, ap, subst, ℕ, ◌<◌, List, [], ◌∷◌, Bool, Some, slice_get, length}
 use Rattle.std.specs.List.{FoldsTo, Contains}
 use Rattle.std.proofs.lemmas.Fn.{chained_keeps}
-use Rattle.std.proofs.lemmas.Option.{slice_get_within}
 use Rattle.guppy_search.specs.declared.ix.direction.DependencyDirection.{DependencyDirection}
 use Rattle.guppy_search.specs.declared.ix.direction.DependencyDirection.TheVariants.{Forward, Reverse}
 use Rattle.guppy_search.specs.declared.graph_core.link.Link.{Link}
@@ -33,9 +32,9 @@ pub IsCallable-along_kept : {E S T : Type 0} (f : S → T) (I : S → Type 0) (m
     (may : (s : S) (n : ℕ) → I s → n < length links → may_call' (f s) n → may_call s n) (step : (s : S) (e : ℕ × Bool) (t : S) → I s → calls s e.0 e.1 t → calls' (f s) e.0 e.1 (f t) × I t)
     (s : S) → I s → IsCallable may_call' calls' d links initials (f s) → IsCallable may_call calls d links initials s
 IsCallable-along_kept f I may_call may_call' calls calls' d links initials may step s i callable = record {
-  at = λ earlier now n once in_time steps leaves new.
+  at = λ earlier now n once in_time steps leaves new below.
       let kept = chained_keeps _ (λ _ t. I t) (λ _ t e u k h. (step t e u k h).1) earlier s now i steps in
-      may now n kept (slice_get_within links n leaves.0 leaves.1) (callable.at earlier (f now) n once in_time (FoldsTo-along_kept f I _ _ step earlier s now i steps) leaves new);
+      may now n kept below (callable.at earlier (f now) n once in_time (FoldsTo-along_kept f I _ _ step earlier s now i steps) leaves new below);
 }
 
 -- a resolve may ask a visitor that may be called with each link, until it was called with it
@@ -47,7 +46,7 @@ module _ {S : Type 0} (may_call : S → ℕ → Type 0) (calls : S → ℕ → B
       (others s e.0 e.1 h.0 h.1 n (λ same. new (e.1, subst (λ m. Contains (e ∷ es) (m, e.1)) (sym same) (Contains-first e es))) may)
 
   pub IsCallable-others : {E : Type 0} (d : DependencyDirection) (links : List (Link E)) (initials : List Bool) (s : S) → ((n : ℕ) → n < length links → may_call s n) → IsCallable may_call calls d links initials s
-  IsCallable-others d links initials s may = record { at = λ earlier now n once in_time steps leaves new. stays_callable n earlier s now steps new (may n (slice_get_within links n leaves.0 leaves.1)) }
+  IsCallable-others d links initials s may = record { at = λ earlier now n once in_time steps leaves new below. stays_callable n earlier s now steps new (may n below) }
 
 -- a chain ends at what is equal to its end
 pub ends_at : {V : Type 0} (visits : V → ℕ → Bool → V → Type 0) (s : V) (trace : List (ℕ × Bool)) (t u : V) → Visits visits s trace t → u ≡ t → Visits visits s trace u

@@ -309,7 +309,8 @@ MayGoOn-along may_call calls d links initials trace s waiting left first state c
       callable.at (trace ++ shown) now n after.once after.led_to
       (FoldsTo-append _ first trace state shown now steps more)
       (l.0, l.1, (after.included _).0 l.2.0)
-      (after.not_yet n (inr due));
+      (after.not_yet n (inr due))
+      (slice_get_within links n l.0 l.1);
 }
 
 -- what waits and what is not in the set, after a position is put in

@@ -34,15 +34,15 @@ module _ {E S : Type 0} (may_call : S → ℕ → Type 0) (calls : S → ℕ →
       (may : (t : S) (n : ℕ) → may_call' (f t) n → may_call t n) (step : (t : S) (n : ℕ) (b : Bool) (u : S) → calls t n b u → calls' (f t) n b (f u))
       → IsCallable may_call' calls' d links initials (f s) → IsCallable may_call calls d links initials s
   IsCallable-along f may_call' calls' may step callable = record {
-    at = λ earlier now n once in_time steps leaves new. may now n (callable.at earlier (f now) n once in_time (FoldsTo-along f _ _ (λ t e u k. step t e.0 e.1 u k) earlier s now steps) leaves new);
+    at = λ earlier now n once in_time steps leaves new below. may now n (callable.at earlier (f now) n once in_time (FoldsTo-along f _ _ (λ t e u k. step t e.0 e.1 u k) earlier s now steps) leaves new below);
   }
 
   -- one that no call changes
   pub IsCallable-same : (stays : (t : S) (n : ℕ) (b : Bool) (u : S) → calls t n b u → u ≡ t) → ((n : ℕ) → n < length links → may_call s n) → IsCallable may_call calls d links initials s
   IsCallable-same stays may = record {
-    at = λ earlier now n once in_time steps leaves new.
+    at = λ earlier now n once in_time steps leaves new below.
         let same : now ≡ s = chained_keeps _ (λ _ t. t ≡ s) (λ _ t e u k h. stays t e.0 e.1 u h ∙ k) earlier s now refl steps in
-        subst (λ t. may_call t n) (sym same) (may n (slice_get_within links n leaves.0 leaves.1));
+        subst (λ t. may_call t n) (sym same) (may n below);
   }
 
 -- the numbers of a trace, as a set

@@ -1,5 +1,5 @@
 -- What a resolve shows to a visitor, and which positions it includes.
-use Rattle.std.specs.Prelude.{◌≡◌, ◌⊎◌, ◌↔◌, ℕ, Bool, true, List, ◌∷◌, ◌++◌, Some, slice_get, map}
+use Rattle.std.specs.Prelude.{◌≡◌, ◌⊎◌, ◌↔◌, ℕ, ◌<◌, Bool, true, List, ◌∷◌, ◌++◌, length, Some, slice_get, map}
 use Rattle.std.specs.List.{Contains, FoldsTo, filter}
 use Rattle.guppy_search.specs.declared.ix.direction.DependencyDirection.{DependencyDirection}
 use Rattle.guppy_search.specs.declared.graph_core.link.Link.{Link}
@@ -66,11 +66,12 @@ abbrev pub Visits : {V : Type 0} → (V → ℕ → Bool → V → Type 0) → V
 Visits visits = FoldsTo (λ state entry next. visits state entry.0 entry.1 next)
 
 -- a filter may be asked as a resolve asks it: about a link that leaves what the answers so far
--- include, and that it wasn't asked about yet
+-- include, and that it wasn't asked about yet. That its number is below the count follows, and is
+-- said for those who read a list by it.
 pub record IsCallable {E F : Type 0} (may_call : F → ℕ → Type 0)
     (calls : F → ℕ → Bool → F → Type 0) (d : DependencyDirection) (links : List (Link E))
     (initials : List Bool) (filter : F) : Type 0 where
   pub at : (earlier : List (ℕ × Bool)) (now : F) (n : ℕ) → ShownOnce earlier
       → ShownInTime d links initials earlier → Visits calls filter earlier now
       → LeavesOne d links (IsIncluded d links initials earlier) n → ¬ IsShown earlier n
-      → may_call now n
+      → n < length links → may_call now n

@@ -1,5 +1,5 @@
 -- Each call adds one to the count, so in the end it is as many as the links that were shown.
-use Rattle.std.proofs.Common.{ℕ, ◌≡◌, ◌+◌, ◌%◌, ◌^◌, Bool, List, ◌∷◌, [], ◌++◌, length, refl, sym, ap, ◌∙◌}
+use Rattle.std.proofs.Common.{ℕ, ◌≡◌, ◌+◌, ◌%◌, ◌^◌, List, length, refl, sym, ap, ◌∙◌}
 use Rattle.std.specs.List.{FoldsTo}
 use Rattle.std.proofs.lemmas.Fn.{chained_keeps}
 use Rattle.std.proofs.lemmas.List.{length_push}

@@ -2,7 +2,6 @@ use Rattle.std.proofs.Common.{◌<◌, subst, ◌≡◌, ◌∙◌, length}
 use Rattle.guppy_search.proofs.Exits.{if_ok}
 use Rattle.guppy_search.specs.Reach.{Step}
 use Rattle.guppy_search.specs.declared.ix.direction.DependencyDirection.TheVariants.{Forward, Reverse}
-use Rattle.guppy_core.specs.Cost.{AreLookedAt}
 use Rattle.guppy_core.specs.Listing.{Stands}
 use Rattle.guppy_core.specs.Topo.{FromRoot}
 use Rattle.guppy_core.proofs.Costs.{looked_same}
