@@ -16,10 +16,13 @@ import time
 from concurrent.futures import ThreadPoolExecutor
 from pathlib import Path
 
+from since import try_since, try_since_answers, try_since_refused
+
 HERE = Path(__file__).resolve().parent
 TOP = HERE.parent
 # What the scripts call beside rt, cargo and python3.
-TOOLS = "awk basename cat chmod cp dirname env find grep head ls mkdir mktemp mv pwd readlink rm sed sh sleep sort stat tail wc"
+TOOLS = "awk basename cat chmod cp dirname env find git grep head ls mkdir mktemp mv pwd readlink rm sed sh sleep sort stat"
+TOOLS += " tail tr true wc"
 BUILT = os.environ.get("BUILT", str(TOP / "crates"))
 SECONDS = 120
 
@@ -230,12 +233,18 @@ def try_installed(world):
     for words in (["cargo", "guppy"], ["cargo-guppy"], ["guppy-cargo"]):
         ran = world.run([*words, "affected", "other/src/lib.rs"], where=workspace, environment=path)
         yield f"{' '.join(words)} runs without the clone", ran == (0, "other\nlast\n", ""), ran
+    for words in (["init", "-q"], ["add", "last"], ["-c", "user.name=x", "-c", "user.email=x", "commit", "-q", "-m", "x"]):
+        subprocess.run(["git", *words], cwd=workspace, check=True)
+    (workspace / ".gitignore").write_text("Cargo.*\n")
+    ran = world.run(["cargo", "guppy", "affected", "--since", "HEAD", "last/x"], where=workspace, environment=path)
+    yield "it asks git what changed", ran == (0, "other\nlast\n", ""), ran
     ran = world.run(["guppy-run", "order"], where=workspace, environment=path)
     yield "guppy-run too", ran == (0, "", ""), ran
     ran = world.run(["cargo", "guppy", "affected"], where=world.room, environment=path)
     yield "no workspace", ran[0] == 3 and ran[2].endswith("cargo gives no metadata\n"), ran
     left = sorted(str(it.relative_to(prefix)) for it in prefix.rglob("*") if it.is_file())
     wanted = ["bin/cargo-guppy", "bin/guppy-cargo", "bin/guppy-run", "libexec/guppy/guppy-cargo", "libexec/guppy/metadata.sh"]
+    wanted.append("libexec/guppy/since.sh")
     yield "nothing else is there", left == wanted and not world.left(), (left, world.left())
 
 
@@ -308,6 +317,9 @@ PARTS = {
     "interrupts": (try_interrupts, []),
     "proved": (try_proved, []),
     "installed": (try_installed, []),
+    "changes": (try_since, []),
+    "changes, answers": (try_since_answers, []),
+    "changes, refusals": (try_since_refused, []),
     "quick tests": (try_quick, []),
     "a read-only clone": (try_read_only, []),
     "without rt and cargo": (try_without_rt, ["rt", "cargo"]),

@@ -33,7 +33,7 @@ take_metadata() {
     take_from "cargo gives no metadata" ask_cargo
 }
 
-# Makes standard input what a command prints, by way of a file that is gone at once; the first word is what is told where
+# Makes standard input what a command prints, by way of a file that is gone at once. The first word is what is told where
 # the command fails.
 take_from() {
     told=$1

@@ -1,0 +1,254 @@
+"""Tries `guppy-cargo affected --since REVISION`: on repositories that are made and changed here, beside what their files
+themselves say.
+"""
+
+import os
+import subprocess
+from pathlib import Path
+
+# Who commits, and settings with which git shows less than it could.
+SETTINGS = {
+    "user.name": "x",
+    "user.email": "x@x",
+    "diff.relative": "true",
+    "diff.renames": "copies",
+    "diff.ignoreSubmodules": "all",
+    "status.showUntrackedFiles": "no",
+}
+# Names that a list must neither split nor change.
+ODD = [b"a b", b" x ", b"it's", b'"q"', b"new\nline", b"\n", b"end\n", b"\\n", b"$HOME", b"*", b"--since", b"-x", b"{}"]
+ODD += ["rööm".encode(), "日本".encode(), bytes(it for it in range(1, 256) if it != ord("/"))]
+
+
+# Where in its repository the workspace lies.
+FOLDERS = {"at the top": "", "below": "a workspace", "in an odd folder": "it's [a], wörk*.\\&$/new\nline"}
+
+
+class Changing:
+    """A repository with a workspace at its top, or in a folder of it, and beside that the package `out`.
+
+    Member `b` depends on `a`, and all members depend on `out`.
+    """
+
+    def __init__(self, top, folder=""):
+        self.top, self.root = Path(top), Path(top) / folder
+        self.top.mkdir()
+        self.git("init", "-q")
+        for name, value in SETTINGS.items():
+            self.git("config", name, value)
+        self.out = self.root.parent / "out" if folder else self.root / "out"
+        for name, others in {"a": [self.out], "b": [self.out, self.root / "a"], "c": [self.out]}.items():
+            write_package(self.root / name, others)
+        write_package(self.out, [])
+        write(self.root / "Cargo.toml", '[workspace]\nmembers = ["a", "b", "c"]\nexclude = ["out"]\nresolver = "2"\n')
+        write(self.top / ".gitignore", "*.ignored\nCargo.lock\n")
+        self.commit()
+
+    def git(self, *words, where=None):
+        ran = subprocess.run(["git", *words], cwd=where or self.top, capture_output=True, check=True)
+        return ran.stdout
+
+    def commit(self):
+        """Commits all; what changes from now on has changed since HEAD."""
+        self.git("add", "-A")
+        self.git("commit", "-q", "-m", "x", "--allow-empty")
+        self.before = files_of(os.fsencode(self.top))
+
+    def changed(self):
+        """The paths of all files that aren't what they were, from the workspace's root."""
+        now = files_of(os.fsencode(self.top))
+        names = {it for it in self.before.keys() | now.keys() if self.before.get(it) != now.get(it)}
+        names = {it for it in names if not it.endswith((b".ignored", b"Cargo.lock"))}
+        return {os.path.relpath(os.path.join(os.fsencode(self.top), it), os.fsencode(self.root)) for it in names}
+
+
+def write(path, text):
+    path.parent.mkdir(parents=True, exist_ok=True)
+    path.write_text(text)
+
+
+def write_package(folder, others):
+    """A package that depends on those in the other folders."""
+    write(folder / "src/lib.rs", "")
+    write(folder / "moved", f"{folder.name}\n" * 9)
+    head = f'[package]\nname = "{folder.name}"\nversion = "0.1.0"\nedition = "2021"\n[dependencies]\n'
+    write(folder / "Cargo.toml", head + "".join(f'{it.name}.path = "{os.path.relpath(it, folder)}"\n' for it in others))
+
+
+def files_of(top, folder=b""):
+    """Each file below the folder with what it is; a repository inside counts as one."""
+    found = {}
+    for it in os.scandir(os.path.join(top, folder)):
+        name = os.path.join(folder, it.name)
+        if it.name == b".git":
+            continue
+        if it.is_symlink():
+            found[name] = os.readlink(it.path)
+        elif it.is_dir():
+            inside = files_of(top, name)
+            found |= {name: inside} if os.path.exists(os.path.join(it.path, b".git")) else inside
+        else:
+            found[name] = it.stat().st_mode, Path(os.fsdecode(it.path)).read_bytes()
+    return found
+
+
+# Each changes files, and tells what it did.
+
+
+def rename(changing):
+    changing.git("mv", changing.root / "a/moved", changing.root / "c/moved to")
+    return "a rename from one member to another"
+
+
+def delete(changing):
+    changing.git("rm", "-q", changing.root / "b/moved")
+    (changing.root / "c/moved").unlink()
+    return "deletions"
+
+
+def add(changing):
+    for name in ("a/untracked", "a/x.ignored", "b/staged", "b/intended", "c/ä"):
+        write(changing.root / name, name)
+    changing.git("add", changing.root / "b/staged")
+    changing.git("add", "-N", changing.root / "b/intended")
+    return "new files"
+
+
+def change(changing):
+    write(changing.out / "src/lib.rs", "// changed")
+    write(changing.top / "README", "")
+    (changing.root / "b/src/lib.rs").chmod(0o755)
+    (changing.root / "b/link").symlink_to("no such file")
+    return "outside of the workspace, a mode, a link"
+
+
+def name_oddly(changing):
+    changing.commit()
+    for name in ODD:
+        for folder in (changing.root / "a", changing.root / "b/src", changing.out, changing.top):
+            Path(os.fsdecode(os.fsencode(folder) + b"/" + name)).write_text("odd")
+    return "odd names"
+
+
+def track(changing):
+    changing.git("add", "-A")
+    return "odd names of tracked files"
+
+
+def nest(changing):
+    write(changing.root / "c/inner/x", "")
+    changing.git("init", "-q", where=changing.root / "c/inner")
+    return "a repository inside"
+
+
+def change_nested(changing):
+    inner = changing.root / "c/inner"
+    changing.git("add", "-A", where=inner)
+    changing.git("-c", "user.name=x", "-c", "user.email=x", "commit", "-q", "-m", "x", where=inner)
+    changing.commit()
+    write(inner / "x", "changed")
+    return "a change in a submodule"
+
+
+CHANGES = [rename, delete, add, change, name_oddly, track, nest, change_nested]
+
+
+def noted(world, changing, words=("--since", "HEAD"), others=(), **how):
+    """Whether a program in the place of guppy-cargo is given the paths that changed, and these others, each once."""
+    program, note = world.room / "noting/guppy_cargo/out/guppy_cargo", world.room / "note"
+    write(program, "#!/bin/sh\nprintf '%s\\0' \"$@\" > \"$NOTE\"\nwc -c\n")
+    program.chmod(0o755)
+    note.write_bytes(b"")
+    how = {"where": changing.root} | how
+    how["environment"] = {"NOTE": str(note), "BUILT": str(world.room / "noting")} | how.get("environment", {})
+    ran = world.run(["guppy-cargo", "affected", *words], **how)
+    # An untracked repository is given with a slash at its end.
+    first, *got = [it.removesuffix(b"/") for it in note.read_bytes().split(b"\0")]
+    wanted = sorted([*changing.changed(), *others, b""])
+    is_right = ran[0] == 0 and first == b"affected" and sorted(got) == wanted
+    return is_right, (ran, [it for it in got if it not in wanted], [it for it in wanted if it not in got])
+
+
+# Each yields what was tried, whether it went as it should, and what came.
+
+
+def try_since(world):
+    for place, folder in FOLDERS.items():
+        changing = Changing(world.room / place, folder)
+        yield f"{place}: nothing", *noted(world, changing)
+        for change in (it(changing) for it in CHANGES):
+            yield f"{place}: {change}", *noted(world, changing)
+        changing.git("tag", "before")
+        write(changing.root / "c/src/lib.rs", "// committed")
+        changing.git("commit", "-q", "-a", "-m", "x")
+        yield f"{place}: committed since", *noted(world, changing, ["--since=before"])
+        yield f"{place}: and other paths", *noted(world, changing, ["--since", "before", "x y", "*"], [b"x y", b"*"])
+        link = world.room / f"{place}, linked"
+        link.symlink_to(changing.root)
+        for where in (changing.root / "b/src", link):
+            # As in a hook of another repository.
+            hooked = {"PWD": str(where), "GIT_DIR": "/no such folder", "GIT_INDEX_FILE": ".git/index"}
+            ran = noted(world, changing, ["--since", "before"], where=where, environment=hooked)
+            yield f"{place}: from {where.name}", *ran
+
+
+def try_since_answers(world):
+    changing = Changing(world.room / "repository", "a workspace")
+    root = changing.root
+    for what, change, wanted in (
+        ("nothing", lambda: None, ""),
+        ("a rename from a to c", lambda: changing.git("mv", root / "a/moved", root / "c/moved to"), "abc"),
+        ("a deletion in c", (root / "c/moved").unlink, "c"),
+        ("an untracked file in b", lambda: write(root / "b/src/é\n'", ""), "b"),
+        ("an ignored file in a", lambda: write(root / "a/x.ignored", ""), ""),
+        ("a file in a", lambda: write(root / "a/src/lib.rs", "// changed"), "ab"),
+        ("a package outside", lambda: write(changing.out / "src/lib.rs", "// changed"), "abc"),
+    ):
+        change()
+        for where in (root, root / "b/src"):
+            ran = world.run(["guppy-cargo", "affected", "--since", "HEAD"], where=where)
+            yield f"{what}, from {where.name}", ran[0] == 0 and sorted(ran[1].split()) == list(wanted), ran
+        changing.commit()
+    write(root / "b/x", "")
+    metadata = world.room / "metadata.json"
+    with metadata.open("wb") as file:
+        subprocess.run(["cargo", "metadata", "--format-version", "1"], cwd=root, stdout=file, check=True)
+    with metadata.open("rb") as given:
+        ran = world.run(["guppy-cargo", "affected", "--since", "HEAD"], where=root, given=given)
+    yield "metadata of this workspace", ran[:2] == (0, "b\n"), ran
+
+
+def try_since_refused(world):
+    changing = Changing(world.room / "repository", "a workspace")
+    home = changing.root
+
+    def refused(status, told, *words, where=home, **how):
+        ran = world.run(["guppy-cargo", "affected", *words], where=where, **how)
+        is_told = ran[2].endswith("\n") and told in ran[2].splitlines()[-1] and world.left() == []
+        return f"{words} in {where.name}", ran[:2] == (status, "") and is_told, ran
+
+    for word in ("nosuch", "HEAD~1", "HEAD..HEAD", "^HEAD", "HEAD^{tree}", "x y", "HEAD:a"):
+        yield refused(5, f"git does not say what changed since {word}", "--since", word)
+    since = ["--since", "HEAD"]
+    for words in (["--since"], ["--since="], ["--since", "-x"], ["--since=--all"], ["a", *since], [*since, *since]):
+        yield refused(2, "usage: guppy-cargo affected --since REVISION", *words)
+    with open(world.top / "examples/metadata.json", "rb") as given:
+        yield refused(3, "standard input has no metadata of the workspace in", *since, given=given)
+    yield refused(3, "cargo finds no workspace", *since, where=world.room)
+    write(changing.top / ".gitignore", "*.ignored\nCargo.lock\nnone\n")
+    ignored = Changing(world.room / "inner")
+    alone = world.room / "alone"
+    ignored.root.rename(alone)
+    (alone / ".git").rename(world.room / "no repository")
+    yield refused(5, "git does not say what changed", *since, where=alone)
+    alone.rename(changing.top / "none")
+    yield refused(5, "git does not say what changed", *since, where=changing.top / "none")
+    for number in range(2000):
+        write(home / "a" / f"{number:0200}", "")
+    shell = ["sh", "-c", 'ulimit -s 1024 && exec "$@"', "sh", world.top / "guppy-cargo", "affected", *since]
+    ran = world.run(shell, where=home)
+    yield "too many paths", ran[:2] == (5, "") and ran[2].endswith("can be given: test all members\n"), ran
+    (world.bin / "git").unlink()
+    yield refused(5, "git is not on the path", *since)
+    (world.bin / "cargo").unlink()
+    yield refused(3, "cargo is not on the path", *since)
