@@ -160,7 +160,7 @@ def noted(world, changing, words=("--since", "HEAD"), others=(), **how):
     program.chmod(0o755)
     note.write_bytes(b"")
     how = {"where": changing.root} | how
-    how["environment"] = {"NOTE": str(note), "BUILT": str(world.room / "noting")} | how.get("environment", {})
+    how["environment"] = {"NOTE": str(note), "BUILT": str(world.room / "noting"), "LANG": "C.UTF-8"} | how.get("environment", {})
     ran = world.run(["guppy-cargo", "affected", *words], **how)
     # An untracked repository is given with a slash at its end.
     first, *got = [it.removesuffix(b"/") for it in note.read_bytes().split(b"\0")]
@@ -183,11 +183,18 @@ def try_since(world):
         changing.git("commit", "-q", "-a", "-m", "x")
         yield f"{place}: committed since", *noted(world, changing, ["--since=before"])
         yield f"{place}: and other paths", *noted(world, changing, ["--since", "before", "x y", "*"], [b"x y", b"*"])
+        metadata = world.room / "metadata.json"
+        with open(metadata, "wb") as file:
+            subprocess.run(["cargo", "metadata", "--format-version", "1"], cwd=changing.root, stdout=file, check=True)
+        with open(metadata, "rb") as given:
+            ran = noted(world, changing, ["--since=before"], given=given)
+        size = metadata.stat().st_size
+        yield f"{place}: of the metadata on standard input", ran[0] and ran[1][0][1] == f"{size}\n", (ran, size)
         link = world.room / f"{place}, linked"
         link.symlink_to(changing.root)
         for where in (changing.root / "b/src", link):
             # As in a hook of another repository.
-            hooked = {"PWD": str(where), "GIT_DIR": "/no such folder", "GIT_INDEX_FILE": ".git/index"}
+            hooked = {"PWD": str(where), "GIT_DIR": "/no such folder", "GIT_INDEX_FILE": "/no such file"}
             ran = noted(world, changing, ["--since", "before"], where=where, environment=hooked)
             yield f"{place}: from {where.name}", *ran
 
@@ -209,13 +216,6 @@ def try_since_answers(world):
             ran = world.run(["guppy-cargo", "affected", "--since", "HEAD"], where=where)
             yield f"{what}, from {where.name}", ran[0] == 0 and sorted(ran[1].split()) == list(wanted), ran
         changing.commit()
-    write(root / "b/x", "")
-    metadata = world.room / "metadata.json"
-    with metadata.open("wb") as file:
-        subprocess.run(["cargo", "metadata", "--format-version", "1"], cwd=root, stdout=file, check=True)
-    with metadata.open("rb") as given:
-        ran = world.run(["guppy-cargo", "affected", "--since", "HEAD"], where=root, given=given)
-    yield "metadata of this workspace", ran[:2] == (0, "b\n"), ran
 
 
 def try_since_refused(world):

@@ -41,20 +41,20 @@ take_since() {
 # Takes metadata from standard input, and ends where they are none of the workspace in that folder. Cargo prints them in
 # one line.
 take_metadata_of() {
-    text=$(printf %s "$1" | LC_ALL=C sed -z 's/["\\]/\\&/g')
+    text=$(printf %s "$1" | LC_ALL=C sed -z 's/["\\]/\\&/g; s/\n/\\n/g')
     take_from "standard input has no metadata of the workspace in $1; where it is /dev/null, cargo is asked" \
-        env LC_ALL=C grep -aF "\"workspace_root\":\"$text\""
+        grep -aF "\"workspace_root\":\"$text\""
 }
 
 # Prints the paths that changed, from the workspace's root, each in quotes for the shell and followed by a space.
 # Variables that name a repository, as a hook has them, need not name this one.
 print_changed() (
     unset GIT_DIR GIT_WORK_TREE GIT_INDEX_FILE
-    cd -P -- "$root/" && folder=$(git rev-parse --show-prefix) &&
+    cd "$root/" && folder=$(git rev-parse --show-prefix) &&
         commit=$(git rev-parse --verify "$revision^{commit}") || exit
     case $commit in *[!0-9a-f]*) exit 1 ;; esac
     ! git check-ignore -q . || { echo "fatal: git ignores all of the workspace" >&2 && exit 1; }
-    cd -P -- "./$(git rev-parse --show-cdup)" || exit
+    cd -P "./$(git rev-parse --show-cdup)" || exit
     # Git's paths begin at the repository's top, and lie in the workspace's folder, or in one above it.
     steps= up=
     while [ -n "$folder" ]; do
