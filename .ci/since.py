@@ -17,7 +17,7 @@ SETTINGS = {
 }
 # Names that a list must neither split nor change.
 ODD = [b"a b", b" x ", b"it's", b'"q"', b"new\nline", b"\n", b"end\n", b"\\n", b"$HOME", b"*", b"--since", b"-x", b"{}"]
-ODD += ["rööm".encode(), "日本".encode(), bytes(it for it in range(1, 256) if it != ord("/"))]
+ODD += ["rööm".encode(), "日本".encode(), b"\xff $HOME", bytes(it for it in range(1, 256) if it != ord("/"))]
 
 
 # Where in its repository the workspace lies.
@@ -160,7 +160,8 @@ def noted(world, changing, words=("--since", "HEAD"), others=(), **how):
     program.chmod(0o755)
     note.write_bytes(b"")
     how = {"where": changing.root} | how
-    how["environment"] = {"NOTE": str(note), "BUILT": str(world.room / "noting"), "LANG": "C.UTF-8"} | how.get("environment", {})
+    environment = {"NOTE": str(note), "BUILT": str(world.room / "noting"), "LANG": "C.UTF-8"}
+    how["environment"] = environment | how.get("environment", {})
     ran = world.run(["guppy-cargo", "affected", *words], **how)
     # An untracked repository is given with a slash at its end.
     first, *got = [it.removesuffix(b"/") for it in note.read_bytes().split(b"\0")]
