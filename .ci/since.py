@@ -1,4 +1,4 @@
-"""Tries `guppy-cargo affected --since REVISION`: on repositories that are made and changed here, beside what their files
+"""Tries `guppy-cargo affected --since REVISION` on repositories that are made and changed here, beside what their files
 themselves say.
 """
 
