@@ -170,6 +170,15 @@ def noted(world, changing, words=("--since", "HEAD"), others=(), **how):
     return is_right, (ran, [it for it in got if it not in wanted], [it for it in wanted if it not in got])
 
 
+def metadata_file(changing):
+    """What cargo says of the workspace, beside its repository."""
+    path = changing.top.parent / "metadata.json"
+    with path.open("wb") as file:
+        how = {"stdout": file, "stderr": subprocess.DEVNULL, "check": True}
+        subprocess.run(["cargo", "metadata", "--format-version", "1"], cwd=changing.root, **how)
+    return path
+
+
 # Each yields what was tried, whether it went as it should, and what came.
 
 
@@ -184,10 +193,8 @@ def try_since(world):
         changing.git("commit", "-q", "-a", "-m", "x")
         yield f"{place}: committed since", *noted(world, changing, ["--since=before"])
         yield f"{place}: and other paths", *noted(world, changing, ["--since", "before", "x y", "*"], [b"x y", b"*"])
-        metadata = world.room / "metadata.json"
-        with open(metadata, "wb") as file:
-            subprocess.run(["cargo", "metadata", "--format-version", "1"], cwd=changing.root, stdout=file, check=True)
-        with open(metadata, "rb") as given:
+        metadata = metadata_file(changing)
+        with metadata.open("rb") as given:
             ran = noted(world, changing, ["--since=before"], given=given)
         size = metadata.stat().st_size
         yield f"{place}: of the metadata on standard input", ran[0] and ran[1][0][1] == f"{size}\n", (ran, size)
@@ -235,14 +242,15 @@ def try_since_refused(world):
         yield refused(2, "usage: guppy-cargo affected --since REVISION", *words)
     with open(world.top / "examples/metadata.json", "rb") as given:
         yield refused(3, "standard input has no metadata of the workspace in", *since, given=given)
+    # Whose path begins the other one's first line.
+    inner, odd = Changing(world.room / "a"), Changing(world.room / "a\nb")
+    with metadata_file(inner).open("rb") as given:
+        yield refused(3, "where it is /dev/null, cargo is asked", *since, where=odd.root, given=given)
     yield refused(3, "cargo finds no workspace", *since, where=world.room)
     write(changing.top / ".gitignore", "*.ignored\nCargo.lock\nnone\n")
-    ignored = Changing(world.room / "inner")
-    alone = world.room / "alone"
-    ignored.root.rename(alone)
-    (alone / ".git").rename(world.room / "no repository")
-    yield refused(5, "git does not say what changed", *since, where=alone)
-    alone.rename(changing.top / "none")
+    (inner.top / ".git").rename(world.room / "taken away")
+    yield refused(5, "git does not say what changed", *since, where=inner.root)
+    inner.top.rename(changing.top / "none")
     yield refused(5, "git does not say what changed", *since, where=changing.top / "none")
     for number in range(2000):
         write(home / "a" / f"{number:0200}", "")
