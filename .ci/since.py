@@ -249,7 +249,8 @@ def try_since_refused(world):
     yield refused(3, "cargo finds no workspace", *since, where=world.room)
     write(changing.top / ".gitignore", "*.ignored\nCargo.lock\nnone\n")
     (inner.top / ".git").rename(world.room / "taken away")
-    yield refused(5, "git does not say what changed", *since, where=inner.root)
+    tried, is_right, ran = refused(5, "git does not say what changed", *since, where=inner.root)
+    yield tried, is_right and "fatal: not a git repository" in ran[2], ran
     inner.top.rename(changing.top / "none")
     yield refused(5, "git does not say what changed", *since, where=changing.top / "none")
     for number in range(2000):
