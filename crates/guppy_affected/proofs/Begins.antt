@@ -28,14 +28,14 @@ module _ {X : Type 0} where
   Begins-first x y xs ys (rest, is) = cc
 
 -- components that are equal show the same
-equal_shown : (a b : Component) → eq-value.it a b ≡ true → part_shown a ≡ part_shown b
+pub equal_shown : (a b : Component) → eq-value.it a b ≡ true → part_shown a ≡ part_shown b
 equal_shown RootDir RootDir h = refl
 equal_shown CurDir CurDir h = refl
 equal_shown ParentDir ParentDir h = refl
 equal_shown (Normal x) (Normal y) h = ap Part.Name ((bytes_eq-Decides x.now y.now).0 h)
 equal_shown a b h = absurd (cc)
 
-shown_equal : (a b : Component) → part_shown a ≡ part_shown b → eq-value.it a b ≡ true
+pub shown_equal : (a b : Component) → part_shown a ≡ part_shown b → eq-value.it a b ≡ true
 shown_equal RootDir RootDir h = refl
 shown_equal CurDir CurDir h = refl
 shown_equal ParentDir ParentDir h = refl

@@ -1,13 +1,10 @@
--- Elements of lists made of others: by a function, by a test, and as the members of a workspace.
-use Rattle.std.proofs.Common.{◌≡◌, refl, sym, ap, subst, ℕ, zero, suc, ◌<◌, Bool, true, false, List, [], ◌∷◌, length, map, Contains, arith}
-use Rattle.std.specs.Prelude.{◌↔◌, cond, is_some}
-use Rattle.std.specs.List.{filter, range_with_len}
-use Rattle.std.specs.List.Sorted.{IsPermutation}
-use Rattle.std.proofs.lemmas.List.Elements.{All-contains, Contains-append_right, filter_passes}
-use Rattle.std.proofs.lemmas.List.FromFn.{length-range_with_len, get_or-range_with_len}
-use Rattle.std.proofs.lemmas.List.Sorted.{Contains-permutation, IsPermutation-sym}
-use Rattle.guppy.specs.DataTypes.records.PackageRecord.{PackageRecord}
-use Rattle.guppy.specs.Members.{path_at, IsMember, members_of}
+-- Elements of lists that a function made of others.
+use Rattle.std.proofs.Common.{◌≡◌, ◌∙◌, ◌⊎◌, inl, inr, ⊎_elim, refl, sym, ap, subst, ℕ, zero, suc, ◌+◌, ◌<◌, List, [], ◌∷◌, ◌++◌, length, map, take, get_or, string_bytes, Contains, arith}
+use Rattle.std.proofs.lemmas.List.{map_push, take_more}
+use Rattle.std.specs.Prelude.{◌↔◌}
+use Rattle.std.specs.declared.string.String.{String}
+use Rattle.std.specs.declared.alloc.Global.{Global}
+use Rattle.std.proofs.lemmas.List.Elements.{Contains-append_cases, Contains-append_left, Contains-append_right}
 
 module _ {X Y : Type 0} (f : X → Y) where
   pub Contains-map : (xs : List X) (x : X) → Contains xs x → Contains (map f xs) (f x)
@@ -22,31 +19,33 @@ module _ {X Y : Type 0} (f : X → Y) where
       let later = from_map xs y (k, omega arith, same) in
       (later.0, Contains-append_right (x ∷ []) xs later.0 later.1, later.2)
 
-module _ (test : ℕ → Bool) where
-  kept_later : (b : Bool) (x y : ℕ) (ys : List ℕ) → Contains ys x → Contains (cond b (y ∷ ys) ys) x
-  kept_later true x y ys there = Contains-append_right (y ∷ []) ys x there
-  kept_later false x y ys there = there
+module _ {X : Type 0} where
+  -- a list of one has that one
+  pub from_one : (x y : X) → Contains (x ∷ []) y → x ≡ y
+  from_one x y (zero, within, same) = same
+  from_one x y (suc k, within, same) = absurd (omega arith)
 
-  Contains-filter : (xs : List ℕ) (x : ℕ) → test x ≡ true → Contains xs x → Contains (filter test xs) x
-  Contains-filter [] x passes (k, within, same) = absurd (omega arith)
-  Contains-filter (y ∷ ys) x passes (zero, within, same) =
-      let here : test y ≡ true = subst (λ z. test z ≡ true) (sym same) passes in
-      rw here (zero, omega arith, same)
-  Contains-filter (y ∷ ys) x passes (suc k, within, same) = kept_later (test y) x y (filter test ys) (Contains-filter ys x passes (k, omega arith, same))
+  pub here_first : (x : X) (xs : List X) → Contains (x ∷ xs) x
+  here_first x xs = (zero, omega arith, refl)
 
-in_range : (n p : ℕ) → p < n → Contains (range_with_len 0 n) p
-in_range n p below = (p, rw (length-range_with_len 0 n) below, let at = get_or-range_with_len 0 n p p below in omega arith)
+  -- P holds of one of the elements
+  abbrev pub One : List X → (X → Type 0) → Type 0
+  One xs P = (x : X) × Contains xs x × P x
 
-member_within : (packages : List PackageRecord) (p : ℕ) → IsMember packages p → p < length packages
-member_within [] p member = absurd (cc)
-member_within (r ∷ packages) zero member = omega arith
-member_within (r ∷ packages) (suc p) member = let below = member_within packages p member in omega arith
+  pub One-none : (P : X → Type 0) → One [] P → ⊥
+  One-none P (x, (k, within, same), h) = absurd (omega arith)
 
--- the positions are exactly those of the members
-pub members_are : (packages : List PackageRecord) (members : List ℕ) → IsPermutation (members_of packages) members → (p : ℕ) → Contains members p ↔ IsMember packages p
-members_are packages members same p =
-    let test : ℕ → Bool = λ q. is_some (path_at packages q) in
-    let all : List ℕ = range_with_len 0 (length packages) in (
-      λ there. All-contains (IsMember packages) (members_of packages) p (filter_passes test all) (Contains-permutation members (members_of packages) p (IsPermutation-sym (members_of packages) members same) there),
-      λ member. Contains-permutation (members_of packages) members p same (Contains-filter test all p member (in_range (length packages) p (member_within packages p member))),
-    )
+  -- with one more element
+  pub One-push : (P : X → Type 0) (xs : List X) (x : X) → One (xs ++ x ∷ []) P ↔ (One xs P ⊎ P x)
+  One-push P xs x = (
+    λ (y, there, h). ⊎_elim (λ early. inl (y, early, h)) (λ late. inr (subst P (sym (from_one x y late)) h)) (Contains-append_cases xs (x ∷ []) y there),
+    λ either. ⊎_elim (λ (y, there, h). (y, Contains-append_left xs (x ∷ []) y there, h)) (λ h. (x, Contains-append_right xs (x ∷ []) x (here_first x []), h)) either,
+  )
+
+-- texts in the order of their list
+module _ (texts : List (String Global)) (i : ℕ) (text : String Global) (within : i < length texts) (is : text ≡ get_or texts i text) where
+  pub text_there : Contains (map string_bytes texts) (string_bytes text)
+  text_there = Contains-map string_bytes texts text (i, within, sym is)
+
+  pub one_more : map string_bytes (take (i + 1) texts) ≡ map string_bytes (take i texts) ++ string_bytes text ∷ []
+  one_more = ap (map string_bytes) (take_more texts i text within) ∙ map_push string_bytes (take i texts) (get_or texts i text) ∙ ap (λ s. map string_bytes (take i texts) ++ string_bytes s ∷ []) (sym is)

@@ -1,6 +1,10 @@
 pub mod Begins
 pub mod Elements
-pub mod Owners
 pub mod Walks
-pub mod Touching
-pub mod Found
+pub mod Along
+pub mod Resolved
+pub mod Tests
+pub mod Sets
+pub mod Local
+pub mod Owned
+pub mod Members

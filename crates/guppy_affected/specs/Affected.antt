@@ -11,36 +11,47 @@ use Rattle.guppy.specs.Members.{IsMember}
 use Rattle.guppy.specs.Ordered.{FirmStep}
 use Rattle.guppy.specs.Query.{SetData}
 use Rattle.guppy.specs.Reach.{LinkStep, Walk}
-use Rattle.guppy_affected.specs.Folders.{Holds, Belongs}
+use Rattle.guppy_affected.specs.Folders.{LiesIn, Holds, Belongs}
 
--- the path is that of the workspace's own manifest, or of what Cargo locked
+-- one of the folders to leave out holds the path
+abbrev pub IsIgnored : List (List ℕ) → List ℕ → Type 0
+IsIgnored ignored path = (folder : List ℕ) × Contains ignored folder × LiesIn folder path
+
+-- P holds of one of the paths that aren't to be left out
+abbrev pub OfOne : List (List ℕ) → List (List ℕ) → (List ℕ → Type 0) → Type 0
+OfOne paths ignored P = (path : List ℕ) × Contains paths path × (¬ IsIgnored ignored path) × P path
+
+-- the paths have the same components
+abbrev pub IsPath : List ℕ → List ℕ → Type 0
+IsPath text path = components path ≡ components text
+
+-- the path is that of the workspace's own manifest, of what Cargo locked or of the toolchain, or lies in the
+-- folder of Cargo's settings
 abbrev pub IsOfWorkspace : List ℕ → Type 0
-IsOfWorkspace path = (components path ≡ components (codes "Cargo.toml"))
-    ⊎ (components path ≡ components (codes "Cargo.lock"))
+IsOfWorkspace path = IsPath (codes "Cargo.toml") path ⊎ (IsPath (codes "Cargo.lock") path
+    ⊎ (IsPath (codes "rust-toolchain") path ⊎ (IsPath (codes "rust-toolchain.toml") path
+    ⊎ LiesIn (codes ".cargo") path)))
 
--- the path is everyone's: it is of the workspace, or no member's folder holds it
+-- the path is everyone's: it is of the workspace, or no folder of a package of this machine holds it
 abbrev pub IsEveryones : List PackageRecord → List ℕ → Type 0
 IsEveryones packages path = IsOfWorkspace path ⊎ ((p : ℕ) → ¬ Holds packages path p)
 
--- a change of the file at the path touches the member at the position
-abbrev pub Touches : List PackageRecord → List ℕ → ℕ → Type 0
-Touches packages path p =
-    IsMember packages p × (IsEveryones packages path ⊎ Belongs packages path p)
+-- the one package is the other, or a link of any kind leads from it to a package from which a walk over
+-- links that aren't dev-only leads to the other: its tests may be built from the other
+abbrev pub IsTestedWith : GraphData → ℕ → ℕ → Type 0
+IsTestedWith g p q = (p ≡ q)
+    ⊎ ((r : ℕ) × LinkStep Forward g.links p r × Walk (FirmStep g.links) r q)
 
--- one of the paths does
-abbrev pub IsTouched : List PackageRecord → List (List ℕ) → ℕ → Type 0
-IsTouched packages paths p = (path : List ℕ) × Contains paths path × Touches packages path p
-
--- the path is everyone's, or a walk over links leads from the position to the member that the path
--- belongs to
+-- a change at the path is one to the package at the position: the path is everyone's, or belongs to a
+-- package that it is tested with
 abbrev pub Affects : GraphData → List ℕ → ℕ → Type 0
 Affects g path p = IsEveryones g.packages path
-    ⊎ ((q : ℕ) × Belongs g.packages path q × Walk (LinkStep Forward g.links) p q)
+    ⊎ ((q : ℕ) × Belongs g.packages path q × IsTestedWith g p q)
 
--- the package at the position is a member that one of the paths affects
-abbrev pub IsAffected : GraphData → List (List ℕ) → ℕ → Type 0
-IsAffected g paths p =
-    IsMember g.packages p × ((path : List ℕ) × Contains paths path × Affects g path p)
+-- the package at the position is a member, and one of the paths that aren't to be left out affects it
+abbrev pub IsAffected : GraphData → List (List ℕ) → List (List ℕ) → ℕ → Type 0
+IsAffected g paths ignored p =
+    IsMember g.packages p × OfOne paths ignored (λ path. Affects g path p)
 
 -- the graph's order of packages from its end, kept to a set of them
 abbrev pub IsListedInReverse : GraphData → List ℕ → Type 0
@@ -49,15 +60,17 @@ IsListedInReverse g order =
 
 -- the members that the paths affect, each once, as a set is listed in reverse: where links that aren't
 -- dev-only have no cycle, each after those to which a walk over these leads from it
-pub record IsAffectedOrder (g : GraphData) (paths : List (List ℕ)) (order : List ℕ) : Type 0 where
+pub record IsAffectedOrder (g : GraphData) (paths ignored : List (List ℕ)) (order : List ℕ)
+    : Type 0 where
   pub once : IsOnce order
-  pub members : (p : ℕ) → Stands order p ↔ IsAffected g paths p
+  pub members : (p : ℕ) → Stands order p ↔ IsAffected g paths ignored p
   pub listed : IsListedInReverse g order
   pub after : HasNoFirmCycle g → (x y : ℕ) → Stands order x → Stands order y → x ≢ y
       → Walk (FirmStep g.links) x y → Precedes order y x
 
 -- the IDs of the packages of such an order
-pub record AreAffectedIds (g : GraphData) (paths : List (List ℕ)) (ids : List (List ℕ)) : Type 0 where
+pub record AreAffectedIds (g : GraphData) (paths ignored : List (List ℕ)) (ids : List (List ℕ))
+    : Type 0 where
   pub order : List ℕ
-  pub is_order : IsAffectedOrder g paths order
+  pub is_order : IsAffectedOrder g paths ignored order
   pub ids_are : ids ≡ ids_at g.packages order

@@ -1,25 +1,36 @@
--- Which member of a workspace a path belongs to.
-use Rattle.std.specs.Prelude.{◌≡◌, ◌≢◌, ℕ, ◌<◌, List, ◌++◌, length, IsSomeAnd}
+-- The folders of the packages of this machine, and to which of these packages a path belongs.
+use Rattle.std.specs.Prelude.{◌≡◌, ℕ, ◌≤◌, List, ◌++◌, length, Option, IsSomeAnd}
 use Rattle.guppy.specs.Path.{components}
 use Rattle.guppy.specs.DataTypes.records.PackageRecord.{PackageRecord}
-use Rattle.guppy.specs.Keys.{or_empty}
-use Rattle.guppy.specs.Members.{path_at}
+use Rattle.guppy.specs.Keys.{or_empty, item_key}
+use Rattle.guppy.specs.PackageSource.{local_path, recorded_origin}
+
+-- the folder of a package of this machine: the path of a member, or the path that the package comes from
+abbrev pub folder_of : PackageRecord → Option (List ℕ)
+folder_of r = local_path (recorded_origin r.source)
+
+-- the folder of the package at the position, where it is one of this machine
+abbrev pub folder_at : List PackageRecord → ℕ → Option (List ℕ)
+folder_at = item_key folder_of
 
 -- the list begins with these
 abbrev pub Begins : {X : Type 0} → List X → List X → Type 0
 Begins {X} front list = (rest : List X) × (list ≡ front ++ rest)
 
--- the folder of the member at the position holds the path: its components begin the path's
+-- the path lies in the folder, or is the folder: the folder's components begin the path's
+abbrev pub LiesIn : List ℕ → List ℕ → Type 0
+LiesIn folder path = Begins (components folder) (components path)
+
+-- the folder of the package at the position holds the path
 abbrev pub Holds : List PackageRecord → List ℕ → ℕ → Type 0
-Holds packages path p =
-    IsSomeAnd (path_at packages p) (λ folder. Begins (components folder) (components path))
+Holds packages path p = IsSomeAnd (folder_at packages p) (λ folder. LiesIn folder path)
 
--- how many components the path of the member at the position has
+-- how many components the folder of the package at the position has
 abbrev pub depth : List PackageRecord → ℕ → ℕ
-depth packages p = length (components (or_empty (path_at packages p)))
+depth packages p = length (components (or_empty (folder_at packages p)))
 
--- the path belongs to the member at the position: its folder holds the path, and is longer than every
--- other one that does
+-- the path belongs to the package at the position: its folder holds the path, and no longer one does. Of
+-- packages with one folder it belongs to each
 pub record Belongs (packages : List PackageRecord) (path : List ℕ) (p : ℕ) : Type 0 where
   pub holds : Holds packages path p
-  pub longest : (q : ℕ) → Holds packages path q → q ≢ p → depth packages q < depth packages p
+  pub longest : (q : ℕ) → Holds packages path q → depth packages q ≤ depth packages p

@@ -2,9 +2,10 @@
 //!
 //! The modules, from the bottom up:
 //!
-//! - `folders`: the member that a path belongs to;
-//! - `touched`: the members that changed themselves;
-//! - the crate itself: these, and those that depend on them.
+//! - `folders`: the folders of the packages of this machine, and which of them holds a path;
+//! - `touched`: the packages that changed themselves;
+//! - `tested`: the packages whose tests are built from changed ones;
+//! - the crate itself: the members among these.
 #![tactic(auto)]
 
 ghost use Rattle.std.specs.Prelude.{◌≡◌, map, string_bytes, IfOk, IsOkUnless};
@@ -12,44 +13,59 @@ ghost use Rattle.guppy.specs.Query.{IsSetWhere};
 ghost use Rattle.guppy_affected.specs.Affected.{AreAffectedIds, IsAffected};
 
 mod folders;
+mod tested;
 mod touched;
 
-use crate::touched::touched_members;
+use crate::tested::tested_with;
+use crate::touched::changed_packages;
 use guppy::graph::DependencyDirection;
 use guppy::{Error, PackageGraph, PackageId, PackageSet};
 
 // The members to test.
-fn affected_set<'g>(graph: &'g PackageGraph, paths: &[String]) -> Result<PackageSet<'g>, Error>
+fn affected_set<'g>(
+    graph: &'g PackageGraph,
+    paths: &[String],
+    ignored: &[String],
+) -> Result<PackageSet<'g>, Error>
     ensures graph { IfOk result (λ set. set.graph ≡ graph.now) }
     ensures members { IfOk result (λ set. IsSetWhere graph.now.packages
-        (IsAffected graph.now (map string_bytes paths.now)) set.included) }
+        (IsAffected graph.now (map string_bytes paths.now) (map string_bytes ignored.now))
+        set.included) }
     ensures error { IsOkUnless result Error.OutOfMemory }
 {
-    let touched = touched_members(graph, paths)?;
-    let query = touched.to_package_query(DependencyDirection::Reverse)?;
-    let dependents = query.resolve()?;
+    let changed = changed_packages(graph, paths, ignored)?;
+    let tested = tested_with(&changed)?;
     let members = graph.resolve_workspace()?;
-    let affected = dependents.intersection(&members)?;
+    let affected = tested.intersection(&members)?;
     Ok(affected)
 }
 
 /// The IDs of the workspace's members to test when the files at `paths` changed: each once, its
 /// dependencies first, as [`package_ids`](PackageSet::package_ids) lists them in reverse.
 ///
-/// A path is relative to the workspace's root. It belongs to the member whose path is the longest one of
-/// those that begin it, component by component, and affects this member and all from which a path of
-/// links of any kind leads to it, also through packages that are no members. A path that no member's path
-/// begins affects all members, and so do the workspace's own `Cargo.toml` and `Cargo.lock`.
+/// A path is relative to the workspace's root. One that lies in a folder of `ignored` counts for nothing.
+/// Any other belongs to the package of this machine, a member or one that comes from a path, with the
+/// longest folder that holds it, component by component: where packages have one folder, to each of these.
+/// It affects the members that are tested with the package: the package itself, and those from which a
+/// link of any kind leads to a package from which links that aren't dev-only lead to it, since a package's
+/// dev-dependencies are built for its own tests alone. A path that no such folder holds affects all
+/// members, and so do the workspace's own `Cargo.toml`, `Cargo.lock`, `rust-toolchain` and
+/// `rust-toolchain.toml`, and what lies in its `.cargo`.
 ///
 /// `OutOfMemory` comes where a growth was refused, and no other error. Time grows with the packages and
-/// links, and with each path times the members and the packages. Takes memory for some bits and a number a
-/// package.
-pub fn affected<'g>(graph: &'g PackageGraph, paths: &[String]) -> Result<Vec<&'g PackageId>, Error>
+/// links, times the logarithm of the packages; with each path, times the folders to leave out, and times
+/// its components and the logarithm of the packages; and with each package that a path belongs to, times
+/// the packages, 64 to a step. Takes memory for the components of each folder, and some numbers a package.
+pub fn affected<'g>(
+    graph: &'g PackageGraph,
+    paths: &[String],
+    ignored: &[String],
+) -> Result<Vec<&'g PackageId>, Error>
     ensures answer { IfOk result (λ ids. AreAffectedIds graph.now (map string_bytes paths.now)
-        (map (λ id. id.now) ids.items)) }
+        (map string_bytes ignored.now) (map (λ id. id.now) ids.items)) }
     ensures error { IsOkUnless result Error.OutOfMemory }
 {
-    let members = affected_set(graph, paths)?;
+    let members = affected_set(graph, paths, ignored)?;
     let ids = members.package_ids(DependencyDirection::Reverse);
     Ok(ids.collect(graph.alloc())?)
 }

@@ -1,5 +1,5 @@
 -- What a command prints of the packages of a workspace, and when it is refused.
-use Rattle.std.specs.Prelude.{◌≡◌, ℕ, List, map, take, drop, codes, if◌then◌else◌}
+use Rattle.std.specs.Prelude.{◌≡◌, ℕ, List, [], map, take, drop, codes, if◌then◌else◌}
 use Rattle.std.specs.Str.{bytes_eq}
 use Rattle.guppy_data.specs.declared.texts.error.Error.{Error}
 use Rattle.guppy_data.specs.declared.texts.error.Error.TheVariants.{OutOfMemory}
@@ -18,7 +18,7 @@ from_root path = if bytes_eq (take 2 path) (codes "./") then drop 2 path else pa
 -- the IDs of the members that changes at the paths affect, one a line
 pub record IsAffectedAnswer (g : GraphData) (paths : List (List ℕ)) (output : List ℕ) : Type 0 where
   pub ids : List (List ℕ)
-  pub exact : AreAffectedIds g (map from_root paths) ids
+  pub exact : AreAffectedIds g (map from_root paths) [] ids
   pub printed : output ≡ lines_of ids
 
 -- the command with each package as it is called

@@ -42,7 +42,7 @@ fn tested(alloc: Global, graph: &PackageGraph, paths: &[String]) -> Result<Strin
     ensures error { IsOkUnless result Error.OutOfMemory }
 {
     let paths = all_from_root(alloc, paths)?;
-    let ids = affected(graph, paths.as_slice())?;
+    let ids = affected(graph, paths.as_slice(), &[])?;
     Ok(lines_of(alloc, ids.as_slice())?)
 }
 

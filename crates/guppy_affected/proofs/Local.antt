@@ -1,0 +1,68 @@
+-- The packages of this machine, by their folders.
+use Rattle.std.proofs.Common.{◌≡◌, ◌∙◌, inl, inr, ⊎_elim, sym, ap, subst, ℕ, zero, suc, ◌<◌, List, [], ◌∷◌, ◌++◌, length, map, Contains, Bor, arith}
+use Rattle.std.specs.Prelude.{◌↔◌, IsSomeAnd, None, Some}
+use Rattle.std.specs.List.{range_with_len}
+use Rattle.std.specs.List.Sorted.{IsPermutation}
+use Rattle.std.specs.declared.vec.Vec.{Vec}
+use Rattle.std.specs.declared.alloc.Global.{Global}
+use Rattle.std.proofs.lemmas.List.{map_push}
+use Rattle.std.proofs.lemmas.List.Elements.{Contains-append_left, Contains-push, Contains-push_cases}
+use Rattle.std.proofs.lemmas.List.FromFn.{length-range_with_len, get_or-range_with_len}
+use Rattle.std.proofs.lemmas.List.Sorted.{Contains-permutation, IsPermutation-sym}
+use Rattle.guppy.specs.Path.{Part, components}
+use Rattle.guppy.specs.Component.{part_shown}
+use Rattle.guppy.specs.DataTypes.records.PackageRecord.{PackageRecord}
+use Rattle.guppy.specs.DataTypes.texts.component.Component.{Component}
+use Rattle.guppy.specs.Graph.{GraphData}
+use Rattle.guppy.specs.Iterators.{packages_of}
+use Rattle.guppy_affected.specs.Folders.{folder_at}
+use Rattle.guppy_affected.specs.Found.{lists_in, IsFolder}
+use Rattle.guppy_affected.proofs.Elements.{Contains-map, from_map, One, One-push}
+
+-- the package that is seen is of this machine, with this folder
+abbrev pub HasFolder : List Part → Bor GraphData × ℕ → Type 0
+HasFolder folder seen = IsSomeAnd (folder_at seen.0.now.packages seen.1) (λ own. components own ≡ folder)
+
+in_range : (n p : ℕ) → p < n → Contains (range_with_len 0 n) p
+in_range n p below = (p, rw (length-range_with_len 0 n) below, let at = get_or-range_with_len 0 n p p below in omega arith)
+
+-- a package of this machine is a package
+pub with_folder_within : (P : List ℕ → Type 0) (packages : List PackageRecord) (p : ℕ) → IsSomeAnd (folder_at packages p) P → p < length packages
+with_folder_within P [] p h = absurd h
+with_folder_within P (r ∷ packages) zero h = omega arith
+with_folder_within P (r ∷ packages) (suc p) h = let below = with_folder_within P packages p h in omega arith
+
+module _ (g : Bor GraphData) (seen : List (Bor GraphData × ℕ)) (all : IsPermutation (packages_of g) seen) where
+  -- each package was seen, and no package of another graph
+  pub was_seen : (p : ℕ) → p < length g.now.packages → Contains seen (g, p)
+  was_seen p below = Contains-permutation (packages_of g) seen (g, p) all (Contains-map (λ (p : ℕ). (g, p)) (range_with_len 0 (length g.now.packages)) p (in_range (length g.now.packages) p below))
+
+  pub of_graph : (e : Bor GraphData × ℕ) → Contains seen e → e.0 ≡ g
+  of_graph e there =
+      let one = from_map (λ (p : ℕ). (g, p)) (range_with_len 0 (length g.now.packages)) e (Contains-permutation seen (packages_of g) e (IsPermutation-sym (packages_of g) seen all) there) in
+      sym (ap (λ (e : Bor GraphData × ℕ). e.0) one.2)
+
+  -- the folders of the packages that were seen are those of the packages of this machine
+  pub folders_seen : (folder : List Part) → One seen (HasFolder folder) ↔ IsFolder g.now.packages folder
+  folders_seen folder = (
+    λ (e, there, has). (e.1, subst (λ (b : Bor GraphData). IsSomeAnd (folder_at b.now.packages e.1) (λ own. components own ≡ folder)) (of_graph e there) has),
+    λ (p, has). ((g, p), was_seen p (with_folder_within _ g.now.packages p has), has),
+  )
+
+-- a list for each package of this machine that was seen
+module _ (lists : List (Vec Component Global)) (seen : List (Bor GraphData × ℕ)) (so_far : (folder : List Part) → Contains (lists_in lists) folder ↔ One seen (HasFolder folder)) (e : Bor GraphData × ℕ) where
+  pub with_more : (list : Vec Component Global) (own : List ℕ) → Some own ≡ folder_at e.0.now.packages e.1 → map part_shown list.items ≡ components own → (folder : List Part) → Contains (lists_in (lists ++ list ∷ [])) folder ↔ One (seen ++ e ∷ []) (HasFolder folder)
+  with_more list own is parts folder =
+      let more = One-push (HasFolder folder) seen e in
+      let push : lists_in (lists ++ list ∷ []) ≡ lists_in lists ++ map part_shown list.items ∷ [] = map_push (λ (l : Vec Component Global). map part_shown l.items) lists list in (
+        λ there. more.1 (⊎_elim (λ early. inl ((so_far folder).0 early)) (λ same. inr (rw (← is) (sym parts ∙ same))) (Contains-push_cases (lists_in lists) (map part_shown list.items) folder (subst (λ l. Contains l folder) push there))),
+        λ one. subst (λ l. Contains l folder) (sym push) (⊎_elim (λ early. Contains-append_left (lists_in lists) (map part_shown list.items ∷ []) folder ((so_far folder).1 early))
+            (λ has. let own_is : components own ≡ folder = rw (← is) at has in subst (λ c. Contains (lists_in lists ++ map part_shown list.items ∷ []) c) (parts ∙ own_is) (Contains-push (lists_in lists) (map part_shown list.items))) (more.0 one)),
+      )
+
+  pub with_none : None ≡ folder_at e.0.now.packages e.1 → (folder : List Part) → Contains (lists_in lists) folder ↔ One (seen ++ e ∷ []) (HasFolder folder)
+  with_none is folder =
+      let more = One-push (HasFolder folder) seen e in (
+        λ there. more.1 (inl ((so_far folder).0 there)),
+        λ one. ⊎_elim (λ early. (so_far folder).1 early) (λ has. absurd (rw (← is) at has)) (more.0 one),
+      )

@@ -1,0 +1,17 @@
+use Rattle.std.proofs.Common.{length, map}
+use Rattle.guppy.specs.Path.{components}
+use Rattle.guppy.specs.Component.{part_shown}
+use Rattle.guppy.specs.Utf8Path.{path_text}
+use Rattle.guppy_affected.specs.Folders.{Begins}
+use Rattle.guppy_affected.specs.Found.{lists_in}
+use Rattle.guppy_affected.proofs.Sets.{NoLonger}
+use Rattle.guppy_affected.proofs.folders.longest.Given as goal
+
+abbrev pub invariant-loop-folder : goal.invariant-loop-folder
+invariant-loop-folder l = record {
+  begins : Begins (map part_shown l.folder.items) (components (path_text l.path));
+  no_longer : NoLonger (lists_in l.folders) (components (path_text l.path)) (length (map part_shown l.folder.items));
+}
+
+abbrev pub decreases-loop-folder : goal.decreases-loop-folder
+decreases-loop-folder l = length l.folder.items

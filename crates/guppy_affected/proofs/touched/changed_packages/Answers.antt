@@ -1,0 +1,24 @@
+use Rattle.std.proofs.Common.{map, string_bytes}
+use Rattle.guppy_affected.specs.Changed.{AreChanged}
+use Rattle.guppy_affected.specs.Found.{lists_in}
+use Rattle.guppy_affected.proofs.Along.{IfOk-along}
+use Rattle.guppy_affected.proofs.Owned.{changed_all, changed_some}
+use Rattle.guppy_affected.proofs.touched.changed_packages.Goals as goal
+
+pub returns-in-Some-clause-changed : goal.returns-in-Some-clause-changed
+returns-in-Some-clause-changed c =
+    let packages = c.args.graph.now.packages in
+    let paths = map string_bytes c.args.paths.now in
+    let ignored = map string_bytes c.args.ignored.now in
+    let longest = rw c.in-Some.is at c.in_ok-touched.ensures in
+    IfOk-along c.packages_in.result _ (λ set. AreChanged packages paths ignored set.included)
+    (λ set where_in. changed_some packages (lists_in c.in_ok-folders.folders) c.in_ok-folders.ensures paths ignored set.included (lists_in c.in-Some.touched) longest where_in) c.packages_in.ensures.members
+
+pub returns-clause-changed : goal.returns-clause-changed
+returns-clause-changed c =
+    let packages = c.args.graph.now.packages in
+    let paths = map string_bytes c.args.paths.now in
+    let ignored = map string_bytes c.args.ignored.now in
+    let outside = rw c.in-None.is at c.in_ok-touched.ensures in
+    IfOk-along c.resolve_workspace.result _ (λ set. AreChanged packages paths ignored set.included)
+    (λ set where_members. changed_all packages (lists_in c.in_ok-folders.folders) c.in_ok-folders.ensures paths ignored set.included outside where_members) c.resolve_workspace.ensures.members

@@ -1,0 +1,24 @@
+-- Sets of packages, by where links lead from them.
+use Rattle.std.specs.Prelude.{◌⊎◌, ◌↔◌, ℕ}
+use Rattle.guppy.specs.SearchTypes.ix.direction.DependencyDirection.TheVariants.{Forward}
+use Rattle.guppy.specs.IxSet.{IsIn}
+use Rattle.guppy.specs.Ordered.{FirmStep}
+use Rattle.guppy.specs.Query.{SetData}
+use Rattle.guppy.specs.Reach.{LinkStep, Walk}
+use Rattle.guppy_affected.specs.Affected.{IsTestedWith}
+
+-- exactly the packages from which walks over links that aren't dev-only lead into the set
+abbrev pub AreBuiltFrom : SetData → SetData → Type 0
+AreBuiltFrom set built = (p : ℕ) → IsIn built.included p
+    ↔ ((q : ℕ) × IsIn set.included q × Walk (FirmStep set.graph.links) p q)
+
+-- exactly the packages of the set, and those from which a link of any kind leads into it
+abbrev pub AreWithDependents : SetData → SetData → Type 0
+AreWithDependents set both = (p : ℕ) → IsIn both.included p
+    ↔ (IsIn set.included p
+    ⊎ ((q : ℕ) × IsIn set.included q × LinkStep Forward set.graph.links p q))
+
+-- exactly the packages that are tested with one of the set
+abbrev pub AreTestedWith : SetData → SetData → Type 0
+AreTestedWith set tested = (p : ℕ) → IsIn tested.included p
+    ↔ ((q : ℕ) × IsIn set.included q × IsTestedWith set.graph p q)
