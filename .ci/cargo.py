@@ -29,6 +29,9 @@ SECONDS = 60
 # So many starts are asked about in each graph, and so many broken inputs are tried.
 STARTS, BROKEN = 12, 1000
 
+# The workspace's own files.
+EVERYONES = ("Cargo.toml", "Cargo.lock", "rust-toolchain", "rust-toolchain.toml")
+
 # What is told of bad arguments.
 BAD_ARGUMENTS = (
     "bad arguments: give `reach forward|reverse PACKAGE..`, `depends PACKAGE PACKAGE`, `order`, "
@@ -52,8 +55,9 @@ class Graph:
         self.onward, self.firmly = reach_of(self.names, self.links), reach_of(self.names, self.firm)
         self.back = reach_of(self.names, reverse(self.links))
         members, root = set(self.data["workspace_members"]), self.data["workspace_root"]
-        paths = {it["id"]: os.path.relpath(it["manifest_path"], root) for it in packages if it["id"] in members}
-        self.folders = {called[it]: path.split("/")[:-1] for it, path in paths.items()}
+        paths = {it["id"]: os.path.relpath(it["manifest_path"], root) for it in packages if it["source"] is None}
+        self.local = {called[it]: path.split("/")[:-1] for it, path in paths.items()}
+        self.folders = {called[it]: self.local[called[it]] for it in paths if it in members}
         self.random = random.Random(len(text))
         self.starts = self.random.sample(self.names, min(STARTS, len(self.names)))
 
@@ -70,13 +74,19 @@ class Graph:
         return [(a, b) for a, b in pairs if b not in self.onward[a] or is_firm and a in self.firmly[b]]
 
     def touched(self, path):
-        """The members to which a path belongs."""
+        """The packages to which a path belongs, and all members where it is everyone's."""
         path = path.removeprefix("./")
         parts = path.split("/")
-        holding = [it for it, folder in self.folders.items() if parts[: len(folder)] == folder]
-        if path in ("Cargo.toml", "Cargo.lock") or not holding:
+        holding = [it for it, folder in self.local.items() if parts[: len(folder)] == folder]
+        if path in EVERYONES or parts[0] == ".cargo" or not holding:
             return set(self.folders)
-        return {max(holding, key=lambda it: len(self.folders[it]))}
+        longest = max(len(self.local[it]) for it in holding)
+        return {it for it in holding if len(self.local[it]) == longest}
+
+    def tested_with(self, touched):
+        """The members whose tests are built from these packages."""
+        direct = {a for a, b in self.links if self.firmly[b] & touched}
+        return (touched | direct) & set(self.folders)
 
     def ask(self, *words):
         """The lines of an answer, or what came in its place."""
@@ -176,12 +186,12 @@ def try_publish(graph):
 
 
 def try_affected(graph):
-    files = ("src/lib.rs", "x/y/z", "Cargo.toml", "Cargo.lock")
-    some = ["/".join([*folder, it]) for folder in graph.folders.values() if folder for it in files]
-    some += ["Cargo.toml", "Cargo.lock", "elsewhere/x", "base-mor/x", "./Cargo.lock", "./base/x", "/base/x", "../base/x", ""]
+    files = ("src/lib.rs", "x/y/z", "Cargo.toml", "Cargo.lock", ".cargo/config.toml")
+    some = ["/".join([*folder, it]) for folder in graph.local.values() if folder for it in files]
+    some += [*EVERYONES, ".cargo/config.toml", ".cargo", ".cargo.toml", "elsewhere/x", "base-mor/x"]
+    some += ["./Cargo.lock", "./base/x", "/base/x", "../base/x", ""]
     for paths in [[], *([it] for it in some), *(graph.random.sample(some, it % 3 + 2) for it in range(STARTS))]:
-        touched = set().union(*map(graph.touched, paths))
-        wanted = set().union(*(graph.back[it] for it in touched)) & set(graph.folders)
+        wanted = graph.tested_with(set().union(*map(graph.touched, paths)))
         answer = graph.ask("affected", *paths)
         yield f"affected {' '.join(paths)}", sorted(wanted), sorted(answer)
         yield f"affected {' '.join(paths)}, the wrong way round", [], graph.led_back(answer[::-1])
