@@ -115,7 +115,10 @@ pub(super) fn ask_graph(
         (["cycle"], _) => put_refused(graph, out)?,
         (["witness", ..], [_, listed @ ..]) => out.put_truth(graph.is_cycle_witness(listed)?),
         (["publish"], _) => put_publish_order(graph, out)?,
-        (["affected", paths @ ..], _) => put_affected(graph, paths, out)?,
+        (["affected", paths @ ..], _) => put_affected(graph, paths, &[], out)?,
+        (["affected-but", ignored, paths @ ..], _) => {
+            put_affected(graph, paths, &[*ignored], out)?;
+        }
         (["cycles"], _) => put_cycles(graph, false, out),
         (["cycles", "from-back"], _) => put_cycles(graph, true, out),
         _ => ask_set(graph, words, ids, out)?,

@@ -40,16 +40,23 @@ pub(super) fn put_publish_order(graph: &PackageGraph, out: &mut Answer) -> Resul
     Ok(())
 }
 
+fn owned(alloc: Global, words: &[&str]) -> Result<Vec<String>, AllocError> {
+    let mut texts = Vec::new(alloc);
+    for word in words {
+        texts.push(String::from_str(alloc, word)?)?;
+    }
+    Ok(texts)
+}
+
 pub(super) fn put_affected(
     graph: &PackageGraph,
     paths: &[&str],
+    ignored: &[&str],
     out: &mut Answer,
 ) -> Result<(), Error> {
-    let mut owned = Vec::new(graph.alloc());
-    for path in paths {
-        owned.push(String::from_str(graph.alloc(), path)?)?;
-    }
-    for id in &affected(graph, owned.as_slice())? {
+    let paths = owned(graph.alloc(), paths)?;
+    let ignored = owned(graph.alloc(), ignored)?;
+    for id in &affected(graph, paths.as_slice(), ignored.as_slice())? {
         out.put(id.repr());
     }
     Ok(())
@@ -134,15 +141,58 @@ publish_self | @a @b: a>a a>b
 ";
 
 pub(super) const AFFECTED: &str = "
-members_are_affected_by_what_they_depend_on | @base @mid @mid/deep @base-more @top outside: mid~base top~mid \
-    top~outside outside~base-more
+members_are_affected_by_what_they_are_tested_with | @base @mid @mid/deep @base-more @top %outside: mid>base top~mid \
+    top>outside outside~base-more
     affected base/src/lib.rs = base mid top
-    affected base-more/x = base-more top
+    affected base-more/x = base-more
     affected mid//deep/./x = mid/deep
     affected top/x mid/x = mid top
     affected = nothing
 
-all_members_are_affected_by_what_is_no_members | @base @mid @mid/deep @base-more @top outside: mid~base top~mid \
+dev_links_count_from_the_member_alone | @base @mid @top @tool: mid~base top>mid tool~top
+    affected base/x = base mid
+    affected mid/x = mid top tool
+    affected top/x = top tool
+
+packages_of_this_machine_have_folders | @base @app $base/shared $../near %far: app>base/shared base>../near app>far
+    affected base/shared/x = app
+    affected base/shared = app
+    affected base/x = base
+    affected base/sharedx = base
+    affected ../near/src/lib.rs = base
+    sorted affected base/x base/shared/x = app base
+    sorted affected ../nearby/x = app base
+    sorted affected far/x = app base
+    sorted affected .. = app base
+
+packages_with_one_folder_share_its_paths | @app @other $shared $shared/.: app>shared other>shared/.
+    sorted affected shared/x = app other
+
+a_member_at_the_root_holds_what_no_other_does | root=root@ @base: root>base
+    affected src/lib.rs = root
+    affected elsewhere/x = root
+    affected base/Cargo.toml = base root
+    affected Cargo.toml = base root
+    affected Cargo.lock = base root
+    affected rust-toolchain = base root
+    affected rust-toolchain.toml = base root
+    affected .cargo/config.toml = base root
+    affected .cargo = base root
+    affected rust-toolchain.md = root
+    affected .cargo.toml = root
+
+paths_to_leave_out_affect_nothing | root=root@ @base: root>base
+    affected-but docs docs/x = nothing
+    affected-but docs docs = nothing
+    affected-but docs docsx/y = root
+    affected-but docs/a docs/b = root
+    affected-but docs docs/x base/y = base root
+    affected-but base base/x src/lib.rs = root
+    affected-but .cargo .cargo/config.toml = nothing
+    affected-but Cargo.lock Cargo.lock = nothing
+    affected-but ./ Cargo.lock = base root
+
+all_members_are_affected_by_what_is_no_members | @base @mid @mid/deep @base-more @top %outside: mid~base top~mid \
     top~outside outside~base-more
     sorted affected base mid mid/deep base-more top = base base-more mid mid/deep top
     sorted affected elsewhere/x = base base-more mid mid/deep top
@@ -152,6 +202,7 @@ all_members_are_affected_by_what_is_no_members | @base @mid @mid/deep @base-more
     sorted affected bas = base base-more mid mid/deep top
     sorted affected /base/x = base base-more mid mid/deep top
     sorted affected ../base/x = base base-more mid mid/deep top
+    sorted affected-but elsewhere elsewhere/x = nothing
 ";
 
 /// A graph whose links say whether they are dev-only.

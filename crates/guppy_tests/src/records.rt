@@ -4,11 +4,12 @@
 //!
 //! | written | what it is |
 //! |---|---|
-//! | `a` | a package with this ID and name, which is no member of the workspace |
+//! | `a` | a package with this ID and name, which is no member of the workspace, at its root |
 //! | `a=n` | the ID and another name |
 //! | `a=n@p` | a member: the ID, its name, and the path where it stands |
 //! | `@p` | a member whose ID and name are its path |
 //! | `%a` | a package with this ID and name, from crates.io |
+//! | `$p` | a package whose ID, name and path are this, and which is no member |
 //! | `a#1.0.0` | a package of this version, where the others have 1.2.3 |
 //! | `+bin=b` | a build target of the package before it; also `+test=t`, and `+lib` with a name or without |
 //! | `+macro=m` | a library of the kind of a procedural macro |
@@ -111,6 +112,13 @@ fn add_member(
     }
 }
 
+fn add_local(rt: &impl Abort, alloc: Global, packages: &mut Vec<PackageRecord>, place: &str) {
+    add_package(rt, alloc, packages, place, place);
+    if let Some(package) = packages.last_mut() {
+        package.source = PackageSourceRecord::Path(path(rt, alloc, place));
+    }
+}
+
 fn add_external(rt: &impl Abort, alloc: Global, packages: &mut Vec<PackageRecord>, name: &str) {
     add_package(rt, alloc, packages, name, name);
     if let Some(package) = packages.last_mut() {
@@ -189,6 +197,8 @@ fn add_package_word(rt: &impl Abort, alloc: Global, packages: &mut Vec<PackageRe
         add_member(rt, alloc, packages, place, place, place);
     } else if let Some(name) = word.strip_prefix('%') {
         add_external(rt, alloc, packages, name);
+    } else if let Some(place) = word.strip_prefix('$') {
+        add_local(rt, alloc, packages, place);
     } else if let Some((id, name)) = word.split_once('=') {
         match name.split_once('@') {
             Some((name, place)) => add_member(rt, alloc, packages, id, name, place),
