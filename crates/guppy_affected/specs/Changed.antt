@@ -44,6 +44,7 @@ pub record AreLongest (folders : List (List Part)) (paths ignored : List (List �
   pub longest : (folder : List Part) → Contains touched folder
       ↔ IsLongestOfOne folders paths ignored folder
 
+-- the longest folders that hold the paths were found, or nothing where one of these is outside of them
 abbrev pub AreTouchedFolders : List (List Part) → List (List ℕ) → List (List ℕ)
     → Option (List (Vec Component Global)) → Type 0
 AreTouchedFolders folders paths ignored found = MatchOption found

@@ -45,7 +45,7 @@ fn with_dependents<'g>(set: &PackageSet<'g>) -> Result<PackageSet<'g>, Error>
 }
 
 // The packages that are tested with one of the set. A package's dev-dependencies are built for its own
-// tests alone, so the last link of the way to it may be dev-only, and no other.
+// tests alone, so of the links that lead from it only the first may be dev-only.
 pub(crate) fn tested_with<'g>(set: &PackageSet<'g>) -> Result<PackageSet<'g>, Error>
     ensures graph { IfOk result (λ tested. tested.graph ≡ set.now.graph) }
     ensures count { IfOk result (λ tested.
