@@ -30,21 +30,23 @@ next_included d links initials trace entry was now kept followed before p h = el
 
 pub resolve_with_fn-requires : goal.resolve_with_fn-requires
 resolve_with_fn-requires c κs =
-    let q = c.args.query in
-    ((refl, tt), record {
-      at = λ earlier now n once in_time steps leaves new below cx link same_query same_link.
-          let kept = chained_keeps _
-          (λ trace state. ((p : ℕ) → IsIncluded q.direction q.graph.links q.initials trace p → IsIn q.initials p ⊎ IsIn state.0.now p) × (length state.0.now ≡ length q.graph.packages))
-          (λ trace state entry next j k. (
-            next_included q.direction q.graph.links q.initials trace entry state.0.now next.0.now k.2.met.1.1.1.0
-            (rw k.3 at (subst (λ (d : LinkData). entry.1 ≡ true → IsSomeAnd (slice_get d.graph.links d.number) (λ l. IsIn next.0.now (far_end k.0.now.direction l))) k.4 k.2.met.1.1.1.1)) j.0,
-            k.2.met.1.1.0 ∙ j.1,
-          ))
-          earlier _ now
-          (λ p h. elim h [ inl i ↦ inl i | inr m ↦ let none = m.2.1 in absurd (omega arith) ], ap (λ (l : List Bool). length l) c.in_ok-led_to.ensures ∙ (length-replicate _ _ ∙ (c.package_count.ensures ∙ ap (λ (g : GraphData). length g.packages) c.graph-graph.ensures))) steps in
-          let may : IsIn q.initials (near_end q.direction leaves.0) ⊎ IsIn now.0.now (near_end q.direction leaves.0) = kept.0 (near_end q.direction leaves.0) leaves.2 in
-          rw same_query (
-          subst (λ (d : LinkData). LeavesOne q.direction d.graph.links (λ p. IsIn q.initials p ⊎ IsIn now.0.now p) d.number) (sym same_link) (leaves.0, leaves.1, may),
-          subst (λ (d : LinkData). length now.0.now ≡ length d.graph.packages) (sym same_link) kept.1,
-          );
-    })
+    let q = c.args.query in (
+      (refl, tt),
+      record {
+        at = λ earlier now n once in_time steps leaves new below cx link same_query same_link.
+            let kept = chained_keeps _
+            (λ trace state. ((p : ℕ) → IsIncluded q.direction q.graph.links q.initials trace p → IsIn q.initials p ⊎ IsIn state.0.now p) × (length state.0.now ≡ length q.graph.packages))
+            (λ trace state entry next j k. (
+              next_included q.direction q.graph.links q.initials trace entry state.0.now next.0.now k.2.met.1.1.1.0
+                  (rw k.3 at (subst (λ (d : LinkData). entry.1 ≡ true → IsSomeAnd (slice_get d.graph.links d.number) (λ l. IsIn next.0.now (far_end k.0.now.direction l))) k.4 k.2.met.1.1.1.1)) j.0,
+              k.2.met.1.1.0 ∙ j.1,
+            ))
+            earlier _ now
+            (λ p h. elim h [ inl i ↦ inl i | inr m ↦ let none = m.2.1 in absurd (omega arith) ], ap (λ (l : List Bool). length l) c.in_ok-led_to.ensures ∙ (length-replicate _ _ ∙ (c.package_count.ensures ∙ ap (λ (g : GraphData). length g.packages) c.graph-graph.ensures))) steps in
+            let may : IsIn q.initials (near_end q.direction leaves.0) ⊎ IsIn now.0.now (near_end q.direction leaves.0) = kept.0 (near_end q.direction leaves.0) leaves.2 in
+            rw same_query (
+              subst (λ (d : LinkData). LeavesOne q.direction d.graph.links (λ p. IsIn q.initials p ⊎ IsIn now.0.now p) d.number) (sym same_link) (leaves.0, leaves.1, may),
+              subst (λ (d : LinkData). length now.0.now ≡ length d.graph.packages) (sym same_link) kept.1,
+            );
+      },
+    )
