@@ -1,0 +1,11 @@
+pub mod Places
+pub mod Lists
+pub mod Options
+pub mod Operands
+pub mod Turns
+pub mod Fronts
+pub mod Words
+pub mod Taken
+pub mod Again
+pub mod Answered
+pub mod Lines

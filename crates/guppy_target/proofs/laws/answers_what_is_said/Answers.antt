@@ -1,0 +1,5 @@
+use Rattle.guppy_target.proofs.Answered.{answered}
+use Rattle.guppy_target.proofs.laws.answers_what_is_said.Goals as goal
+
+pub returns : goal.returns
+returns c = answered

@@ -1,0 +1,5 @@
+pub mod Cfg
+pub mod Grammar
+pub mod Reading
+pub mod Platform
+pub mod Answer
