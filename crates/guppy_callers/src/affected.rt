@@ -6,7 +6,7 @@ use guppy::{Error, PackageGraph, PackageId};
 use guppy_affected::affected;
 
 /// The IDs of the members to test, dependencies first. Each line of the text is the path of a file that
-/// changed, as `git diff --relative --name-only main` prints it at the workspace's root.
+/// changed, from the workspace's root; of a renamed file, both paths.
 pub fn members_to_test<'g>(graph: &'g PackageGraph, diff: &str) -> Result<Vec<&'g PackageId>, Error>
     ensures answer { IfOk result (λ ids. AreAffectedIds graph.now (lines diff.now) []
         (map (λ id. id.now) ids.items)) }

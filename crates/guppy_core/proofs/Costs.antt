@@ -1,14 +1,14 @@
 -- What positions cost, and what a search still costs.
-use Rattle.std.proofs.Common.{◌≡◌, ℕ, suc, zero, ◌+◌, ◌<◌, ◌≤◌, Bool, true, false, cond, List, [], ◌∷◌, ◌++◌, length, replicate, refl, ap, arith, ⊎_elim, Some}
+use Rattle.std.proofs.Common.{◌≡◌, ℕ, suc, zero, ◌+◌, ◌<◌, ◌≤◌, Bool, true, false, cond, List, [], ◌∷◌, ◌++◌, length, replicate, refl, sym, ap, arith, ⊎_elim, Some}
 use Rattle.std.proofs.Math.ListN.{set}
 use Rattle.std.specs.Prelude.{◌==◌, ◌↔◌, slice_get, All}
 use Rattle.std.proofs.lemmas.Bool.{eqb-true, eqb-false, cases_lt}
+use Rattle.std.proofs.lemmas.Option.{slice_get_within, get_or_from_slice_get}
 use Rattle.guppy_search.specs.declared.ix.direction.DependencyDirection.{DependencyDirection}
 use Rattle.guppy_search.specs.declared.graph_core.link.Link.{Link}
-use Rattle.guppy_search.specs.declared.ix.direction.DependencyDirection.TheVariants.{Forward, Reverse}
 use Rattle.guppy_search.specs.Links.{near_end, numbers_where, links_at, EndsBelow}
 use Rattle.guppy_search.specs.IxSet.{has}
-use Rattle.guppy_search.proofs.Searching.{far_end_below}
+use Rattle.guppy_search.proofs.Rows.{near_end_below}
 use Rattle.guppy_core.specs.Mark.{Marks}
 use Rattle.guppy_core.specs.Cost.{missing_cost, AreLookedAt}
 
@@ -124,20 +124,13 @@ module _ {A : Type 0} (key : A → ℕ) where
 abbrev pub degree : {E : Type 0} → DependencyDirection → List (Link E) → ℕ → ℕ
 degree d links p = length (links_at d links p)
 
--- each link leaves a position
-near_end_below : {E : Type 0} (d : DependencyDirection) (links : List (Link E)) (n : ℕ) → All (EndsBelow n) links → (k : ℕ) (l : Link E) → slice_get links k ≡ Some l → near_end d l < n
-near_end_below {E} d links n ends k l found = elim d as (λ z. near_end z l < n) [
-  | Forward ↦ far_end_below Reverse links n k l found ends
-  | Reverse ↦ far_end_below Forward links n k l found ends
-]
-
 -- at first each link is owed
 pub owed_first : {E : Type 0} (d : DependencyDirection) (links : List (Link E)) (n : ℕ) → All (EndsBelow n) links → owed (degree d links) (replicate n false) [] ≡ length links
 owed_first {E} d links n ends =
     let key : Link E → ℕ = λ l. near_end d l in
     let a = missing_cost-replicate (degree d links) 0 n in
     let b = same_cost key (degree d links) (tally key links) (λ p. length-numbers_where key 0 links p) 0 n in
-    let c = tallies key links n (near_end_below d links n ends) in
+    let c = tallies key links n (λ k l found. near_end_below d links n k l ends (slice_get_within links k l found) (sym (get_or_from_slice_get links k l l found))) in
     omega arith
 
 -- a pop takes a position's cost off

@@ -1,4 +1,3 @@
-//! The caller that the page CALLING.md of `guppy_target` shows.
 ghost use Rattle.std.specs.Prelude.{◌≡◌, [], ◌∷◌, IfOk};
 ghost use Rattle.std.specs.Str.Lines.{lines};
 ghost use Rattle.guppy.specs.Platform.{OnPlatforms, status_value, seen_status};

@@ -4,6 +4,7 @@
 //! asked of Cargo 1.95. The lines are those that `rustc --print cfg` prints there.
 #![tactic(auto)]
 
+// The caller that the page CALLING.md of `guppy_target` shows.
 pub mod caller;
 #[cfg(test)]
 mod texts;
