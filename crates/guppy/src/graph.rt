@@ -2,15 +2,17 @@
 
 pub use crate::{
     AllCycles, AllPackages, BuildTargets, CycleIds, Cycles, DefaultMemberIds, DefaultMembers,
-    DependsCache, FeatureIndexInPackage, ListedPackageIds, ListedPackages, MemberIds, Members,
-    MembersByName, MembersByPath, NamedFeatures, NamedFeaturesFull, OptionalDepsFull, PackageGraph,
-    PackageIds, PackageLink, PackageLinkContext, PackageLinkVisitor, PackageLinks, PackageMetadata,
-    PackageQuery, PackageSet, Packages, Recorder, RootIds, RootPackages, WalkedLinks, Workspace,
+    DependsCache, FeatureIndexInPackage, IntoGraph, ListedPackageIds, ListedPackages, MemberIds,
+    Members, MembersByName, MembersByPath, NamedFeatures, NamedFeaturesFull, OptionalDepsFull,
+    PackageGraph, PackageIds, PackageLink, PackageLinkContext, PackageLinkVisitor, PackageLinks,
+    PackageMetadata, PackageQuery, PackageSet, Packages, Recorder, RootIds, RootPackages,
+    WalkedLinks, Workspace,
 };
 pub use guppy_core::{DependencyDirection, IndexType, PackageIx};
 pub use guppy_data::{
     BuildTarget, BuildTargetId, BuildTargetKind, BuildTargetKindRecord, BuildTargetRecord,
     DepRequiredOrOptional, DependencyReq, DependencyReqImpl, EnabledStatus, ExternalSource,
     Features, GitReq, LinkRecord, NamedFeatureDep, OwnedBuildTargetId, PackagePublish,
-    PackagePublishRecord, PackageRecord, PackageSource, PackageSourceRecord, WorkspaceRecord,
+    PackagePublishRecord, PackageRecord, PackageSource, PackageSourceRecord, Records,
+    WorkspaceRecord,
 };

@@ -36,7 +36,7 @@ pub use metadata::{
     BuildTargets, FeatureIndexInPackage, NamedFeatures, NamedFeaturesFull, OptionalDepsFull,
     PackageLinks, PackageMetadata,
 };
-pub use package_graph::{AllPackages, DependsCache, PackageGraph, PackageIds, Packages};
+pub use package_graph::{AllPackages, DependsCache, IntoGraph, PackageGraph, PackageIds, Packages};
 pub use query::{PackageLinkContext, PackageLinkVisitor, PackageQuery, Recorder};
 pub use semver::{Version, VersionReq};
 pub use serde_json::Value as JsonValue;

@@ -1,6 +1,7 @@
 //! The graph of packages: `RecordGraph` of `guppy_graph`, as its users see it.
 mod depends_cache;
 mod graph;
+mod into_graph;
 mod naming;
 mod positions;
 
@@ -10,4 +11,5 @@ pub use crate::{
 pub use depends_cache::DependsCache;
 pub use graph::{AllPackages, PackageGraph, PackageIds};
 pub use guppy_graph::Packages;
+pub use into_graph::IntoGraph;
 pub(crate) use naming::NamesPackage;

@@ -1,23 +1,11 @@
--- Elements of lists that a function made of others.
+-- Elements of lists.
 use Rattle.std.proofs.Common.{◌≡◌, ◌∙◌, ◌⊎◌, inl, inr, ⊎_elim, refl, sym, ap, subst, ℕ, zero, suc, ◌+◌, ◌<◌, List, [], ◌∷◌, ◌++◌, length, map, take, get_or, string_bytes, Contains, arith}
 use Rattle.std.proofs.lemmas.List.{map_push, take_more}
 use Rattle.std.specs.Prelude.{◌↔◌}
 use Rattle.std.specs.declared.string.String.{String}
 use Rattle.std.specs.declared.alloc.Global.{Global}
 use Rattle.std.proofs.lemmas.List.Elements.{Contains-append_cases, Contains-append_left, Contains-append_right}
-
-module _ {X Y : Type 0} (f : X → Y) where
-  pub Contains-map : (xs : List X) (x : X) → Contains xs x → Contains (map f xs) (f x)
-  Contains-map [] x (k, within, same) = absurd (omega arith)
-  Contains-map (y ∷ ys) x (zero, within, same) = (zero, omega arith, ap f same)
-  Contains-map (y ∷ ys) x (suc k, within, same) = Contains-append_right (f y ∷ []) (map f ys) (f x) (Contains-map ys x (k, omega arith, same))
-
-  pub from_map : (xs : List X) (y : Y) → Contains (map f xs) y → (x : X) × Contains xs x × (f x ≡ y)
-  from_map [] y (k, within, same) = absurd (omega arith)
-  from_map (x ∷ xs) y (zero, within, same) = (x, (zero, omega arith, refl), same)
-  from_map (x ∷ xs) y (suc k, within, same) =
-      let later = from_map xs y (k, omega arith, same) in
-      (later.0, Contains-append_right (x ∷ []) xs later.0 later.1, later.2)
+use Rattle.guppy.proofs.CyclicComponents.{Contains-map}
 
 module _ {X : Type 0} where
   -- a list of one has that one

@@ -17,7 +17,8 @@ use Rattle.guppy.specs.Graph.{GraphData}
 use Rattle.guppy.specs.Iterators.{packages_of}
 use Rattle.guppy_affected.specs.Folders.{folder_at}
 use Rattle.guppy_affected.specs.Found.{lists_in, IsFolder}
-use Rattle.guppy_affected.proofs.Elements.{Contains-map, from_map, One, One-push}
+use Rattle.guppy.proofs.CyclicComponents.{Contains-map, from_map}
+use Rattle.guppy_affected.proofs.Elements.{One, One-push}
 
 -- the package that is seen is of this machine, with this folder
 abbrev pub HasFolder : List Part → Bor GraphData × ℕ → Type 0

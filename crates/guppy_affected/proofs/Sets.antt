@@ -16,7 +16,7 @@ use Rattle.guppy.specs.DataTypes.texts.component.Component.{Component}
 use Rattle.guppy_affected.specs.Folders.{Begins}
 use Rattle.guppy_affected.specs.Found.{lists_in}
 use Rattle.guppy_affected.proofs.Begins.{equal_shown, shown_equal}
-use Rattle.guppy_affected.proofs.Elements.{Contains-map, from_map}
+use Rattle.guppy.proofs.CyclicComponents.{Contains-map, from_map}
 
 both_true : (a b : Bool) → (a && b) ≡ true → (a ≡ true) × (b ≡ true)
 both_true true b h = (refl, h)

@@ -6,7 +6,7 @@ ghost use Rattle.guppy_metadata.specs.Links.{AreLinks};
 ghost use Rattle.guppy_metadata.specs.Package.{ArePackages};
 ghost use Rattle.guppy_metadata.specs.Workspace.{IsWorkspace};
 
-use guppy::{Error, PackageGraph};
+use guppy::{Error, IntoGraph, PackageGraph};
 use guppy_metadata::{MetadataFault, records_of};
 use std::alloc::Global;
 

@@ -15,8 +15,8 @@ pub mod topo;
 
 pub use guppy_search::{
     BufferedEdgeFilter, CountedGraph, DependencyDirection, EdgeDfs, EdgeFilterFn, Graph,
-    GraphFault, GraphSpec, IndexType, IxOnes, IxSet, Link, LinkVisitor, PackageIx, ReachCache,
-    Recorder, SimpleEdgeFilterFn, dfs, graph_core, ix, reachable, reachable_buffered,
+    GraphFault, GraphSpec, IndexType, IxOnes, IxSet, LIMIT, Link, LinkVisitor, PackageIx,
+    ReachCache, Recorder, SimpleEdgeFilterFn, dfs, graph_core, ix, reachable, reachable_buffered,
     reachable_buffered_mut, reachable_filtered, reachable_recorded, reachable_with,
     reachable_with_fn, walk,
 };

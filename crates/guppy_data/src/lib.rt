@@ -21,7 +21,8 @@ pub use platform::target::{TargetEval, TargetSpec};
 pub use platform::ternary::EnabledTernary;
 pub use records::{
     BuildTargetKindRecord, BuildTargetRecord, DepRequiredOrOptional, DependencyReqImpl, LinkRecord,
-    OwnedBuildTargetId, PackagePublishRecord, PackageRecord, PackageSourceRecord, WorkspaceRecord,
+    OwnedBuildTargetId, PackagePublishRecord, PackageRecord, PackageSourceRecord, Records,
+    WorkspaceRecord,
 };
 pub use texts::component::{Component, Components};
 pub use texts::dependency_kind::DependencyKind;

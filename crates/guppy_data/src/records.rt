@@ -357,3 +357,14 @@ impl WorkspaceRecord {
         }
     }
 }
+
+/// What a package graph is made of.
+#[derive(Debug, Drop)]
+pub struct Records {
+    /// The packages.
+    pub packages: Vec<PackageRecord>,
+    /// The links.
+    pub links: Vec<LinkRecord>,
+    /// The workspace.
+    pub workspace: WorkspaceRecord,
+}

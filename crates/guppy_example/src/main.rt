@@ -1,7 +1,7 @@
 //! Prints which packages depend on `core`, in the workspace whose metadata is on standard input.
 #![tactic(auto)]
 
-use guppy::graph::DependencyDirection;
+use guppy::graph::{DependencyDirection, IntoGraph};
 use guppy_metadata::records_of;
 use std::io::{Read, Write};
 

@@ -18,14 +18,12 @@ use crate::keys::{
     Ids, Keys, Name, Path, index_by_id, index_by_name, index_by_target, position_of_id, texts_of,
 };
 use crate::likely::likely_order;
-use guppy_core::Link;
+use guppy_core::{LIMIT, Link};
 use guppy_data::{
     BuildTargetRecord, ConstructFault, Error, LinkRecord, OwnedBuildTargetId, PackageId,
     PackageRecord, WorkspaceRecord,
 };
 use std::alloc::{AllocError, Global};
-
-const LIMIT: usize = 4_294_967_295;
 
 // For how many links the ends are guessed at a time. Records lie far apart, and so do their texts and the hints:
 // a loop that compares nothing waits for several of them at once.

@@ -27,4 +27,5 @@ mod target;
 mod workspace;
 
 pub use fault::{Kind, MetadataFault, TextFault};
-pub use records::{Records, records_of};
+pub use guppy_data::Records;
+pub use records::records_of;

@@ -14,45 +14,9 @@ use crate::link::{Packages, links_of};
 use crate::object::Object;
 use crate::package::{Package, package_records, packages_of, positions_of};
 use crate::workspace::{check_members, member_ids, set_of, workspace_record};
-use guppy::{Error, PackageGraph};
-use guppy_data::{LinkRecord, PackageRecord, Utf8Path, WorkspaceRecord};
+use guppy_data::{LinkRecord, Records, Utf8Path};
 use serde_json::Value;
 use std::alloc::Global;
-
-/// The records of a package graph.
-#[derive(Debug, Drop)]
-pub struct Records {
-    /// The packages, in the order of Cargo.
-    pub packages: Vec<PackageRecord>,
-    /// The links, in the order of Cargo.
-    pub links: Vec<LinkRecord>,
-    /// The workspace.
-    pub workspace: WorkspaceRecord,
-}
-
-impl Records {
-    ghost use Rattle.guppy.specs.Accepted.{IsAccepted};
-    ghost use Rattle.guppy.specs.Graph.{Holds};
-    ghost use Rattle.guppy.specs.Refused.{IsRefusal};
-
-    /// The package graph of the records: what `PackageGraph::from_records` makes of them, with its errors,
-    /// time and memory.
-    pub fn into_graph(self) -> Result<PackageGraph, Error>
-        ensures holds { IfOk result
-            (λ g. Holds g self.packages.items self.links.items self.workspace) }
-        ensures accepted { OnOk result
-            (IsAccepted self.packages.items self.links.items self.workspace) }
-        ensures refused { IfErr result
-            (IsRefusal self.packages.items self.links.items self.workspace) }
-    {
-        let Records {
-            packages,
-            links,
-            workspace,
-        } = self;
-        PackageGraph::from_records(packages, links, workspace)
-    }
-}
 
 // The value that the JSON is.
 fn value_of(alloc: Global, json: &str) -> Result<Value, MetadataFault>
@@ -139,7 +103,7 @@ fn records_in(metadata: Object<'_>) -> Result<Records, Misfit>
 /// `NotJson` comes where the text is no JSON, and `NotResolved` where the JSON's member `resolve` is absent or null. Any
 /// other fault tells the first place in the JSON, in the order in which it is read, where something is missing,
 /// of another kind or no such text. What the rules of a package graph refuse, as a link's end that is no
-/// package, is left to `into_graph`.
+/// package, is left to `IntoGraph::into_graph`.
 ///
 /// Time grows with the text, and of one package with its resolved times its declared dependencies. Takes
 /// memory for what the text says and for the records.

@@ -1,5 +1,6 @@
 //! What is read of a text that stands here, and what is told of bad ones.
 
+use guppy::IntoGraph;
 use guppy_data::{LinkRecord, PackageRecord};
 use guppy_metadata::{MetadataFault, records_of};
 use std::alloc::Global;

@@ -6,5 +6,5 @@ mod link;
 mod lists;
 
 pub use counted::CountedGraph;
-pub use graph::{Graph, GraphFault};
+pub use graph::{Graph, GraphFault, LIMIT};
 pub use link::Link;

@@ -22,6 +22,6 @@ pub use dfs::{
     reachable, reachable_buffered, reachable_buffered_mut, reachable_filtered, reachable_recorded,
     reachable_with, reachable_with_fn,
 };
-pub use graph_core::{CountedGraph, Graph, GraphFault, Link};
+pub use graph_core::{CountedGraph, Graph, GraphFault, LIMIT, Link};
 pub use ix::{DependencyDirection, GraphSpec, IndexType, IxOnes, IxSet, PackageIx};
 pub use walk::EdgeDfs;

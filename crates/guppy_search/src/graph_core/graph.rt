@@ -32,7 +32,8 @@ impl From<AllocError> for GraphFault {
     }
 }
 
-const LIMIT: usize = 4_294_967_295;
+/// How many nodes, and how many links, a graph has at most.
+pub const LIMIT: usize = 4_294_967_295;
 
 /// A graph: nodes by position, links by number, and for each position the links that leave it.
 /// No ordered pair of positions has two links; self-links and cycles are allowed.
