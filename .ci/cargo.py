@@ -1,5 +1,5 @@
 #!/usr/bin/env python3
-"""Tries the program guppy_cargo on what `cargo metadata` prints of real workspaces.
+"""Tries the program guppy_cargo_main on what `cargo metadata` prints of real workspaces.
 
 They are made in a temporary folder: one with every kind of package and dependency, some that are drawn, and one on
 Debian's packages of Rust sources, which are taken from its archive and unpacked there; where they can't be had a
@@ -22,7 +22,7 @@ from breaks import broken
 from workspaces import texts_in
 
 HERE = os.path.dirname(os.path.realpath(__file__))
-BUILT = os.path.join(os.path.dirname(HERE), "crates", "guppy_cargo", "out", "guppy_cargo")
+BUILT = os.path.join(os.path.dirname(HERE), "crates", "guppy_cargo_main", "out", "guppy_cargo_main")
 PROGRAM = sys.argv[1] if sys.argv[1:] else BUILT
 SECONDS = 60
 
@@ -45,10 +45,15 @@ class Graph:
     def __init__(self, text):
         self.text, self.data = text, json.loads(text)
         packages, nodes = self.data["packages"], self.data["resolve"]["nodes"]
-        count = collections.Counter(it["name"] for it in packages)
-        called = {it["id"]: it["name"] if count[it["name"]] == 1 else it["id"] for it in packages}
+        self.forms = {it["id"]: (it["name"], f"{it['name']}@{it['version']}", it["id"]) for it in packages}
+        self.meant = {it: [it] for it in self.forms}
+        for called in (0, 1):
+            for text in {it[called] for it in self.forms.values()} - set(self.forms):
+                self.meant[text] = [it for it, forms in self.forms.items() if text in forms[:2]]
+        called = {it: next(form for form in forms if self.meant[form] == [it]) for it, forms in self.forms.items()}
+        self.called = called
         self.names, self.ids = sorted(called.values()), {name: it for it, name in called.items()}
-        self.repeated = [name for name in count if count[name] > 1]
+        self.repeated = [text for text, ids in self.meant.items() if len(ids) > 1]
         ends = [(called[node["id"]], called[it["pkg"]], it["dep_kinds"]) for node in nodes for it in node["deps"]]
         self.links = {(a, b) for a, b, _ in ends}
         self.firm = {(a, b) for a, b, kinds in ends if any(it["kind"] != "dev" for it in kinds)}
@@ -197,6 +202,30 @@ def try_affected(graph):
         yield f"affected {' '.join(paths)}, the wrong way round", [], graph.led_back(answer[::-1])
 
 
+def try_names(graph):
+    """Each package by each text that means it alone, and texts that are names where IDs belong."""
+    for it, forms in graph.forms.items():
+        for form in forms:
+            if graph.meant[form] == [it]:
+                yield f"depends {form} on itself", ["true"], graph.ask("depends", form, it)
+    it, name = next((it, name) for it, (name, _, _) in graph.forms.items() if graph.meant[name] == [it])
+    for key in ("pkg", "workspace_default_members"):
+        text = json.dumps(named(graph.data, key, it, name)).encode()
+        if text != json.dumps(graph.data).encode():
+            yield f"{key} {name}", "status 1", ending(["order"], text)
+
+
+def named(data, key, old, new):
+    """The data with the text under this key, or in the list there, replaced."""
+    if isinstance(data, dict):
+        changed = {k: named(it, key, old, new) for k, it in data.items()}
+        if key in data:
+            lists = isinstance(data[key], list)
+            changed[key] = [new if it == old else it for it in data[key]] if lists else new if data[key] == old else data[key]
+        return changed
+    return [named(it, key, old, new) for it in data] if isinstance(data, list) else data
+
+
 def try_refused(graph):
     """Arguments, names and input that are wrong, and cycles that no order can have."""
     given = graph.text.encode()
@@ -204,6 +233,9 @@ def try_refused(graph):
         yield words, "status 2", ending(words.split(), given)
     for name in ("no-such-package", *graph.repeated):
         yield f"depends {name}", "status 1", ending(["depends", name, graph.names[0]], given)
+    for name in graph.repeated:
+        wanted = f"error: ambiguous package {name}: give {' or '.join(graph.called[it] for it in graph.meant[name])}\n"
+        yield f"reach forward {name}, what is told", (1, "", wanted), run(["reach", "forward", name], given)
     without = json.dumps({**graph.data, "resolve": None}).encode()
     deep = [b"[" * 10**6, b'{"a":' * 10**5]
     for text in (b"", b"{}", b"[]", b"\xff", given[:-2], given + b"x", given * 2, without, *deep):
@@ -231,6 +263,7 @@ PARTS = {
     "roots and links": try_links,
     "verify and publish-order": try_publish,
     "affected": try_affected,
+    "names": try_names,
     "refusals": try_refused,
 }
 

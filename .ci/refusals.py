@@ -252,9 +252,9 @@ def outcomes_of(workers, tries, over):
 
 def try_build(workers, shim, ending):
     """Tries all that one of the compilers built, and returns how many were tried, and how many failed."""
-    crates = "guppy_refusals", "guppy_run", "guppy_cargo"
+    crates = "guppy_refusals", "guppy_run", "guppy_cargo_main"
     checks, program, cargo = (os.path.join(CRATES, it, "out", it + ending) for it in crates)
-    metadata = text_of("guppy_cargo", "stdin")
+    metadata = text_of("guppy_cargo_main", "stdin")
     cases = read_lines("args")
     full = transcripts(cases)
     quiet = sum(case.startswith("quiet.") for case in cases)

@@ -271,9 +271,9 @@ def try_read_only(world):
     for it in (world.top, *world.top.rglob("*")):
         it.chmod(it.stat().st_mode & ~0o222 | 0o444)
     world.temporary.chmod(0o777)
-    built = world.room / "built/guppy_cargo/out"
+    built = world.room / "built/guppy_cargo_main/out"
     built.mkdir(parents=True)
-    shutil.copy(Path(BUILT) / "guppy_cargo/out/guppy_cargo", built)
+    shutil.copy(Path(BUILT) / "guppy_cargo_main/out/guppy_cargo_main", built)
     how = {"user": 65534, "group": 65534, "extra_groups": []} if os.getuid() == 0 else {}
     how["environment"] = {"BUILT": str(world.room / "built")}
     ran = world.ask(**how)
@@ -291,7 +291,7 @@ def try_without_rt(world):
     yield "quick-tests without rt", ran[0] == 1 and is_one_line(ran[2], "rt is not on the path"), ran
     ran = world.run(["guppy-cargo", *AFFECTED])
     yield "without cargo", *refusal(ran, 3, "cargo is not on the path")
-    for crate in ("guppy_run", "guppy_cargo"):
+    for crate in ("guppy_run", "guppy_cargo_main"):
         out = world.top / "crates" / crate / "out"
         out.mkdir()
         shutil.copy(Path(BUILT) / crate / "out" / crate, out)

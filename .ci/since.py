@@ -155,7 +155,7 @@ CHANGES = [rename, delete, add, change, name_oddly, track, nest, change_nested]
 
 def noted(world, changing, words=("--since", "HEAD"), others=(), **how):
     """Whether a program in the place of guppy-cargo is given the paths that changed, and these others, each once."""
-    program, note = world.room / "noting/guppy_cargo/out/guppy_cargo", world.room / "note"
+    program, note = world.room / "noting/guppy_cargo_main/out/guppy_cargo_main", world.room / "note"
     write(program, "#!/bin/sh\nprintf '%s\\0' \"$@\" > \"$NOTE\"\nwc -c\n")
     program.chmod(0o755)
     note.write_bytes(b"")

@@ -1,3 +1,5 @@
-mod Paths
-mod Called
-mod Whole
+pub mod Among
+pub mod Called
+pub mod Firsts
+pub mod Grouped
+pub mod Meant

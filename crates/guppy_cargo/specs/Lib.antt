@@ -1,5 +1,5 @@
 pub mod Fault
-pub mod Asked
+pub mod Command
 pub mod Names
-pub mod Answer
-pub mod Run
+pub mod Json
+pub mod Paths

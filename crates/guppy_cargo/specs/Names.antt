@@ -1,26 +1,69 @@
 -- What packages are called.
-use Rattle.std.specs.Prelude.{◌≡◌, ℕ, List, map}
+use Rattle.std.specs.Prelude.{◌≡◌, ℕ, Bool, false, ◌||◌, List, [], ◌∷◌, ◌++◌, Vec, String, map, codes, if◌then◌else◌}
+use Rattle.std.specs.declared.alloc.Global.{Global}
+use Rattle.std.specs.Borrow.{Bor}
+use Rattle.std.specs.List.{filter, find, list_any}
 use Rattle.std.specs.Option.{option_map_or}
-use Rattle.std.specs.BTreeMap.{get_by_text}
+use Rattle.std.specs.BTreeMap.{BTreeMap, get_by_text}
+use Rattle.std.specs.Str.{bytes_eq}
 use Rattle.std.specs.String.{string_bytes}
+use Rattle.indexmap.specs.IndexSet.{IndexSet, contains_by}
+use Rattle.semver.specs.Identifiers.{version_text}
 use Rattle.guppy_data.specs.declared.records.PackageRecord.{PackageRecord}
-use Rattle.guppy_data.specs.declared.records.LinkRecord.{LinkRecord}
-use Rattle.guppy_data.specs.declared.records.WorkspaceRecord.{WorkspaceRecord}
 use Rattle.guppy_cargo.specs.declared.names.Names.{Names}
 
--- the name for the ID, and else the text itself
-abbrev pub called_text : Names → List ℕ → List ℕ
-called_text names id = option_map_or string_bytes (get_by_text names.by_id id) id
+abbrev pub name_of : PackageRecord → List ℕ
+name_of r = string_bytes r.name
 
--- the package with what it is called in the place of its ID
-abbrev pub called_package : Names → PackageRecord → PackageRecord
-called_package names r = record r { id = called_text names r.id }
+-- `name@version`
+abbrev pub full_name_of : PackageRecord → List ℕ
+full_name_of r = name_of r ++ codes "@" ++ version_text r.version
 
--- the link with what its ends are called in the place of their IDs
-abbrev pub called_link : Names → LinkRecord → LinkRecord
-called_link names r = record r { from = called_text names r.from; to = called_text names r.to }
+-- the text is the package's name, or its name with its version
+abbrev pub is_called : List ℕ → PackageRecord → Bool
+is_called text r = bytes_eq text (name_of r) || bytes_eq text (full_name_of r)
 
--- the new workspace is the old one with what its default members are called in the place of their IDs
-pub record IsCalled (names : Names) (old new : WorkspaceRecord) : Type 0 where
-  pub members : new.default_members.items ≡ map (called_text names) old.default_members.items
-  pub others : record old { default_members = new.default_members } ≡ new
+-- the IDs of the packages that are called so, in their order
+abbrev pub called : List PackageRecord → List ℕ → List (List ℕ)
+called packages text = map (λ r. r.id) (filter (is_called text) packages)
+
+-- one of the packages has the ID
+abbrev pub has_id : List ℕ → List PackageRecord → Bool
+has_id id packages = list_any (λ r. bytes_eq id r.id) packages
+
+-- the IDs of the packages that a word may mean: the one whose ID it is, and else those called so
+abbrev pub meant : List PackageRecord → List ℕ → List (List ℕ)
+meant packages word = if has_id word packages then word ∷ [] else called packages word
+
+-- the ID is the only one of these
+abbrev pub is_only : List ℕ → List (List ℕ) → Bool
+is_only id (other ∷ []) = bytes_eq id other
+is_only id _ = false
+
+-- the first of the package's name, its name with its version, and its ID that means it alone
+abbrev pub printed : List PackageRecord → PackageRecord → List ℕ
+printed packages r = if is_only r.id (meant packages (name_of r)) then name_of r
+    else (if is_only r.id (meant packages (full_name_of r)) then full_name_of r else r.id)
+
+-- what is printed for the first package with the ID, which is the only one in a graph; where none has it, the ID
+abbrev pub text : List PackageRecord → List ℕ → List ℕ
+text packages id = option_map_or (printed packages) (find (λ r. bytes_eq id r.id) packages) id
+
+-- the set has the packages' IDs
+abbrev pub AreIds : {S : Type 0} → List PackageRecord → IndexSet (Bor (List ℕ)) S → Type 0
+AreIds packages ids = (id : List ℕ) → contains_by (λ key. bytes_eq id key.now) ids ≡ has_id id packages
+
+-- behind each text stand the IDs of the packages that are called so
+abbrev pub AreCalled : List PackageRecord → BTreeMap (String Global) (Vec (List ℕ) Global) → Type 0
+AreCalled packages ids_by_text = (word : List ℕ)
+    → option_map_or (λ ids. ids.items) (get_by_text ids_by_text word) [] ≡ called packages word
+
+-- behind each ID stands what is printed for the package
+abbrev pub AreTexts : List PackageRecord → BTreeMap (String Global) (String Global) → Type 0
+AreTexts packages texts = (id : List ℕ)
+    → option_map_or string_bytes (get_by_text texts id) id ≡ text packages id
+
+-- the names are those of these packages
+pub record AreNames (names : Names) (packages : List PackageRecord) : Type 0 where
+  pub called_are : AreCalled packages names.called
+  pub texts_are : AreTexts packages names.texts

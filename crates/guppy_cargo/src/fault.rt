@@ -1,93 +1,129 @@
 //! Why there is no answer.
 ghost use Rattle.std.specs.Prelude.{◌≡◌};
 ghost use Rattle.guppy_data.specs.declared.texts.error.Error.TheVariants.{OutOfMemory};
-ghost use Rattle.guppy_input.specs.declared.fault.RunFault.TheVariants.{Library};
-ghost use Rattle.guppy_cargo.specs.declared.fault.CargoFault.TheVariants.{Run, Metadata};
-ghost use Rattle.guppy_cargo.specs.Fault.{status_of};
+ghost use Rattle.guppy_cargo.specs.declared.fault.CargoFault.TheVariants.{Library};
 
-use guppy_data::Error;
-use guppy_input::fault::RunFault;
+use guppy::Error;
 use guppy_metadata::MetadataFault;
+use guppy_program::ProgramFault;
 use std::alloc::{AllocError, AllocFailed};
 use std::fmt;
 
 /// Why the program gives no answer.
 #[derive(Debug, Drop)]
 pub enum CargoFault {
-    /// As the program `guppy-run` gives none.
-    Run(RunFault),
+    /// The library refused the records or the command, or found no memory.
+    Library(Error),
+    /// The arguments are no command.
+    BadArguments,
+    /// The first text may mean several packages, of which each is called by one of the others, parted by ` or `.
+    Ambiguous(String, String),
     /// The input is not what `cargo metadata` prints.
     Metadata(MetadataFault),
     /// The input is no UTF-8.
     NoText,
-}
-
-impl CargoFault {
-    /// The status that the program ends with: 2 for bad arguments and for streams that fail, else 1. Takes
-    /// constant time.
-    pub fn status(&self) -> u8
-        ensures { result ≡ status_of self.now }
-    {
-        match self {
-            CargoFault::Run(fault) => fault.status(),
-            _ => 1,
-        }
-    }
+    /// The file with paths could not be read.
+    PathsFailed(String),
+    /// The input could not be read.
+    InputFailed,
+    /// The output could not be written.
+    OutputFailed,
 }
 
 impl fmt::Display for CargoFault {
+    ghost use Rattle.guppy_cargo.specs.Fault.{fault_text};
+
+    ghost output = { fault_text };
+
     fn fmt<W: fmt::Write>(&self, f: &mut fmt::Formatter<W>) -> fmt::Result {
         match self {
-            CargoFault::Run(RunFault::BadArguments) => f.write_str(
+            CargoFault::Library(error) => write!(f, "{error}"),
+            CargoFault::BadArguments => f.write_str(
                 "bad arguments: give `reach forward|reverse PACKAGE..`, `depends PACKAGE PACKAGE`, `order`, \
                  `roots forward|reverse`, `links forward|reverse`, `cycles`, `verify`, `publish-order` \
-                 or `affected PATH..`",
+                 or `affected [--ignore FOLDER].. [--paths-from FILE] PATH..`",
             ),
-            CargoFault::Run(fault) => write!(f, "{fault}"),
+            CargoFault::Ambiguous(word, choices) => {
+                write!(f, "ambiguous package {word}: give {choices}")
+            }
             CargoFault::Metadata(fault) => write!(f, "{fault}"),
             CargoFault::NoText => f.write_str("the input is no UTF-8"),
+            CargoFault::PathsFailed(file) => write!(f, "{file}: the paths in it can't be read"),
+            CargoFault::InputFailed => f.write_str("input failed"),
+            CargoFault::OutputFailed => f.write_str("output failed"),
         }
     }
 }
 
 impl std::error::Error for CargoFault {}
 
-impl From<RunFault> for CargoFault {
-    ghost from_gives = { λ fault given. given ≡ Run fault };
+impl ProgramFault for CargoFault {
+    ghost use Rattle.guppy_cargo.specs.Fault.{cause_of, status_of};
 
-    fn from(fault: RunFault) -> Self {
-        CargoFault::Run(fault)
+    ghost cause = { cause_of };
+
+    ghost ending = { status_of };
+
+    fn library(error: Error) -> Self {
+        CargoFault::Library(error)
     }
-}
 
-impl From<Error> for CargoFault {
-    ghost from_gives = { λ error fault. fault ≡ Run (Library error) };
+    fn bad_arguments() -> Self {
+        CargoFault::BadArguments
+    }
 
-    fn from(error: Error) -> Self {
-        CargoFault::Run(RunFault::Library(error))
+    fn input_failed() -> Self {
+        CargoFault::InputFailed
+    }
+
+    fn output_failed() -> Self {
+        CargoFault::OutputFailed
+    }
+
+    fn ending(&self) -> u8 {
+        match self {
+            CargoFault::BadArguments
+            | CargoFault::PathsFailed(_)
+            | CargoFault::InputFailed
+            | CargoFault::OutputFailed => 2,
+            _ => 1,
+        }
     }
 }
 
 impl From<MetadataFault> for CargoFault {
-    ghost from_gives = { λ fault given. given ≡ Metadata fault };
+    ghost use Rattle.guppy_cargo.specs.Fault.{of_metadata};
+
+    ghost from_gives = { λ fault given. given ≡ of_metadata fault };
 
     fn from(fault: MetadataFault) -> Self {
-        CargoFault::Metadata(fault)
+        match fault {
+            MetadataFault::OutOfMemory => CargoFault::Library(Error::OutOfMemory),
+            fault => CargoFault::Metadata(fault),
+        }
+    }
+}
+
+impl From<Error> for CargoFault {
+    ghost from_gives = { λ error fault. fault ≡ Library error };
+
+    fn from(error: Error) -> Self {
+        CargoFault::Library(error)
     }
 }
 
 impl From<AllocError> for CargoFault {
-    ghost from_gives = { λ _ fault. fault ≡ Run (Library OutOfMemory) };
+    ghost from_gives = { λ _ fault. fault ≡ Library OutOfMemory };
 
     fn from(_error: AllocError) -> Self {
-        CargoFault::Run(RunFault::Library(Error::OutOfMemory))
+        CargoFault::Library(Error::OutOfMemory)
     }
 }
 
 impl<T: Drop> From<AllocFailed<T>> for CargoFault {
-    ghost from_gives = { λ _ fault. fault ≡ Run (Library OutOfMemory) };
+    ghost from_gives = { λ _ fault. fault ≡ Library OutOfMemory };
 
     fn from(_error: AllocFailed<T>) -> Self {
-        CargoFault::Run(RunFault::Library(Error::OutOfMemory))
+        CargoFault::Library(Error::OutOfMemory)
     }
 }

@@ -1,112 +1,184 @@
-//! What packages are called in place of their IDs: a package that is the only one with its name by the name,
-//! and every other one by its ID.
-ghost use Rattle.std.specs.Prelude.{◌≡◌, map, string_bytes, IfOk, OnOk};
-ghost use Rattle.guppy_cargo.specs.Names.{called_text, called_package, called_link};
+//! What packages are called: by the name, where that means one package alone, else by name and version, where
+//! these do, and else by the ID.
+ghost use Rattle.std.specs.Prelude.{◌≡◌, [], ◌∷◌, ◌++◌, List, ℕ, string_bytes, IfOk, OnOk, if◌then◌else◌};
+ghost use Rattle.std.specs.Option.{option_map_or};
+ghost use Rattle.std.specs.BTreeMap.{get_by_text};
+ghost use Rattle.std.specs.Str.{bytes_eq};
+ghost use Rattle.guppy_data.specs.declared.records.PackageRecord.{PackageRecord};
+ghost use Rattle.guppy_cargo.specs.Names.{full_name_of, called, meant, is_only, printed, text, AreIds, AreCalled, AreTexts, AreNames};
 
-use guppy_data::{LinkRecord, PackageId, PackageRecord};
+use guppy_data::{PackageId, PackageRecord};
+use indexmap::IndexSet;
 use std::alloc::{AllocError, Global};
 use std::collections::BTreeMap;
 
-/// The names of packages by their IDs, where no other package has the name.
+/// What packages are called.
 #[derive(Drop)]
 pub struct Names {
-    by_id: BTreeMap<String, String>,
+    // The IDs of the packages with each name, and with each name and version.
+    called: BTreeMap<String, Vec<PackageId>>,
+    // What is printed for the package with each ID.
+    texts: BTreeMap<String, String>,
 }
 
-// How many packages have each name.
-fn count_names(
+// Adds the ID to those of the packages that are called so.
+fn add_called(
+    ids_by_text: &mut BTreeMap<String, Vec<PackageId>>,
+    alloc: Global,
+    word: String,
+    id: PackageId,
+) -> Result<(), AllocError>
+    ensures { OnOk result ((other : List ℕ)
+        → option_map_or (λ ids. ids.items) (get_by_text ids_by_text.new other) []
+        ≡ option_map_or (λ ids. ids.items) (get_by_text ids_by_text.old other) []
+        ++ (if bytes_eq other (string_bytes word) then id ∷ [] else [])) }
+{
+    let mut ids = match ids_by_text.remove(word.as_str()) {
+        Some(ids) => ids,
+        None => Vec::new(alloc),
+    };
+    ids.push(id)?;
+    ids_by_text.insert(word, ids)?;
+    Ok(())
+}
+
+// `name@version`.
+fn full_name(alloc: Global, package: &PackageRecord) -> Result<String, AllocError>
+    ensures { IfOk result (λ name. string_bytes name ≡ full_name_of «package».now) }
+{
+    format!(in alloc; "{}@{}", package.name, package.version)
+}
+
+// The IDs of the packages that are called by each text.
+fn called_by_text(
     alloc: Global,
     packages: &[PackageRecord],
-) -> Result<BTreeMap<&str, usize>, AllocError> {
-    let mut counts = BTreeMap::new(alloc);
+) -> Result<BTreeMap<String, Vec<PackageId>>, AllocError>
+    ensures { IfOk result (AreCalled packages.now) }
+{
+    let mut ids_by_text = BTreeMap::new(alloc);
     for package in packages {
-        let count = counts.entry(package.name.as_str())?.or_insert(0usize);
-        *count = count.saturating_add(1);
+        let name = package.name.clone()?;
+        add_called(&mut ids_by_text, alloc, name, package.id.clone()?)?;
+        let full = full_name(alloc, package)?;
+        add_called(&mut ids_by_text, alloc, full, package.id.clone()?)?;
     }
-    Ok(counts)
+    Ok(ids_by_text)
+}
+
+// The IDs of the packages.
+fn ids_of<'a>(alloc: Global, packages: &'a [PackageRecord]) -> Result<IndexSet<&'a str>, AllocError>
+    ensures { IfOk result (AreIds packages.now) }
+{
+    let mut ids = IndexSet::with_capacity(alloc, packages.len())?;
+    for package in packages {
+        ids.insert(package.id.repr())?;
+    }
+    Ok(ids)
+}
+
+// Whether the ID is the only one of these.
+fn is_only(id: &PackageId, ids: &[PackageId]) -> bool
+    ensures { result ≡ is_only id.now ids.now }
+{
+    match ids {
+        [other] => id == other,
+        _ => false,
+    }
+}
+
+// Whether the word means the package with this ID alone.
+fn means_alone(
+    ids: &IndexSet<&str>,
+    ids_by_text: &BTreeMap<String, Vec<PackageId>>,
+    word: &str,
+    id: &PackageId,
+) -> bool
+    ensures { (packages : List PackageRecord) → AreIds packages ids.now
+        → AreCalled packages ids_by_text.now → result ≡ is_only id.now (meant packages word.now) }
+{
+    if ids.contains(word) {
+        return id.repr() == word;
+    }
+    match ids_by_text.get(word) {
+        Some(ids) => is_only(id, ids.as_slice()),
+        None => false,
+    }
+}
+
+// What is printed for the package.
+fn printed(
+    alloc: Global,
+    ids: &IndexSet<&str>,
+    ids_by_text: &BTreeMap<String, Vec<PackageId>>,
+    package: &PackageRecord,
+) -> Result<String, AllocError>
+    ensures { IfOk result (λ made. (packages : List PackageRecord) → AreIds packages ids.now
+        → AreCalled packages ids_by_text.now → string_bytes made ≡ printed packages «package».now) }
+{
+    if means_alone(ids, ids_by_text, package.name.as_str(), &package.id) {
+        return package.name.clone();
+    }
+    let full = full_name(alloc, package)?;
+    if means_alone(ids, ids_by_text, full.as_str(), &package.id) {
+        return Ok(full);
+    }
+    String::from_str(alloc, package.id.repr())
+}
+
+// What is printed for the first package with each ID.
+fn texts_of(
+    alloc: Global,
+    ids: &IndexSet<&str>,
+    ids_by_text: &BTreeMap<String, Vec<PackageId>>,
+    packages: &[PackageRecord],
+) -> Result<BTreeMap<String, String>, AllocError>
+    ensures { IfOk result (λ texts. AreIds packages.now ids.now
+        → AreCalled packages.now ids_by_text.now → AreTexts packages.now texts) }
+{
+    let mut texts = BTreeMap::new(alloc);
+    for package in packages {
+        let id = package.id.repr();
+        if texts.contains_key(id) {
+            continue;
+        }
+        let text = printed(alloc, ids, ids_by_text, package)?;
+        texts.insert(String::from_str(alloc, id)?, text)?;
+    }
+    Ok(texts)
 }
 
 impl Names {
-    /// The names of these packages. Takes memory for copies of them and of the IDs. Time grows with the
-    /// packages times the logarithm of their number.
-    pub fn of(alloc: Global, packages: &[PackageRecord]) -> Result<Self, AllocError> {
-        let counts = count_names(alloc, packages)?;
-        let mut by_id = BTreeMap::new(alloc);
-        for package in packages {
-            let name = package.name.as_str();
-            if counts.get(name) == Some(&1) {
-                let id = String::from_str(alloc, package.id.repr())?;
-                by_id.insert(id, String::from_str(alloc, name)?)?;
-            }
-        }
-        Ok(Names { by_id })
+    /// What these packages are called. Takes time for each package times the logarithm of their number.
+    pub fn of(alloc: Global, packages: &[PackageRecord]) -> Result<Names, AllocError>
+        ensures { IfOk result (λ names. AreNames names packages.now) }
+    {
+        let called = called_by_text(alloc, packages)?;
+        let ids = ids_of(alloc, packages)?;
+        let texts = texts_of(alloc, &ids, &called, packages)?;
+        Ok(Names { called, texts })
     }
 
-    /// What the package with this ID is called; any other text is its own name.
-    pub fn called<'a>(&'a self, id: &'a str) -> &'a str
-        ensures { result.now ≡ called_text self.now id.now }
+    /// The IDs of the packages that are called so, by name or as `name@version`, in their order.
+    pub fn called(&self, word: &str) -> &[PackageId]
+        ensures { (packages : List PackageRecord) → AreNames self.now packages
+            → result.now ≡ called packages word.now }
     {
-        match self.by_id.get(id) {
-            Some(name) => name.as_str(),
-            None => id,
+        match self.called.get(word) {
+            Some(ids) => ids.as_slice(),
+            None => &[],
         }
     }
 
-    /// These words, each ID as its package is called. Takes memory for copies of them.
-    pub fn all_called(&self, alloc: Global, words: &[String]) -> Result<Vec<String>, AllocError>
-        ensures { IfOk result (λ called. map string_bytes called.items
-            ≡ map (called_text self.now) (map string_bytes words.now)) }
+    /// What is printed for the package with the ID: the first of its name, `name@version` and the ID that means
+    /// it alone. The ID, where no package has it.
+    pub fn text_of<'a>(&'a self, id: &'a PackageId) -> &'a str
+        ensures { (packages : List PackageRecord) → AreNames self.now packages
+            → result.now ≡ text packages id.now }
     {
-        let mut called = Vec::new(alloc);
-        for word in words {
-            called.push(String::from_str(alloc, self.called(word.as_str()))?)?;
+        match self.texts.get(id.repr()) {
+            Some(text) => text.as_str(),
+            None => id.repr(),
         }
-        Ok(called)
-    }
-
-    // Puts what the package is called in the place of its ID.
-    fn rename(&self, alloc: Global, id: &mut PackageId) -> Result<(), AllocError>
-        ensures { OnOk result (id.new ≡ called_text self.now id.old) }
-    {
-        let called = String::from_str(alloc, self.called(id.repr()))?;
-        *id = PackageId::new(called);
-        Ok(())
-    }
-
-    /// Puts what packages are called in the place of their IDs. Takes memory for copies of the names.
-    pub fn rename_packages(
-        &self,
-        alloc: Global,
-        packages: &mut Vec<PackageRecord>,
-    ) -> Result<(), AllocError>
-        ensures { OnOk result
-            (packages.new.items ≡ map (called_package self.now) packages.old.items) }
-    {
-        for package in packages.iter_mut() {
-            self.rename(alloc, &mut package.id)?;
-        }
-        Ok(())
-    }
-
-    /// Puts what packages are called in the place of their IDs at the ends of links. Takes memory for copies
-    /// of the names.
-    pub fn rename_links(&self, alloc: Global, links: &mut Vec<LinkRecord>) -> Result<(), AllocError>
-        ensures { OnOk result (links.new.items ≡ map (called_link self.now) links.old.items) }
-    {
-        for link in links.iter_mut() {
-            self.rename(alloc, &mut link.from)?;
-            self.rename(alloc, &mut link.to)?;
-        }
-        Ok(())
-    }
-
-    /// Puts what packages are called in the place of these IDs. Takes memory for copies of the names.
-    pub fn rename_ids(&self, alloc: Global, ids: &mut Vec<PackageId>) -> Result<(), AllocError>
-        ensures { OnOk result (ids.new.items ≡ map (called_text self.now) ids.old.items) }
-    {
-        for id in ids.iter_mut() {
-            self.rename(alloc, id)?;
-        }
-        Ok(())
     }
 }

@@ -1,6 +1,14 @@
-pub mod Loading
+pub mod Cuts
+pub mod InputLines
+pub mod Adding
+pub mod Writing
+pub mod Known
+pub mod Reading
 pub mod Included
 pub mod Reached
+pub mod Refusals
 pub mod Ordering
+pub mod Paths
 pub mod Running
+pub mod Taken
 pub mod Whole

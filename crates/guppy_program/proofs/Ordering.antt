@@ -1,5 +1,5 @@
 -- The list of all packages, and lines of texts.
-use Rattle.std.proofs.Common.{◌≡◌, ◌∙◌, ap, ℕ, ◌<◌, true, List, [], ◌∷◌, length, replicate, refl, arith, All}
+use Rattle.std.proofs.Common.{◌≡◌, ◌∙◌, sym, ap, ℕ, ◌<◌, true, List, [], ◌∷◌, length, replicate, refl, arith, All}
 use Rattle.std.specs.Prelude.{◌++◌, map}
 use Rattle.std.specs.List.{concat, filter, flat_map, join_by}
 use denote.Ref.{Bor}
@@ -13,7 +13,7 @@ use Rattle.guppy_search.specs.declared.ix.direction.DependencyDirection.TheVaria
 use Rattle.guppy.specs.Graph.{GraphData}
 use Rattle.guppy.specs.Listed.{ids_at, positions_listed}
 use Rattle.guppy.specs.Query.{SetData}
-use Rattle.guppy_program.specs.Answer.{line_of, lines_of}
+use Rattle.guppy_program.specs.Printed.{line_of, lines_of}
 
 -- the set of all positions keeps each one
 kept_by_all : (n : ℕ) (order : List ℕ) → All (λ p. p < n) order → filter (has (replicate n true)) order ≡ order
@@ -43,3 +43,8 @@ behind sep (t ∷ texts) = ap (λ rest. (sep ++ t.now) ++ rest) (behind sep text
 pub joined_texts : (sep : List ℕ) (texts : List (Bor (List ℕ))) → join_by (λ t. t.now) sep texts ≡ join_by (λ t. t) sep (map (λ t. t.now) texts)
 joined_texts sep [] = refl
 joined_texts sep (t ∷ texts) = ap (λ rest. t.now ++ rest) (behind sep texts)
+
+-- one more item, which is seen as another one is
+pub seen_push : {X Y Z : Type 0} (f : X → Z) (h : Y → Z) (xs new : List X) (ys : List Y) (x : X) (y : Y) → new ≡ xs ++ x ∷ [] → map f xs ≡ map h ys → f x ≡ h y → map f new ≡ map h (ys ++ y ∷ [])
+seen_push f h xs new ys x y pushed same one =
+    ap (map f) pushed ∙ map_push f xs x ∙ ap (λ l. l ++ f x ∷ []) same ∙ ap (λ z. map h ys ++ z ∷ []) one ∙ sym (map_push h ys y)

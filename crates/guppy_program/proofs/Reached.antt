@@ -1,6 +1,6 @@
 -- What a query from a list of IDs reaches, and the IDs that a sorted set lists.
-use Rattle.std.proofs.Common.{◌≡◌, ◌∙◌, ◌↔◌, ℕ, Bool, true, List, [], ◌∷◌, length, map, take, drop, Contains, refl, sym, subst, None, Ok, Err}
-use Rattle.std.specs.Prelude.{Option, Result, IfOk, OnOk}
+use Rattle.std.proofs.Common.{◌≡◌, ◌∙◌, ◌↔◌, ℕ, zero, suc, arith, Bool, true, List, [], ◌∷◌, length, map, take, drop, Contains, refl, sym, subst, None, Ok, Err}
+use Rattle.std.specs.Prelude.{Option, Result, IfOk, All}
 use Rattle.std.specs.List.{AllByRecursion}
 use Rattle.std.specs.List.Sorted.{IsStrictlySortedBy}
 use Rattle.std.specs.declared.cmp.Ordering.{Ordering}
@@ -8,12 +8,14 @@ use Rattle.std.specs.declared.cmp.Ordering.TheVariants.{Less}
 use Rattle.std.specs.Iterator.{Drains}
 use denote.Ref.{Bor}
 use Rattle.std.proofs.lemmas.List.{take-append-drop}
+use Rattle.std.proofs.lemmas.List.Elements.{All-contains, Contains-append_right}
 use Rattle.std.proofs.lemmas.Iterator.{YieldsList}
 use Rattle.std.proofs.lemmas.Iterator.Consumers.{YieldsList-so_far, YieldsList-end}
 use Rattle.guppy_search.specs.declared.ix.direction.DependencyDirection.{DependencyDirection}
 use Rattle.guppy_core.specs.IxSet.{IsIn}
 use Rattle.guppy_core.specs.Reach.{LinkStep, ReachedFrom}
 use Rattle.guppy_data.specs.declared.texts.error.Error.{Error}
+use Rattle.guppy_data.specs.declared.texts.error.Error.TheVariants.{PackageGraphConstructError, UnknownPackageId, UnknownFeatureId, UnknownWorkspacePath, UnknownWorkspaceName, PackageGraphInternalError, FeatureGraphInternalError, OutOfMemory}
 use Rattle.guppy_data.specs.declared.records.PackageRecord.{PackageRecord}
 use Rattle.guppy_data.specs.Sorted.{KeepsUpTo}
 use Rattle.guppy.specs.Ids.{HasId, IsKnown}
@@ -49,14 +51,27 @@ included_is_reached direction set g ids initials named same reaches id = (
   λ h. let from = h.2 in (h.0, subst (λ v. HasId v.packages id h.0) (sym same) h.1, (reaches h.0).1 (from.0, (named.members from.0).1 from.1, from.2)),
 )
 
+-- where each ID is known, the error that names an unknown one tells that memory ran out
+pub none_unknown : (packages : List PackageRecord) (ids : List (List ℕ)) → All (IsKnown packages) ids → (error : Error) → NamesId (IsFirstUnknown packages ids) error → error ≡ OutOfMemory
+none_unknown packages ids known (UnknownPackageId id) first =
+    absurd (first.unknown (All-contains (IsKnown packages) ids id known (subst (λ l. Contains l id) (sym first.place) (Contains-append_right first.before (id ∷ first.after) id (zero, omega arith, refl)))))
+none_unknown packages ids known (PackageGraphConstructError fault) first = absurd first
+none_unknown packages ids known (UnknownFeatureId id feature) first = absurd first
+none_unknown packages ids known (UnknownWorkspacePath path) first = absurd first
+none_unknown packages ids known (UnknownWorkspaceName name) first = absurd first
+none_unknown packages ids known (PackageGraphInternalError fault) first = absurd first
+none_unknown packages ids known (FeatureGraphInternalError text) first = absurd first
+none_unknown packages ids known OutOfMemory first = refl
+
+pub two_hold : {X : Type 0} (P : X → Type 0) (x y : X) → P x → P y → All P (x ∷ y ∷ [])
+two_hold P x y px py zero d within = px
+two_hold P x y px py (suc zero) d within = py
+two_hold P x y px py (suc (suc k)) d within = absurd (omega arith)
+
 -- two facts of a value make a third
 pub IfOk-both : {T E : Type 0} (result : Result T E) (P Q R : T → Type 0) → ((x : T) → P x → Q x → R x) → IfOk result P → IfOk result Q → IfOk result R
 IfOk-both (Ok x) P Q R both p q = both x p q
 IfOk-both (Err e) P Q R both p q = tt
-
-pub OnOk-always : {T E P : Type 0} (result : Result T E) → P → OnOk result P
-OnOk-always (Ok x) p = p
-OnOk-always (Err e) p = tt
 
 pub iff_trans : {A B C : Type 0} → A ↔ B → B ↔ C → A ↔ C
 iff_trans ab bc = (λ a. bc.0 (ab.0 a), λ c. ab.1 (bc.1 c))

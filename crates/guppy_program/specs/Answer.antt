@@ -1,14 +1,12 @@
--- What a command prints of a package graph, and when it is refused.
-use Rattle.std.specs.Prelude.{◌≡◌, ◌↔◌, ℕ, Bool, true, IsTrue, Option, Some, None, List, [], ◌∷◌, ◌++◌, length, map, slice_get, replicate, All, Contains, codes, if◌then◌else◌}
-use Rattle.std.specs.List.{concat, flat_map, join_by}
-use Rattle.std.specs.List.Sorted.{IsStrictlySortedBy}
-use Rattle.std.specs.Ordering.{nat_cmp}
-use Rattle.std.specs.Cmp.Lexicographic.{slice_cmp}
+-- What a command answers of a package graph, and when it is refused.
+use Rattle.std.specs.Prelude.{◌≡◌, ◌↔◌, ◌<◌, ℕ, Bool, true, IsTrue, Option, Some, None, List, [], ◌∷◌, length, map, take, drop, slice_get, replicate, All, Contains, codes, if◌then◌else◌}
+use Rattle.std.specs.List.{AllZip, concat}
+use Rattle.std.specs.Str.{bytes_eq}
 use Rattle.guppy_search.specs.declared.ix.direction.DependencyDirection.{DependencyDirection}
 use Rattle.guppy_search.specs.declared.graph_core.link.Link.{Link}
 use Rattle.guppy_core.specs.Reach.{LinkStep, ReachedFrom}
 use Rattle.guppy_data.specs.declared.records.LinkRecord.{LinkRecord}
-use Rattle.guppy_data.specs.declared.texts.error.Error.{Error}
+use Rattle.guppy_data.specs.declared.records.PackageRecord.{PackageRecord}
 use Rattle.guppy_data.specs.declared.texts.error.Error.TheVariants.{UnknownPackageId, PackageGraphInternalError, OutOfMemory}
 use Rattle.guppy_data.specs.declared.texts.fault.VerifyFault.{VerifyFault}
 use Rattle.guppy.specs.Ids.{HasId, IsKnown}
@@ -18,27 +16,32 @@ use Rattle.guppy.specs.Listed.{ids_at}
 use Rattle.guppy.specs.ListedCycles.{cycles_of}
 use Rattle.guppy.specs.Depends.{DependsOn}
 use Rattle.guppy.specs.Query.{SetData}
-use Rattle.guppy.specs.Refused.{IsFirstUnknown}
+use Rattle.guppy.specs.Refused.{IsFirstNot}
 use Rattle.guppy.specs.Rooted.{AreRootIds}
 use Rattle.guppy.specs.Views.{LinkData}
 use Rattle.guppy.specs.FirmCycles.{HasNoFirmCycle}
 use Rattle.guppy.specs.Verified.{IsVerified, IsVerifyFault as IsGraphFault}
 use Rattle.guppy.specs.Walked.{AreWalkedLinks}
+use Rattle.guppy_affected.specs.Affected.{AreAffectedIds}
 use Rattle.guppy_publish.specs.Publishing.{ArePublishIds}
-use Rattle.guppy_command.specs.Command.{Command, reach, depends, order, roots, links, cycles, verify, publish_order}
+use Rattle.guppy_program.specs.Cause.{Cause, library, ambiguous}
+use Rattle.guppy_program.specs.Command.{Command, reach, depends, order, roots, links, cycles, verify, publish_order, affected}
+use Rattle.guppy_program.specs.Format.{Format, alternatives}
 
-abbrev pub line_of : List ℕ → List ℕ
-line_of text = text ++ 10 ∷ []
+-- an answer, each package in it by its ID: a set of packages, packages in an order, rows of packages
+-- in an order, as the ends of links or cycles, whether something holds, or that all is well
+pub data Answer : Type 0 where
+  package_set : List (List ℕ) → Answer
+  package_list : List (List ℕ) → Answer
+  package_rows : List (List (List ℕ)) → Answer
+  truth : Bool → Answer
+  all_well : Answer
 
--- these texts, one a line
-abbrev pub lines_of : List (List ℕ) → List ℕ
-lines_of texts = flat_map line_of texts
+-- the word means the package with this ID alone, as `meant` tells which ones it may mean
+abbrev pub Means : (List ℕ → List (List ℕ)) → List ℕ → List ℕ → Type 0
+Means meant word id = meant word ≡ id ∷ []
 
--- strictly ascending by bytes
-abbrev pub IsAscending : List (List ℕ) → Type 0
-IsAscending = IsStrictlySortedBy (slice_cmp nat_cmp)
-
--- the package at the position is one of those named
+-- the package at the position is one of those with these IDs
 abbrev pub IsNamed : GraphData → List (List ℕ) → ℕ → Type 0
 IsNamed g ids p = (id : List ℕ) × Contains ids id × HasId g.packages id p
 
@@ -48,45 +51,53 @@ abbrev pub IsReached : DependencyDirection → GraphData → List (List ℕ) →
 IsReached direction g ids id =
     (p : ℕ) × HasId g.packages id p × ReachedFrom (LinkStep direction g.links) (IsNamed g ids) p
 
--- the IDs of the reached packages, one a line
-pub record IsReachAnswer (direction : DependencyDirection) (g : GraphData) (ids : List (List ℕ))
-    (output : List ℕ) : Type 0 where
-  pub known : All (IsKnown g.packages) ids
+-- the packages that those with these IDs reach
+pub record AreReached (direction : DependencyDirection) (g : GraphData) (ids : List (List ℕ))
+    (answer : Answer) : Type 0 where
   pub reached : List (List ℕ)
-  pub ascending : IsAscending reached
   pub exact : (id : List ℕ) → Contains reached id ↔ IsReached direction g ids id
-  pub printed : output ≡ lines_of reached
+  pub told : answer ≡ package_set reached
 
-abbrev pub truth_line : Bool → List ℕ
-truth_line answer = line_of (if answer then codes "true" else codes "false")
+-- the packages that those meant reach
+pub record IsReachAnswer (direction : DependencyDirection) (g : GraphData)
+    (meant : List ℕ → List (List ℕ)) (words : List (List ℕ)) (answer : Answer) : Type 0 where
+  pub ids : List (List ℕ)
+  pub named : AllZip (Means meant) words ids
+  pub known : All (IsKnown g.packages) ids
+  pub exact : AreReached direction g ids answer
 
--- `true` or `false`
-pub record IsDependsAnswer (g : GraphData) (from to : List ℕ) (output : List ℕ) : Type 0 where
-  pub from_known : IsKnown g.packages from
-  pub to_known : IsKnown g.packages to
-  pub answer : Bool
-  pub exact : IsTrue answer ↔ DependsOn g from to
-  pub printed : output ≡ truth_line answer
+-- whether the package with the first ID depends on that with the second
+pub record TellsDependence (g : GraphData) (from to : List ℕ) (answer : Answer) : Type 0 where
+  pub holds : Bool
+  pub exact : IsTrue holds ↔ DependsOn g from to
+  pub told : answer ≡ truth holds
 
--- the IDs of the packages in an order of them, one a line
-pub record IsOrderAnswer (g : GraphData) (output : List ℕ) : Type 0 where
+-- whether the first package meant depends on the second
+pub record IsDependsAnswer (g : GraphData) (meant : List ℕ → List (List ℕ)) (from to : List ℕ)
+    (answer : Answer) : Type 0 where
+  pub from_id : List ℕ
+  pub to_id : List ℕ
+  pub from_named : Means meant from from_id
+  pub to_named : Means meant to to_id
+  pub from_known : IsKnown g.packages from_id
+  pub to_known : IsKnown g.packages to_id
+  pub exact : TellsDependence g from_id to_id answer
+
+-- the packages in an order of them
+pub record IsOrderAnswer (g : GraphData) (answer : Answer) : Type 0 where
   pub ordered : IsInOrder g
-  pub printed : output ≡ lines_of (ids_at g.packages (concat g.components))
+  pub told : answer ≡ package_list (ids_at g.packages (concat g.components))
 
 -- the set of all packages
 abbrev pub all_of : GraphData → SetData
 all_of g = record { graph = g; included = replicate (length g.packages) true }
 
--- the IDs of the roots of all packages, by position, one a line
+-- the roots of all packages, by position
 pub record IsRootsAnswer (direction : DependencyDirection) (g : GraphData)
-    (output : List ℕ) : Type 0 where
+    (answer : Answer) : Type 0 where
   pub root_ids : List (List ℕ)
   pub exact : AreRootIds direction (all_of g) root_ids
-  pub printed : output ≡ lines_of root_ids
-
--- these texts, parted by spaces
-abbrev pub joined : List (List ℕ) → List ℕ
-joined texts = join_by (λ text. text) (32 ∷ []) texts
+  pub told : answer ≡ package_list root_ids
 
 -- the positions of the ends of the link
 abbrev pub ends_of : Option (Link LinkRecord) → List ℕ
@@ -94,59 +105,82 @@ ends_of (Some l) = l.from ∷ l.to ∷ []
 ends_of None = []
 
 -- the IDs of the packages that the link goes from and to
-abbrev pub link_text : LinkData → List ℕ
-link_text link =
-    joined (ids_at link.graph.packages (ends_of (slice_get link.graph.links link.number)))
+abbrev pub end_ids : LinkData → List (List ℕ)
+end_ids link = ids_at link.graph.packages (ends_of (slice_get link.graph.links link.number))
 
--- the links that are walked from the roots of all packages, in an order that the walk allows, one a
--- line
+-- the links that are walked from the roots of all packages, in an order that the walk allows
 pub record IsLinksAnswer (direction : DependencyDirection) (g : GraphData)
-    (output : List ℕ) : Type 0 where
+    (answer : Answer) : Type 0 where
   pub walked : List LinkData
   pub exact : AreWalkedLinks direction (all_of g) walked
-  pub printed : output ≡ lines_of (map link_text walked)
+  pub told : answer ≡ package_rows (map end_ids walked)
 
--- the cycles in an order of the packages, one a line: two IDs stand on one line exactly where their
--- packages are cyclic
-pub record IsCyclesAnswer (g : GraphData) (output : List ℕ) : Type 0 where
+-- the cycles in an order of the packages: two IDs stand on one cycle exactly where their packages
+-- are cyclic
+pub record IsCyclesAnswer (g : GraphData) (answer : Answer) : Type 0 where
   pub ordered : IsInOrder g
   pub common : (a b : List ℕ) → AreOnOne (cycles_of g) a b ↔ AreCyclic g a b
-  pub printed : output ≡ lines_of (map joined (cycles_of g))
+  pub told : answer ≡ package_rows (cycles_of g)
 
--- `ok`, where the graph is a verified graph and no cycle is over links that aren't dev-only
-pub record IsVerifyAnswer (g : GraphData) (output : List ℕ) : Type 0 where
+-- the graph is a verified graph, and no cycle is over links that aren't dev-only
+pub record IsVerifyAnswer (g : GraphData) (answer : Answer) : Type 0 where
   pub verified : IsVerified g
   pub acyclic : HasNoFirmCycle g
-  pub printed : output ≡ line_of (codes "ok")
+  pub told : answer ≡ all_well
 
--- the IDs of the members in a publish order, one a line
-pub record IsPublishAnswer (g : GraphData) (output : List ℕ) : Type 0 where
+-- the members in a publish order
+pub record IsPublishAnswer (g : GraphData) (answer : Answer) : Type 0 where
   pub verified : IsVerified g
   pub acyclic : HasNoFirmCycle g
   pub ids : List (List ℕ)
   pub exact : ArePublishIds g ids
-  pub printed : output ≡ lines_of ids
+  pub told : answer ≡ package_list ids
 
--- the output is an answer to the command
-abbrev pub IsAnswer : Command → GraphData → List ℕ → Type 0
-IsAnswer (reach direction ids) g output = IsReachAnswer direction g ids output
-IsAnswer (depends from to) g output = IsDependsAnswer g from to output
-IsAnswer order g output = IsOrderAnswer g output
-IsAnswer (roots direction) g output = IsRootsAnswer direction g output
-IsAnswer (links direction) g output = IsLinksAnswer direction g output
-IsAnswer cycles g output = IsCyclesAnswer g output
-IsAnswer verify g output = IsVerifyAnswer g output
-IsAnswer publish_order g output = IsPublishAnswer g output
+-- the path without a `./` at its front
+abbrev pub from_root : List ℕ → List ℕ
+from_root path = if bytes_eq (take 2 path) (codes "./") then drop 2 path else path
 
--- the IDs that a command names, in their order
-abbrev pub ids_named : Command → List (List ℕ)
-ids_named (reach direction ids) = ids
-ids_named (depends from to) = from ∷ to ∷ []
-ids_named _ = []
+-- the members that changes at the paths affect
+pub record IsAffectedAnswer (g : GraphData) (ignored paths : List (List ℕ))
+    (answer : Answer) : Type 0 where
+  pub ids : List (List ℕ)
+  pub exact : AreAffectedIds g (map from_root paths) (map from_root ignored) ids
+  pub told : answer ≡ package_list ids
 
--- the ID is the first of the command that is no package's
-abbrev pub IsFirstUnknownNamed : Command → GraphData → List ℕ → Type 0
-IsFirstUnknownNamed command g id = IsFirstUnknown g.packages (ids_named command) id
+-- this is an answer to the command, whose words mean what `meant` tells
+abbrev pub IsAnswer : (List ℕ → List (List ℕ)) → Command → GraphData → Answer → Type 0
+IsAnswer meant (reach direction words) g answer = IsReachAnswer direction g meant words answer
+IsAnswer meant (depends from to) g answer = IsDependsAnswer g meant from to answer
+IsAnswer meant order g answer = IsOrderAnswer g answer
+IsAnswer meant (roots direction) g answer = IsRootsAnswer direction g answer
+IsAnswer meant (links direction) g answer = IsLinksAnswer direction g answer
+IsAnswer meant cycles g answer = IsCyclesAnswer g answer
+IsAnswer meant verify g answer = IsVerifyAnswer g answer
+IsAnswer meant publish_order g answer = IsPublishAnswer g answer
+IsAnswer meant (affected ignored paths) g answer = IsAffectedAnswer g ignored paths answer
+
+-- the words by which a command names packages, in their order
+abbrev pub words_of : Command → List (List ℕ)
+words_of (reach direction words) = words
+words_of (depends from to) = from ∷ to ∷ []
+words_of _ = []
+
+-- the word means one package
+abbrev pub IsClear : (List ℕ → List (List ℕ)) → List ℕ → Type 0
+IsClear meant word = (id : List ℕ) × Means meant word id
+
+-- the first of the words that doesn't mean one package means none, or may mean several, whose
+-- texts are told, or memory ran out
+abbrev pub IsWordFault : {Fault : Type 0} → Format Fault → List PackageRecord → List (List ℕ) → Cause
+    → Type 0
+IsWordFault format packages words (library (UnknownPackageId word)) =
+    IsFirstNot (IsClear (format.meant packages)) words word × (format.meant packages word ≡ [])
+IsWordFault format packages words (ambiguous word choices) =
+    IsFirstNot (IsClear (format.meant packages)) words word
+    × (1 < length (format.meant packages word))
+    × (choices ≡ alternatives (map (format.text packages) (format.meant packages word)))
+IsWordFault format packages words (library OutOfMemory) = Unit {0}
+IsWordFault format packages words _ = ⊥
 
 -- the fault is one that `verify` may tell of the graph, and the command asks for it
 abbrev pub IsVerifyFault : Command → GraphData → VerifyFault → Type 0
@@ -154,9 +188,8 @@ IsVerifyFault verify g fault = IsGraphFault g fault
 IsVerifyFault publish_order g fault = IsGraphFault g fault
 IsVerifyFault _ g fault = ⊥
 
--- the library refuses the command so, or memory ran out
-abbrev pub IsCommandRefusal : Command → GraphData → Error → Type 0
-IsCommandRefusal command g (UnknownPackageId id) = IsFirstUnknownNamed command g id
-IsCommandRefusal command g (PackageGraphInternalError fault) = IsVerifyFault command g fault
-IsCommandRefusal command g OutOfMemory = Unit {0}
-IsCommandRefusal command g _ = ⊥
+-- the command is refused so, of this graph, or memory ran out
+abbrev pub IsCommandFault : {Fault : Type 0} → Format Fault → Command → GraphData → Cause → Type 0
+IsCommandFault format command g (library (PackageGraphInternalError fault)) =
+    IsVerifyFault command g fault
+IsCommandFault format command g cause = IsWordFault format g.packages (words_of command) cause

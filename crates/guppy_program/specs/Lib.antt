@@ -1,5 +1,16 @@
+pub mod Device
+pub mod Cause
+pub mod Command
+pub mod Shown
+pub mod Format
 pub mod Loaded
 pub mod Answer
+pub mod Printed
 pub mod Run
-pub mod Asked
 pub mod Process
+pub mod Text
+pub mod Stated
+pub mod RunFault
+pub mod Records
+pub mod Reading
+pub mod Lines

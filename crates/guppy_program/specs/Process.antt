@@ -1,18 +1,18 @@
 -- How a process ends.
-use Rattle.std.specs.Prelude.{◌≡◌, ℕ, true, List, ◌++◌, codes, Option, Result, Ok, Err}
+use Rattle.std.specs.Prelude.{◌≡◌, ℕ, true, List, ◌++◌, codes, Option, IfSome, Result, Ok, Err}
 use Rattle.std.specs.Io.KnownBytes.{Appends}
-use Rattle.guppy_input.specs.declared.fault.RunFault.{RunFault}
-use Rattle.guppy_input.specs.Fault.{fault_text, status_of}
 use Rattle.guppy_program.specs.declared.process.Ending.{Ending}
 
--- the line that tells a fault
-abbrev pub fault_line : RunFault → List ℕ
-fault_line fault = codes "error: " ++ fault_text fault ++ codes "\n"
+-- the line that tells a fault of this text
+abbrev pub fault_line : List ℕ → List ℕ
+fault_line text = codes "error: " ++ text ++ codes "\n"
 
 -- after an answer the status is 0 and nothing is told; after a fault it is the fault's, and the
--- sink for faults gets the fault's line, if it was written whole
-abbrev pub EndsIn : {T E : Type 0} → (E → Option (List ℕ)) → E → E → Result T RunFault → Ending
-    → Type 0
-EndsIn written old new (Ok x) ending = (ending.status ≡ 0) × (ending.is_told ≡ true) × (new ≡ old)
-EndsIn written old new (Err fault) ending = (ending.status ≡ status_of fault)
-    × (ending.is_told ≡ true → Appends (written old) (written new) (fault_line fault))
+-- sink for faults gets the line of the fault's text, if it was written whole and where the text is
+-- known
+abbrev pub EndsIn : {T E Fault : Type 0} → (Fault → ℕ) → (Fault → Option (List ℕ))
+    → (E → Option (List ℕ)) → E → E → Result T Fault → Ending → Type 0
+EndsIn status text written old new (Ok x) ending =
+    (ending.status ≡ 0) × (ending.is_told ≡ true) × (new ≡ old)
+EndsIn status text written old new (Err fault) ending = (ending.status ≡ status fault)
+    × IfSome (text fault) (λ told. ending.is_told ≡ true → Appends (written old) (written new) (fault_line told))

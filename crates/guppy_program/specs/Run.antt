@@ -1,89 +1,105 @@
--- What a run of the program does.
-use Rattle.std.specs.Prelude.{◌≡◌, ◌↔◌, ℕ, Bool, List, ◌++◌, Option, Some, IfSome, IsNone, Result, Ok, Err, OnOk, IsErrOf}
+-- What a run of a program does.
+use Rattle.std.specs.Prelude.{◌≡◌, ◌↔◌, ◌⊎◌, ℕ, Bool, List, ◌++◌, Option, Some, None, IfSome, IsNone, Result, Err, OnOk}
 use Rattle.std.specs.Io.KnownBytes.{IsAtEnd, Appends}
-use Rattle.guppy_data.specs.declared.texts.error.Error.{Error}
-use Rattle.guppy_data.specs.declared.texts.error.Error.TheVariants.{PackageGraphConstructError, UnknownPackageId, PackageGraphInternalError, OutOfMemory}
-use Rattle.guppy_data.specs.declared.texts.fault.VerifyFault.{VerifyFault}
 use Rattle.guppy.specs.Graph.{GraphData}
-use Rattle.guppy_input.specs.declared.fault.RunFault.{RunFault}
-use Rattle.guppy_input.specs.declared.fault.RunFault.TheVariants.{Library, BadArguments, BadLine, OutputFailed}
-use Rattle.guppy_input.specs.Text.{IsFirstBadLine}
-use Rattle.guppy_input.specs.Reading.{is_input_fault, is_output_fault}
-use Rattle.guppy_command.specs.Command.{Command, command_of}
-use Rattle.guppy_program.specs.Loaded.{IsLoaded, IsRecordFault}
-use Rattle.guppy_program.specs.Answer.{IsAnswer, IsFirstUnknownNamed, IsVerifyFault}
+use Rattle.guppy_program.specs.Cause.{Cause, library, bad_arguments, ambiguous, bad_input, input_failed, output_failed, OrMemory, caused, is_input_fault, is_output_fault}
+use Rattle.guppy_program.specs.Command.{Command}
+use Rattle.guppy_program.specs.Format.{Format}
+use Rattle.guppy_program.specs.Loaded.{IsLoaded, AreRefused}
+use Rattle.guppy_program.specs.Answer.{Answer, IsAnswer, IsCommandFault}
+use Rattle.guppy_program.specs.Printed.{IsPrinted}
 
--- the arguments ask a command, the input says a graph, and P holds of the two
-pub record OfAsked (args : List (List ℕ)) (input : List ℕ)
-    (P : Command → GraphData → Type 0) : Type 0 where
-  pub command : Command
-  pub asked : command_of args ≡ Some command
-  pub graph : GraphData
-  pub loaded : IsLoaded input graph
-  pub holds : P command graph
+-- the output is an answer to the command, of this graph
+pub record IsAnswerOf {Fault : Type 0} (format : Format Fault) (command : Command) (g : GraphData)
+    (output : List ℕ) : Type 0 where
+  pub answer : Answer
+  pub answers : IsAnswer (format.meant g.packages) command g answer
+  pub printed : IsPrinted (format.text g.packages) answer output
 
--- the output is an answer to the arguments and the input
-abbrev pub IsProgramAnswer : List (List ℕ) → List ℕ → List ℕ → Type 0
-IsProgramAnswer args input output =
-    OfAsked args input (λ command graph. IsAnswer command graph output)
+-- the output is an answer to the command, of the graph that the input says
+abbrev pub IsAnswerTo : {Fault : Type 0} → Format Fault → Command → List ℕ → List ℕ → Type 0
+IsAnswerTo format command input output =
+    (g : GraphData) × IsLoaded format input g × IsAnswerOf format command g output
 
--- P holds of an answer
-abbrev pub IsAnswered : List (List ℕ) → List ℕ → (List ℕ → Type 0) → Type 0
-IsAnswered args input P = (output : List ℕ) × IsProgramAnswer args input output × P output
+-- the command is refused so, of the graph that the input says
+abbrev pub IsRefusedOf : {Fault : Type 0} → Format Fault → Command → List ℕ → Cause → Type 0
+IsRefusedOf format command input cause =
+    (g : GraphData) × IsLoaded format input g × IsCommandFault format command g cause
+
+-- the fault, with this cause, is one of the input, or of the command on the graph that the input says
+abbrev pub IsFaultOf : {Fault : Type 0} → Format Fault → Command → List ℕ → Fault → Cause → Type 0
+IsFaultOf format command input fault bad_input = format.refuses input fault
+IsFaultOf format command input fault (library error) =
+    OrMemory (AreRefused format input error ⊎ IsRefusedOf format command input (library error)) error
+IsFaultOf format command input fault (ambiguous word texts) =
+    IsRefusedOf format command input (ambiguous word texts)
+IsFaultOf format command input fault _ = ⊥
+
+-- the source has come to its end, and P holds of what was read, which is all that it had where that
+-- is known
+pub record OfWholeInput (old new : Option (List ℕ)) (P : List ℕ → Type 0) : Type 0 where
+  pub input : List ℕ
+  pub at_end : IsAtEnd new
+  pub all : IfSome old (λ bytes. bytes ≡ input)
+  pub holds : P input
+
+-- the arguments ask a command of which P holds
+abbrev pub OfAsked : {Fault : Type 0} → Format Fault → List (List ℕ) → (Command → Type 0) → Type 0
+OfAsked format args P = (command : Command) × (format.asks args ≡ Some command) × P command
+
+-- P holds of an answer to the arguments and the input
+abbrev pub IsAnswered : {Fault : Type 0} → Format Fault → List (List ℕ) → List ℕ
+    → (List ℕ → Type 0) → Type 0
+IsAnswered format args input P = OfAsked format args (λ command.
+    (output : List ℕ) × IsAnswerTo format command input output × P output)
 
 -- P holds of a beginning of an answer
-abbrev pub IsBegun : List (List ℕ) → List ℕ → (List ℕ → Type 0) → Type 0
-IsBegun args input P = (front rest : List ℕ) × IsProgramAnswer args input (front ++ rest) × P front
+abbrev pub IsBegun : {Fault : Type 0} → Format Fault → List (List ℕ) → List ℕ
+    → (List ℕ → Type 0) → Type 0
+IsBegun format args input P = OfAsked format args (λ command.
+    (front rest : List ℕ) × IsAnswerTo format command input (front ++ rest) × P front)
 
--- every line is good, the records are accepted, and the ID is the first of the command that is no
--- package's
-abbrev pub IsUnknownId : List (List ℕ) → List ℕ → List ℕ → Type 0
-IsUnknownId args input id =
-    OfAsked args input (λ command graph. IsFirstUnknownNamed command graph id)
+-- the source could not be read, or it came to its end, and the fault is one of all that it had, or
+-- memory ran out
+abbrev pub IsSourceFault : {Fault : Type 0} → Format Fault → Command → Option (List ℕ)
+    → Option (List ℕ) → Fault → Cause → Type 0
+IsSourceFault format command old new fault bad_arguments = ⊥
+IsSourceFault format command old new fault output_failed = ⊥
+IsSourceFault format command old new fault input_failed = Unit {0}
+IsSourceFault format command old new fault (library error) = OrMemory (OfWholeInput old new
+    (λ input. IsFaultOf format command input fault (library error))) error
+IsSourceFault format command old new fault cause =
+    OfWholeInput old new (λ input. IsFaultOf format command input fault cause)
 
--- every line is good, the records are accepted, and the fault is one that `verify` may tell of the
--- graph, and the command asks for it
-abbrev pub IsFaultFound : List (List ℕ) → List ℕ → VerifyFault → Type 0
-IsFaultFound args input fault =
-    OfAsked args input (λ command graph. IsVerifyFault command graph fault)
-
--- the source has come to its end, and P holds of all that it had
-abbrev pub OfWholeInput : Option (List ℕ) → Option (List ℕ) → (List ℕ → Type 0) → Type 0
-OfWholeInput old new P = IsAtEnd new × IfSome old P
-
--- the library refuses the input or the command so, or memory ran out
-abbrev pub IsLibraryRefusal : List (List ℕ) → Option (List ℕ) → Option (List ℕ) → Error → Type 0
-IsLibraryRefusal args old new (PackageGraphConstructError fault) =
-    OfWholeInput old new (λ input. IsRecordFault input fault)
-IsLibraryRefusal args old new (UnknownPackageId id) =
-    OfWholeInput old new (λ input. IsUnknownId args input id)
-IsLibraryRefusal args old new (PackageGraphInternalError fault) =
-    OfWholeInput old new (λ input. IsFaultFound args input fault)
-IsLibraryRefusal args old new OutOfMemory = Unit {0}
-IsLibraryRefusal args old new _ = ⊥
+-- the arguments ask a command, the source came to its end, and the fault is one of all that it had, or
+-- memory ran out; what the arguments and the devices are blamed for is said elsewhere
+abbrev pub IsRunFault : {Fault : Type 0} → Format Fault → List (List ℕ) → Option (List ℕ)
+    → Option (List ℕ) → Fault → Cause → Type 0
+IsRunFault format args old new fault bad_arguments = Unit {0}
+IsRunFault format args old new fault output_failed = Unit {0}
+IsRunFault format args old new fault cause =
+    OfAsked format args (λ command. IsSourceFault format command old new fault cause)
 
 -- a run that gives up before it writes leaves the sink as it was
-abbrev pub WritesNothing : {T W : Type 0} → W → W → Result T RunFault → Type 0
-WritesNothing old new (Ok x) = Unit {0}
-WritesNothing old new (Err OutputFailed) = Unit {0}
-WritesNothing old new (Err fault) = new ≡ old
+abbrev pub WritesNothing : {W : Type 0} → W → W → Option Cause → Type 0
+WritesNothing old new None = Unit {0}
+WritesNothing old new (Some output_failed) = Unit {0}
+WritesNothing old new (Some cause) = new ≡ old
 
--- what a run of the program did to its source and its sink, and what came of it; the fields are the
--- clauses of `run`
-pub record IsRun {T R W : Type 0} (left : R → Option (List ℕ)) (input_failed : R → Bool)
-    (written : W → Option (List ℕ)) (output_failed : W → Bool) (args : List (List ℕ))
-    (reader reader' : R) (writer writer' : W) (outcome : Result T RunFault) : Type 0 where
+-- what a run did to its source and its sink, and what came of it: the clauses of `run_with`
+pub record IsRun {Fault T R W : Type 0} (format : Format Fault) (cause : Fault → Cause)
+    (left : R → Option (List ℕ)) (source_failed : R → Bool)
+    (written : W → Option (List ℕ)) (sink_failed : W → Bool) (args : List (List ℕ))
+    (reader reader' : R) (writer writer' : W) (outcome : Result T Fault) : Type 0 where
   pub ok : OnOk outcome (OfWholeInput (left reader) (left reader')
-      (λ input. IsAnswered args input (Appends (written writer) (written writer'))))
-  pub arguments : IsErrOf outcome BadArguments ↔ IsNone (command_of args)
-  pub arguments_read : IsErrOf outcome BadArguments → reader' ≡ reader
-  pub bad_line : (n : ℕ) → outcome ≡ Err (BadLine n)
-      → OfWholeInput (left reader) (left reader') (λ input. IsFirstBadLine input n)
-  pub library : (error : Error) → outcome ≡ Err (Library error)
-      → IsLibraryRefusal args (left reader) (left reader') error
-  pub input_fails : input_failed reader' ≡ is_input_fault outcome
-  pub output_fails : output_failed writer' ≡ is_output_fault outcome
-  pub refused : WritesNothing writer writer' outcome
-  pub begun : IsErrOf outcome OutputFailed
+      (λ input. IsAnswered format args input (Appends (written writer) (written writer'))))
+  pub arguments : (caused cause outcome ≡ Some bad_arguments) ↔ IsNone (format.asks args)
+  pub arguments_read : caused cause outcome ≡ Some bad_arguments → reader' ≡ reader
+  pub fault : (fault : Fault) → outcome ≡ Err fault
+      → IsRunFault format args (left reader) (left reader') fault (cause fault)
+  pub input_fails : source_failed reader' ≡ is_input_fault (caused cause outcome)
+  pub output_fails : sink_failed writer' ≡ is_output_fault (caused cause outcome)
+  pub refused : WritesNothing writer writer' (caused cause outcome)
+  pub begun : caused cause outcome ≡ Some output_failed
       → OfWholeInput (left reader) (left reader')
-      (λ input. IsBegun args input (Appends (written writer) (written writer')))
+      (λ input. IsBegun format args input (Appends (written writer) (written writer')))

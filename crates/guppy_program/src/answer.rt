@@ -1,61 +1,65 @@
-//! What a command prints of a package graph.
-ghost use Rattle.std.specs.Prelude.{◌≡◌, ◌↔◌, ℕ, List, ◌++◌, map, string_bytes, IfOk, IfErr, IsOkUnless, OnOk, All, length, [], ◌∷◌};
+//! What a command answers of a package graph.
+ghost use Rattle.std.specs.Prelude.{◌≡◌, ◌↔◌, ◌∷◌, [], ℕ, List, map, string_bytes, IfOk, IfErr, IsOkUnless, OnOk, All, length};
+ghost use Rattle.std.specs.List.{AllZip};
 ghost use Rattle.guppy.specs.Ids.{IsKnown};
 ghost use Rattle.guppy.specs.ListedCycles.{cycle_left};
 ghost use Rattle.guppy.specs.Query.{IncludesId};
 ghost use Rattle.guppy.specs.Refused.{NamesId, IsFirstUnknown};
+ghost use Rattle.guppy.specs.Verified.{TellsVerifyFault, IsVerifyFault as IsGraphFault};
 ghost use Rattle.guppy.specs.Views.{link_data};
-ghost use Rattle.guppy_command.specs.Command.{verify, publish_order};
-ghost use Rattle.guppy_program.specs.Answer.{line_of, lines_of, truth_line, IsReached, IsReachAnswer, IsDependsAnswer, IsOrderAnswer, IsRootsAnswer, joined, link_text, IsLinksAnswer, IsCyclesAnswer, IsVerifyAnswer, IsPublishAnswer, IsAnswer, IsCommandRefusal};
-ghost use Rattle.guppy_command.specs.Shown.{command_shown};
+ghost use Rattle.guppy_program.specs.Cause.{Cause, library};
+ghost use Rattle.guppy_program.specs.Command.{ignored_in, paths_in};
+ghost use Rattle.guppy_program.specs.Answer.{Means, IsReached, AreReached, IsReachAnswer, TellsDependence, IsDependsAnswer, IsOrderAnswer, IsRootsAnswer, IsLinksAnswer, IsCyclesAnswer, IsVerifyAnswer, IsPublishAnswer, IsAffectedAnswer, IsAnswer, IsWordFault, IsVerifyFault, IsCommandFault, from_root, end_ids};
+ghost use Rattle.guppy_program.specs.Shown.{answer_shown, command_shown};
 
-use guppy::{CycleIds, PackageGraph, PackageLink, PackageSet};
-use guppy_command::command::Command;
-use guppy_core::DependencyDirection;
-use guppy_data::{Error, PackageId, SortedSet};
-use guppy_input::records::id_of;
+use crate::command::{Command, is_ignore};
+use crate::fault::{ProgramFault, passed_on, want_of_memory};
+use crate::format::Format;
+use guppy::graph::DependencyDirection;
+use guppy::{CycleIds, Error, PackageGraph, PackageId, PackageLink, PackageSet};
+use guppy_affected::affected;
 use guppy_publish::publish_order;
 use std::alloc::{AllocError, Global};
 
-fn ids_of(alloc: Global, words: &[String]) -> Result<Vec<PackageId>, AllocError>
-    ensures { IfOk result (λ ids. ids.items ≡ map string_bytes words.now) }
+/// What a command answers. The graph has the IDs.
+#[derive(Debug, Drop)]
+pub enum Answer<'g> {
+    /// A set of packages.
+    Set(Vec<&'g PackageId>),
+    /// Packages in an order.
+    List(Vec<&'g PackageId>),
+    /// The packages that links go from and to.
+    Pairs(Vec<(&'g PackageId, &'g PackageId)>),
+    /// The packages of cycles.
+    Rows(Vec<Vec<&'g PackageId>>),
+    /// Whether something holds.
+    Truth(bool),
+    /// All is well.
+    AllWell,
+}
+
+// The IDs of the packages that the words mean, where each means one.
+fn all_meant<F: Format>(
+    alloc: Global,
+    graph: &PackageGraph,
+    names: &F::Names,
+    words: &[String],
+) -> Result<Vec<PackageId>, F::Fault>
+    requires { F.are_names names.now graph.now.packages }
+    ensures named { IfOk result (λ ids. AllZip (Means (F.format.meant graph.now.packages))
+        (map string_bytes words.now) ids.items) }
+    ensures known { IfOk result (λ ids. All (IsKnown graph.now.packages) ids.items) }
+    ensures err { IfErr result (λ fault. IsWordFault F.format graph.now.packages
+        (map string_bytes words.now) (F.Fault.cause fault)) }
 {
     let mut ids = Vec::new(alloc);
     for word in words {
-        ids.push(id_of(alloc, word.as_str())?)?;
+        let id = F::find(alloc, graph, names, word.as_str())?;
+        let Ok(()) = ids.push(id) else {
+            return Err(want_of_memory());
+        };
     }
     Ok(ids)
-}
-
-// The texts of the IDs. To sort these reads no records, which lie far apart.
-fn texts_of<'g>(alloc: Global, ids: &[&'g PackageId]) -> Result<Vec<&'g str>, AllocError>
-    ensures { IfOk result (λ texts. map (λ t. t.now) texts.items ≡ map (λ r. r.now) ids.now) }
-{
-    let mut texts = Vec::with_capacity(alloc, ids.len())?;
-    for id in ids {
-        texts.push(id.repr())?;
-    }
-    Ok(texts)
-}
-
-// These texts, one a line.
-fn lines_of_texts(alloc: Global, texts: &[&str]) -> Result<String, AllocError>
-    ensures { IfOk result (λ lines. string_bytes lines ≡ lines_of (map (λ t. t.now) texts.now)) }
-{
-    let mut lines = String::new(alloc);
-    for text in texts {
-        lines.push_str(text)?;
-        lines.push('\n')?;
-    }
-    Ok(lines)
-}
-
-/// These IDs, one a line. Takes memory for the text, and for a reference an ID.
-pub fn lines_of(alloc: Global, ids: &[&PackageId]) -> Result<String, AllocError>
-    ensures { IfOk result (λ text. string_bytes text ≡ lines_of (map (λ r. r.now) ids.now)) }
-{
-    let texts = texts_of(alloc, ids)?;
-    lines_of_texts(alloc, texts.as_slice())
 }
 
 // The packages that those with these IDs reach in the direction.
@@ -66,7 +70,6 @@ fn reached<'g>(
 ) -> Result<PackageSet<'g>, Error>
     ensures graph { IfOk result (λ set. set.graph ≡ graph.now) }
     ensures count { IfOk result (λ set. length set.included ≡ length graph.now.packages) }
-    ensures known { OnOk result (All (IsKnown graph.now.packages) ids.now) }
     ensures exact { IfOk result (λ set. (id : List ℕ) → IncludesId set id
         ↔ IsReached direction graph.now ids.now id) }
     ensures err { IfErr result (NamesId (IsFirstUnknown graph.now.packages ids.now)) }
@@ -74,153 +77,229 @@ fn reached<'g>(
     graph.query_directed(ids.iter(), direction)?.resolve()
 }
 
-fn reach(
+// These packages, of which each ID must be known.
+fn reach_from<'g>(
     alloc: Global,
-    graph: &PackageGraph,
+    graph: &'g PackageGraph,
+    direction: DependencyDirection,
+    ids: &[PackageId],
+) -> Result<Answer<'g>, Error>
+    requires { All (IsKnown graph.now.packages) ids.now }
+    ensures ok { IfOk result
+        (λ answer. AreReached direction graph.now ids.now (answer_shown answer)) }
+    ensures err { IsOkUnless result Error.OutOfMemory }
+{
+    let set = reached(graph, direction, ids)?;
+    let listed: Vec<&PackageId> = set.package_ids(direction).collect(alloc)?;
+    Ok(Answer::Set(listed))
+}
+
+fn reach<'g, F: Format>(
+    alloc: Global,
+    graph: &'g PackageGraph,
+    names: &F::Names,
     direction: DependencyDirection,
     words: &[String],
-) -> Result<String, Error>
-    ensures ok { IfOk result (λ text. IsReachAnswer direction graph.now (map string_bytes words.now)
-        (string_bytes text)) }
-    ensures err { IfErr result (NamesId
-        (IsFirstUnknown graph.now.packages (map string_bytes words.now))) }
+) -> Result<Answer<'g>, F::Fault>
+    requires { F.are_names names.now graph.now.packages }
+    ensures ok { IfOk result (λ answer. IsReachAnswer direction graph.now
+        (F.format.meant graph.now.packages) (map string_bytes words.now) (answer_shown answer)) }
+    ensures err { IfErr result (λ fault. IsWordFault F.format graph.now.packages
+        (map string_bytes words.now) (F.Fault.cause fault)) }
 {
-    let ids = ids_of(alloc, words)?;
-    let set = reached(graph, direction, &ids)?;
-    let listed: Vec<&PackageId> = set.package_ids(direction).collect(alloc)?;
-    let sorted = SortedSet::new(texts_of(alloc, listed.as_slice())?);
-    Ok(lines_of_texts(alloc, sorted.as_slice())?)
+    let ids = all_meant::<F>(alloc, graph, names, words)?;
+    passed_on(reach_from(alloc, graph, direction, &ids))
 }
 
-fn truth_line(answer: bool) -> &'static str
-    ensures { result.now ≡ truth_line answer }
+// Whether the package with the first ID depends on that with the second. Each must be known.
+fn dependence<'g>(
+    graph: &'g PackageGraph,
+    from: &PackageId,
+    to: &PackageId,
+) -> Result<Answer<'g>, Error>
+    requires from_known { IsKnown graph.now.packages from.now }
+    requires to_known { IsKnown graph.now.packages to.now }
+    ensures ok { IfOk result
+        (λ answer. TellsDependence graph.now from.now to.now (answer_shown answer)) }
+    ensures err { IsOkUnless result Error.OutOfMemory }
 {
-    if answer { "true\n" } else { "false\n" }
+    Ok(Answer::Truth(graph.depends_on(from, to)?))
 }
 
-fn depends(alloc: Global, graph: &PackageGraph, from: &str, to: &str) -> Result<String, Error>
-    ensures ok { IfOk result (λ text. IsDependsAnswer graph.now from.now to.now
-        (string_bytes text)) }
-    ensures err { IfErr result (NamesId
-        (IsFirstUnknown graph.now.packages (from.now ∷ to.now ∷ []))) }
+fn depends<'g, F: Format>(
+    alloc: Global,
+    graph: &'g PackageGraph,
+    names: &F::Names,
+    from: &str,
+    to: &str,
+) -> Result<Answer<'g>, F::Fault>
+    requires { F.are_names names.now graph.now.packages }
+    ensures ok { IfOk result (λ answer. IsDependsAnswer graph.now
+        (F.format.meant graph.now.packages) from.now to.now (answer_shown answer)) }
+    ensures err { IfErr result (λ fault. IsWordFault F.format graph.now.packages
+        (from.now ∷ to.now ∷ []) (F.Fault.cause fault)) }
 {
-    let from = id_of(alloc, from)?;
-    let to = id_of(alloc, to)?;
-    let answer = graph.depends_on(&from, &to)?;
-    Ok(String::from_str(alloc, truth_line(answer))?)
+    let from = F::find(alloc, graph, names, from)?;
+    let to = F::find(alloc, graph, names, to)?;
+    passed_on(dependence(graph, &from, &to))
 }
 
-fn order(alloc: Global, graph: &PackageGraph) -> Result<String, Error>
-    ensures ok { IfOk result (λ text. IsOrderAnswer graph.now (string_bytes text)) }
+fn order(alloc: Global, graph: &PackageGraph) -> Result<Answer<'_>, Error>
+    ensures ok { IfOk result (λ answer. IsOrderAnswer graph.now (answer_shown answer)) }
     ensures err { IsOkUnless result Error.OutOfMemory }
 {
     let all = graph.resolve_all()?;
     let ids: Vec<&PackageId> = all
         .package_ids(DependencyDirection::Forward)
         .collect(alloc)?;
-    Ok(lines_of(alloc, ids.as_slice())?)
+    Ok(Answer::List(ids))
 }
 
 fn roots(
     alloc: Global,
     graph: &PackageGraph,
     direction: DependencyDirection,
-) -> Result<String, Error>
-    ensures ok { IfOk result (λ text. IsRootsAnswer direction graph.now (string_bytes text)) }
+) -> Result<Answer<'_>, Error>
+    ensures ok { IfOk result (λ answer. IsRootsAnswer direction graph.now (answer_shown answer)) }
     ensures err { IsOkUnless result Error.OutOfMemory }
 {
     let all = graph.resolve_all()?;
     let roots = all.root_ids(direction)?;
     let ids: Vec<&PackageId> = roots.collect(alloc)?;
-    Ok(lines_of(alloc, ids.as_slice())?)
+    Ok(Answer::List(ids))
 }
 
-// Writes the IDs of the packages that the link goes from and to, parted by a space, on a line.
-fn push_link(text: &mut String, link: PackageLink<'_>) -> Result<(), AllocError>
-    ensures { OnOk result (string_bytes text.new ≡ string_bytes text.old
-        ++ line_of (link_text (link_data link.entry))) }
+// The IDs of the packages that the link goes from and to.
+fn ends_of(link: PackageLink<'_>) -> (&PackageId, &PackageId)
+    ensures { result.0.now ∷ result.1.now ∷ [] ≡ end_ids (link_data link.entry) }
 {
-    text.push_str(link.from().id().repr())?;
-    text.push(' ')?;
-    text.push_str(link.to().id().repr())?;
-    text.push('\n')
+    (link.from().id(), link.to().id())
 }
 
 fn links(
     alloc: Global,
     graph: &PackageGraph,
     direction: DependencyDirection,
-) -> Result<String, Error>
-    ensures ok { IfOk result (λ text. IsLinksAnswer direction graph.now (string_bytes text)) }
+) -> Result<Answer<'_>, Error>
+    ensures ok { IfOk result (λ answer. IsLinksAnswer direction graph.now (answer_shown answer)) }
     ensures err { IsOkUnless result Error.OutOfMemory }
 {
     let all = graph.resolve_all()?;
     let walked = all.links(direction)?;
-    let mut text = String::new(alloc);
+    let mut pairs = Vec::new(alloc);
     for link in walked {
-        push_link(&mut text, link)?;
+        pairs.push(ends_of(link))?;
     }
-    Ok(text)
+    Ok(Answer::Pairs(pairs))
 }
 
-// The IDs of a cycle, parted by spaces.
-fn joined(alloc: Global, cycle: CycleIds<'_>) -> Result<String, AllocError>
-    ensures { IfOk result (λ text. string_bytes text ≡ joined (cycle_left cycle.entry)) }
+// The IDs of a cycle.
+fn row_of<'g>(alloc: Global, cycle: CycleIds<'g>) -> Result<Vec<&'g PackageId>, AllocError>
+    ensures { IfOk result (λ ids. map (λ id. id.now) ids.items ≡ cycle_left cycle.entry) }
 {
-    let mut texts = Vec::new(alloc);
-    for id in cycle {
-        texts.push(id.repr())?;
-    }
-    texts.join(alloc, " ")
+    let ids: Vec<&PackageId> = cycle.collect(alloc)?;
+    Ok(ids)
 }
 
-fn cycles(alloc: Global, graph: &PackageGraph) -> Result<String, AllocError>
-    ensures { IfOk result (λ text. IsCyclesAnswer graph.now (string_bytes text)) }
+fn cycles(alloc: Global, graph: &PackageGraph) -> Result<Answer<'_>, Error>
+    ensures ok { IfOk result (λ answer. IsCyclesAnswer graph.now (answer_shown answer)) }
+    ensures err { IsOkUnless result Error.OutOfMemory }
 {
-    let mut text = String::new(alloc);
+    let mut rows = Vec::new(alloc);
     for cycle in graph.cycles().all_cycles() {
-        let line = joined(alloc, cycle)?;
-        text.push_str(line.as_str())?;
-        text.push('\n')?;
+        rows.push(row_of(alloc, cycle)?)?;
     }
-    Ok(text)
+    Ok(Answer::Rows(rows))
 }
 
-fn verify(alloc: Global, graph: &PackageGraph) -> Result<String, Error>
-    ensures ok { IfOk result (λ text. IsVerifyAnswer graph.now (string_bytes text)) }
-    ensures err { IfErr result (IsCommandRefusal verify graph.now) }
+fn verified(graph: &PackageGraph) -> Result<Answer<'_>, Error>
+    ensures ok { IfOk result (λ answer. IsVerifyAnswer graph.now (answer_shown answer)) }
+    ensures err { IfErr result (TellsVerifyFault (IsGraphFault graph.now)) }
 {
     graph.verify()?;
-    Ok(String::from_str(alloc, "ok\n")?)
+    Ok(Answer::AllWell)
 }
 
-fn published(alloc: Global, graph: &PackageGraph) -> Result<String, Error>
-    ensures ok { IfOk result (λ text. IsPublishAnswer graph.now (string_bytes text)) }
-    ensures err { IfErr result (IsCommandRefusal publish_order graph.now) }
+fn published(graph: &PackageGraph) -> Result<Answer<'_>, Error>
+    ensures ok { IfOk result (λ answer. IsPublishAnswer graph.now (answer_shown answer)) }
+    ensures err { IfErr result (TellsVerifyFault (IsGraphFault graph.now)) }
 {
-    let ids = publish_order(graph)?;
-    Ok(lines_of(alloc, ids.as_slice())?)
+    Ok(Answer::List(publish_order(graph)?))
 }
 
-/// What the command prints. `UnknownPackageId` tells the first ID of the command that is no package's,
-/// and `PackageGraphInternalError`, for `verify` and `publish-order` alone, what the graph's `verify`
+// The path without a `./` at its front.
+fn from_root(path: &str) -> &str
+    ensures { result.now ≡ from_root path.now }
+{
+    match path.strip_prefix("./") {
+        Some(rest) => rest,
+        None => path,
+    }
+}
+
+// The folders behind `--ignore`, and the other paths, without a `./` at their fronts.
+fn parted(alloc: Global, words: &[String]) -> Result<(Vec<String>, Vec<String>), AllocError>
+    ensures ignored { IfOk result (λ parted. map string_bytes parted.0.items
+        ≡ map from_root (ignored_in (map string_bytes words.now))) }
+    ensures paths { IfOk result (λ parted. map string_bytes parted.1.items
+        ≡ map from_root (paths_in (map string_bytes words.now))) }
+{
+    let mut ignored = Vec::new(alloc);
+    let mut paths = Vec::new(alloc);
+    let mut rest = words;
+    while let [word, after @ ..] = rest {
+        rest = after;
+        if !is_ignore(word.as_str()) {
+            paths.push(String::from_str(alloc, from_root(word.as_str()))?)?;
+        } else if let [folder, after @ ..] = rest {
+            ignored.push(String::from_str(alloc, from_root(folder.as_str()))?)?;
+            rest = after;
+        }
+    }
+    Ok((ignored, paths))
+}
+
+// The members to test.
+fn tested<'g>(alloc: Global, graph: &'g PackageGraph, words: &[String]) -> Result<Answer<'g>, Error>
+    ensures ok { IfOk result (λ answer. IsAffectedAnswer graph.now
+        (ignored_in (map string_bytes words.now)) (paths_in (map string_bytes words.now))
+        (answer_shown answer)) }
+    ensures err { IsOkUnless result Error.OutOfMemory }
+{
+    let (ignored, paths) = parted(alloc, words)?;
+    let ids = affected(graph, paths.as_slice(), ignored.as_slice())?;
+    Ok(Answer::List(ids))
+}
+
+/// What the command answers of the graph, whose packages have these names.
+///
+/// The first word of the command that means no package, or may mean several, is told. An error
+/// `PackageGraphInternalError`, for `verify` and `publish-order` alone, tells what the graph's `verify`
 /// refuses.
 ///
 /// Takes memory for the answer, and for some numbers a package and a link. Time grows with packages and
-/// links, and for `reach` with the packages printed times the logarithm of their number.
-pub fn answer(alloc: Global, graph: &PackageGraph, command: &Command<'_>) -> Result<String, Error>
-    ensures ok { IfOk result (λ text. IsAnswer (command_shown command.now) graph.now
-        (string_bytes text)) }
-    ensures err { IfErr result (IsCommandRefusal (command_shown command.now) graph.now) }
+/// links.
+pub fn answer_of<'g, F: Format>(
+    alloc: Global,
+    graph: &'g PackageGraph,
+    names: &F::Names,
+    command: &Command<'_>,
+) -> Result<Answer<'g>, F::Fault>
+    requires { F.are_names names.now graph.now.packages }
+    ensures ok { IfOk result (λ answer. IsAnswer (F.format.meant graph.now.packages)
+        (command_shown command.now) graph.now (answer_shown answer)) }
+    ensures err { IfErr result (λ fault. IsCommandFault F.format (command_shown command.now)
+        graph.now (F.Fault.cause fault)) }
 {
     match command {
-        Command::Reach(direction, ids) => reach(alloc, graph, *direction, ids),
-        Command::Depends(from, to) => depends(alloc, graph, from, to),
-        Command::Order => order(alloc, graph),
-        Command::Roots(direction) => roots(alloc, graph, *direction),
-        Command::Links(direction) => links(alloc, graph, *direction),
-        Command::Cycles => Ok(cycles(alloc, graph)?),
-        Command::Verify => verify(alloc, graph),
-        Command::PublishOrder => published(alloc, graph),
+        Command::Reach(direction, words) => { reach::<F>(alloc, graph, names, *direction, words) }
+        Command::Depends(from, to) => depends::<F>(alloc, graph, names, from, to),
+        Command::Order => passed_on(order(alloc, graph)),
+        Command::Roots(direction) => passed_on(roots(alloc, graph, *direction)),
+        Command::Links(direction) => passed_on(links(alloc, graph, *direction)),
+        Command::Cycles => passed_on(cycles(alloc, graph)),
+        Command::Verify => passed_on(verified(graph)),
+        Command::PublishOrder => passed_on(published(graph)),
+        Command::Affected(words) => passed_on(tested(alloc, graph, words)),
     }
 }

@@ -1,14 +1,37 @@
-//! The program `guppy-run`, over any source and sink.
+//! The programs `guppy-run` and `guppy-cargo`, over any source and sink.
 //!
 //! The modules, from the bottom up:
 //!
-//! - `load`: the package graph of the records that an input says;
-//! - `answer`: what a command prints;
-//! - `run`: the program;
-//! - `process`: the program with its fault told and its status.
+//! - `device`: what bytes are read from and written to;
+//! - `fault`: why there is no answer, as far as every program says it;
+//! - `transfer`: reading to the end, and writing all;
+//! - `command`: what the arguments ask for;
+//! - `format`: what differs between programs, how they read their input and what they call packages;
+//! - `answer`: what a command answers of a package graph;
+//! - `print`: how that is printed;
+//! - `program`: a program;
+//! - `process`: a program with its fault told and its status;
+//! - `lines`: what `guppy-run` reads, and that program.
 #![tactic(auto)]
 
 pub mod answer;
-pub mod load;
+pub mod command;
+pub mod device;
+pub mod fault;
+pub mod format;
+pub mod lines;
+pub mod print;
 pub mod process;
-pub mod run;
+pub mod program;
+pub mod transfer;
+
+pub use answer::Answer;
+pub use command::Command;
+pub use device::{DeviceFault, IoSink, IoSource, Sink, Source};
+pub use fault::ProgramFault;
+pub use format::Format;
+pub use lines::fault::RunFault;
+pub use lines::input::records_of;
+pub use lines::{Lines, run};
+pub use process::{Ending, arguments, run_process};
+pub use program::run_with;

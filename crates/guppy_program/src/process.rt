@@ -1,17 +1,16 @@
 //! The program as a process runs it: its arguments, a source, a sink, and another sink for its fault.
-ghost use Rattle.std.specs.Prelude.{◌≡◌, ◌⊎◌, Result, Err, map, string_bytes, IfOk, IfErr, true, false};
+ghost use Rattle.std.specs.Prelude.{◌≡◌, ◌⊎◌, Result, Err, IfSome, map, string_bytes, IfOk, IfErr, true, false};
 ghost use Rattle.std.specs.Io.KnownBytes.{Appends};
 ghost use Rattle.guppy_data.specs.declared.texts.error.Error.TheVariants.{OutOfMemory};
-ghost use Rattle.guppy_input.specs.declared.fault.RunFault.{RunFault};
-ghost use Rattle.guppy_input.specs.declared.fault.RunFault.TheVariants.{Library, BadArguments};
+ghost use Rattle.guppy_program.specs.Cause.{library, bad_arguments};
 ghost use Rattle.guppy_program.specs.Run.{IsRun};
 ghost use Rattle.guppy_program.specs.Process.{EndsIn, fault_line};
 
-use crate::run::run;
-use guppy_data::Error;
-use guppy_input::device::{Sink, Source};
-use guppy_input::fault::RunFault;
-use guppy_input::transfer::write_all;
+use crate::device::{Sink, Source};
+use crate::fault::{ProgramFault, want_of_memory};
+use crate::format::Format;
+use crate::program::run_with;
+use crate::transfer::write_all;
 use std::alloc::Global;
 use std::env::{self, Env};
 use std::fmt::{self, Write};
@@ -27,17 +26,15 @@ fn read_arguments<R: Env + AllocGlobal>(rt: &R) -> io::Result<Vec<String>> {
 
 /// The arguments that the process was given, without the program's own name. Takes memory for them.
 ///
-/// Where one is not UTF-8, `BadArguments` comes, since it is part of no command.
-pub fn arguments<R: Env + AllocGlobal>(rt: &R) -> Result<Vec<String>, RunFault>
+/// Where one is not UTF-8, they are blamed, since it is part of no command.
+pub fn arguments<R: Env + AllocGlobal, F: ProgramFault>(rt: &R) -> Result<Vec<String>, F>
     ensures err { IfErr result
-        (λ fault. (fault ≡ Library OutOfMemory) ⊎ (fault ≡ BadArguments)) }
+        (λ fault. (F.cause fault ≡ library OutOfMemory) ⊎ (F.cause fault ≡ bad_arguments)) }
 {
     match read_arguments(rt) {
         Ok(args) => Ok(args),
-        Err(error) if error.kind() == io::ErrorKind::OutOfMemory => {
-            Err(RunFault::Library(Error::OutOfMemory))
-        }
-        Err(_) => Err(RunFault::BadArguments),
+        Err(error) if error.kind() == io::ErrorKind::OutOfMemory => Err(want_of_memory()),
+        Err(_) => Err(F::bad_arguments()),
     }
 }
 
@@ -52,11 +49,11 @@ pub struct Ending {
 
 // A sink that text is formatted into.
 #[derive(Drop)]
-struct Lines<'e, E> {
+struct Text<'e, E> {
     sink: &'e mut E,
 }
 
-impl<E: Sink> fmt::Write for Lines<'_, E> {
+impl<E: Sink> fmt::Write for Text<'_, E> {
     ghost use Rattle.std.specs.Prelude.{◌≡◌};
     ghost use Rattle.std.specs.Io.KnownBytes.{Appends};
 
@@ -72,18 +69,18 @@ impl<E: Sink> fmt::Write for Lines<'_, E> {
 }
 
 // Tells the fault in one line, and answers whether it was written whole.
-fn tell<E: Sink>(fault: &RunFault, errors: &mut E) -> bool
-    ensures { result ≡ true → Appends (E.written errors.old) (E.written errors.new)
-        (fault_line fault.now) }
+fn tell<F: ProgramFault, E: Sink>(fault: &F, errors: &mut E) -> bool
+    ensures { IfSome (F.output fault.now) (λ text. result ≡ true
+        → Appends (E.written errors.old) (E.written errors.new) (fault_line text)) }
 {
-    let mut lines = Lines { sink: errors };
+    let mut lines = Text { sink: errors };
     let told = writeln!(lines, "error: {fault}");
     told.is_ok()
 }
 
 // Tells the fault, where there is one.
-fn report<E: Sink>(outcome: &Result<(), RunFault>, errors: &mut E) -> Ending
-    ensures { EndsIn E.written errors.old errors.new outcome.now result }
+fn report<F: ProgramFault, E: Sink>(outcome: &Result<(), F>, errors: &mut E) -> Ending
+    ensures { EndsIn F.ending F.output E.written errors.old errors.new outcome.now result }
 {
     match outcome {
         Ok(()) => Ending {
@@ -91,40 +88,41 @@ fn report<E: Sink>(outcome: &Result<(), RunFault>, errors: &mut E) -> Ending
             is_told: true,
         },
         Err(fault) => Ending {
-            status: fault.status(),
+            status: fault.ending(),
             is_told: tell(fault, errors),
         },
     }
 }
 
 // The outcome of a run, where there are arguments.
-fn outcome_of<R: Source, W: Sink>(
+fn outcome_of<F: Format, R: Source, W: Sink>(
     alloc: Global,
-    args: Result<Vec<String>, RunFault>,
+    args: Result<Vec<String>, F::Fault>,
     reader: &mut R,
     writer: &mut W,
-) -> Result<(), RunFault>
+) -> Result<(), F::Fault>
     requires input_works { R.has_failed reader.old ≡ false }
     requires output_works { W.has_failed writer.old ≡ false }
-    ensures ran { IfOk args (λ list. IsRun R.left R.has_failed W.written W.has_failed
-        (map string_bytes list.items) reader.old reader.new writer.old writer.new result) }
+    ensures ran { IfOk args (λ list. IsRun F.format F.Fault.cause R.left R.has_failed W.written
+        W.has_failed (map string_bytes list.items) reader.old reader.new writer.old writer.new
+        result) }
     ensures no_arguments { IfErr args
         (λ fault. (reader.new ≡ reader.old) × (writer.new ≡ writer.old) × (result ≡ Err fault)) }
 {
     match args {
-        Ok(args) => run(alloc, &args, reader, writer),
+        Ok(args) => run_with::<F, R, W>(alloc, &args, reader, writer),
         Err(fault) => Err(fault),
     }
 }
 
-/// Runs the program with [`run`] on the arguments that a process was given, and tells its fault, if one
-/// comes, on `errors`: `error: `, the fault's text and a newline. Where the arguments could not be had,
+/// Runs the program with [`run_with`] on the arguments that a process was given, and tells its fault, if
+/// one comes, on `errors`: `error: `, the fault's text and a newline. Where the arguments could not be had,
 /// that fault is told, and nothing read or written.
 ///
-/// Neither the reader nor the writer may have failed before. Takes no memory beside what `run` takes.
-pub fn run_process<R: Source, W: Sink, E: Sink>(
+/// Neither the reader nor the writer may have failed before. Takes no memory beside what `run_with` takes.
+pub fn run_process<F: Format, R: Source, W: Sink, E: Sink>(
     alloc: Global,
-    args: Result<Vec<String>, RunFault>,
+    args: Result<Vec<String>, F::Fault>,
     reader: &mut R,
     writer: &mut W,
     errors: &mut E,
@@ -132,17 +130,18 @@ pub fn run_process<R: Source, W: Sink, E: Sink>(
     requires input_works { R.has_failed reader.old ≡ false }
     requires output_works { W.has_failed writer.old ≡ false }
 
-    // What `run` says holds of an outcome, and the process ends as this outcome says.
-    ensures ran { IfOk args (λ list. (outcome : Result (Unit {0}) RunFault)
-        × IsRun R.left R.has_failed W.written W.has_failed
+    // What `run_with` says holds of an outcome, and the process ends as this outcome says.
+    ensures ran { IfOk args (λ list. (outcome : Result (Unit {0}) F.Fault)
+        × IsRun F.format F.Fault.cause R.left R.has_failed W.written W.has_failed
         (map string_bytes list.items) reader.old reader.new writer.old writer.new outcome
-        × EndsIn E.written errors.old errors.new outcome result) }
+        × EndsIn F.Fault.ending F.Fault.output E.written errors.old errors.new outcome result) }
 
     // There are no arguments, so nothing was read or written.
     ensures no_arguments { IfErr args
         (λ fault. (reader.new ≡ reader.old) × (writer.new ≡ writer.old)
-        × EndsIn {T = Unit {0}} E.written errors.old errors.new (Err fault) result) }
+        × EndsIn {T = Unit {0}} F.Fault.ending F.Fault.output E.written errors.old errors.new
+        (Err fault) result) }
 {
-    let outcome = outcome_of(alloc, args, reader, writer);
+    let outcome = outcome_of::<F, R, W>(alloc, args, reader, writer);
     report(&outcome, errors)
 }

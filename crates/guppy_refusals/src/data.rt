@@ -2,8 +2,8 @@
 use crate::told::{begin, tell, tell_line};
 use guppy::SortedSet;
 use guppy::platform::{PlatformSpec, PlatformStatus, PlatformStatusImpl, TargetSpec};
-use guppy_input::fault::RunFault;
-use guppy_input::records::id_of;
+use guppy_program::RunFault;
+use guppy_program::lines::records::id_of;
 use std::alloc::{AllocError, Global};
 
 // The status of two texts.

@@ -3,7 +3,7 @@ use crate::told::{begin, tell_calls, tell_set};
 use crate::world::World;
 use guppy::graph::DependencyDirection;
 use guppy::{Error, PackageMetadata, PackageSet};
-use guppy_input::fault::RunFault;
+use guppy_program::RunFault;
 
 const FORWARD: DependencyDirection = DependencyDirection::Forward;
 

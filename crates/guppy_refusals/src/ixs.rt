@@ -5,7 +5,7 @@ use crate::positions::{DevLinks, graph_of, tell_list, tell_positions};
 use crate::told::{begin, tell_line};
 use guppy::graph::{IndexType, PackageIx};
 use guppy::positions::{CountedGraph, Graph, IxSet, ResolveCore, find_cycle};
-use guppy_input::fault::RunFault;
+use guppy_program::RunFault;
 use std::alloc::{AllocError, Global};
 
 // Those of the positions that the graph has.

@@ -3,7 +3,7 @@ use crate::told::{begin, tell, tell_line};
 use crate::world::World;
 use guppy::graph::DependencyDirection;
 use guppy::{Utf8Path, WalkedLinks};
-use guppy_input::fault::RunFault;
+use guppy_program::RunFault;
 
 const FORWARD: DependencyDirection = DependencyDirection::Forward;
 

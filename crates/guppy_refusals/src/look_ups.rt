@@ -4,8 +4,8 @@ use crate::told::{begin, tell_line};
 use crate::world::World;
 use guppy::graph::DependencyDirection;
 use guppy::{DependsCache, PackageId, Utf8Path};
-use guppy_input::fault::RunFault;
-use guppy_input::records::id_of;
+use guppy_program::RunFault;
+use guppy_program::lines::records::id_of;
 use std::alloc::Global;
 
 // Whether c depends on a, and a on c.

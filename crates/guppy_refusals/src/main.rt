@@ -22,10 +22,8 @@ mod verifying;
 mod world;
 
 use crate::world::{World, tell_world};
-use guppy::{Error, PackageGraph};
-use guppy_input::fault::RunFault;
-use guppy_input::input::records_of;
-use guppy_input::records::Records;
+use guppy::IntoGraph;
+use guppy_program::{RunFault, records_of};
 use std::alloc::Global;
 use std::process::ExitCode;
 use std::rt::Env;
@@ -34,15 +32,11 @@ use std::{env, io};
 const INPUT: &[u8] = b"package a\npackage b\npackage c\npackage d\npackage e\n\
     link a b normal\nlink b c build\nlink c b dev\nlink a d dev\nlink d d normal\nlink d c normal\n";
 
-pub(crate) fn graph_of(records: Records) -> Result<PackageGraph, Error> {
-    PackageGraph::from_records(records.packages, records.links, records.workspace)
-}
-
 // Makes the graph once more, of records that are given up.
 fn ask_from_records(rt: &impl Print, alloc: Global) -> Result<(), RunFault> {
     let records = records_of(alloc, INPUT)?;
     told::begin(rt);
-    let graph = graph_of(records)?;
+    let graph = records.into_graph()?;
     world::tell_graph(rt, &graph);
     Ok(())
 }
@@ -82,7 +76,7 @@ fn try_case(rt: &impl Print, alloc: Global, world: &World<'_>, case: &str) {
 }
 
 fn run_case(rt: &impl Print, alloc: Global, case: &str) -> Result<(), RunFault> {
-    let graph = graph_of(records_of(alloc, INPUT)?)?;
+    let graph = records_of(alloc, INPUT)?.into_graph()?;
     let world = World::new(&graph)?;
     try_case(rt, alloc, &world, case);
     Ok(())

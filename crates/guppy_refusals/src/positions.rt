@@ -8,7 +8,7 @@ use guppy::positions::{
     CountedGraph, EdgeDfs, Graph, GraphSpec, IxSet, Link, ResolveCore, Sccs, TopoWithCycles,
     reachable,
 };
-use guppy_input::fault::RunFault;
+use guppy_program::RunFault;
 use std::alloc::{AllocError, Global};
 
 /// A graph whose links say whether they are dev-only.

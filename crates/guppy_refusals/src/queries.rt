@@ -3,7 +3,7 @@ use crate::told::begin;
 use crate::world::{World, tell_query};
 use guppy::graph::DependencyDirection;
 use guppy::{PackageQuery, Utf8Path};
-use guppy_input::fault::RunFault;
+use guppy_program::RunFault;
 
 fn made<'g>(rt: &impl Print, world: &World<'g>, call: &str) -> Result<PackageQuery<'g>, RunFault> {
     let graph = world.graph;

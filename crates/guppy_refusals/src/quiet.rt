@@ -8,9 +8,8 @@ use crate::world::{World, tell_graph};
 use guppy::graph::{DependencyDirection, DependencyReqImpl, ExternalSource, IndexType, PackageIx};
 use guppy::platform::{EnabledTernary, PlatformSpec, PlatformStatus, TargetEval, TargetSpec};
 use guppy::positions::{IxSet, ResolveCore};
-use guppy::{CycleIds, DependsCache, Error, PackageMetadata, SortedSet, Utf8Path};
-use guppy_input::fault::RunFault;
-use guppy_input::input::records_of;
+use guppy::{CycleIds, DependsCache, Error, IntoGraph, PackageMetadata, SortedSet, Utf8Path};
+use guppy_program::{RunFault, records_of};
 use std::alloc::{AllocError, Global};
 
 const FORWARD: DependencyDirection = DependencyDirection::Forward;
@@ -93,7 +92,7 @@ fn ask_verify(rt: &impl Print, alloc: Global) -> Result<(), RunFault> {
     for link in &mut records.links {
         link.dev = DependencyReqImpl::never(alloc);
     }
-    let graph = crate::graph_of(records)?;
+    let graph = records.into_graph()?;
     begin(rt);
     graph.verify()?;
     Ok(())

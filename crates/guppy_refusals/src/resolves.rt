@@ -2,16 +2,14 @@
 ghost use Rattle.std.specs.Prelude.{◌≡◌, ◌==◌, ◌||◌, ℕ, ◌+◌, ◌%◌, ◌^◌, ◌<◌, true, length, not};
 ghost use Rattle.guppy.specs.Visitors.{MayVisitAt};
 
-use crate::graph_of;
 use crate::told::{begin, tell, tell_calls, tell_line, tell_set};
 use crate::world::World;
 use guppy::graph::DependencyDirection;
 use guppy::{
-    Error, PackageGraph, PackageLink, PackageLinkContext, PackageLinkVisitor, PackageQuery,
-    PackageSet,
+    Error, IntoGraph, PackageGraph, PackageLink, PackageLinkContext, PackageLinkVisitor,
+    PackageQuery, PackageSet,
 };
-use guppy_input::fault::RunFault;
-use guppy_input::input::records_of;
+use guppy_program::{RunFault, records_of};
 use std::alloc::Global;
 
 const FORWARD: DependencyDirection = DependencyDirection::Forward;
@@ -174,7 +172,7 @@ pub(crate) fn ask(
     call: &str,
 ) -> Result<(), RunFault> {
     if call == "diamond_under_refusals" {
-        let graph = graph_of(records_of(alloc, DIAMOND)?)?;
+        let graph = records_of(alloc, DIAMOND)?.into_graph()?;
         ask_diamond(rt, &graph)?;
         return Ok(());
     }

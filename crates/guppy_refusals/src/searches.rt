@@ -11,7 +11,7 @@ use guppy::positions::{
     reachable_buffered, reachable_buffered_mut, reachable_filtered, reachable_recorded,
     reachable_with, reachable_with_fn,
 };
-use guppy_input::fault::RunFault;
+use guppy_program::RunFault;
 use std::alloc::{AllocError, Global};
 
 const FORWARD: DependencyDirection = DependencyDirection::Forward;

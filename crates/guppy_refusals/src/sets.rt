@@ -5,7 +5,7 @@ ghost use Rattle.guppy.specs.Ids.{ids_of};
 use crate::told::{begin, tell_line, tell_set};
 use crate::world::World;
 use guppy::{PackageSet, Utf8Path};
-use guppy_input::fault::RunFault;
+use guppy_program::RunFault;
 
 // The set that a maker makes.
 fn made<'g>(rt: &impl Print, world: &World<'g>, call: &str) -> Result<PackageSet<'g>, RunFault> {

@@ -1,11 +1,9 @@
 //! Verifying, and what stands on it: cycles over links that aren't dev-only, and the order to publish in.
-use crate::graph_of;
 use crate::told::{begin, tell, tell_line};
 use crate::world::{World, tell_graph};
-use guppy::{Error, PackageGraph, PackageId};
-use guppy_input::fault::RunFault;
-use guppy_input::input::records_of;
-use guppy_input::records::id_of;
+use guppy::{Error, IntoGraph, PackageGraph, PackageId};
+use guppy_program::lines::records::id_of;
+use guppy_program::{RunFault, records_of};
 use guppy_publish::publish_order;
 use std::alloc::{AllocError, Global};
 
@@ -74,7 +72,7 @@ fn ask_graph(
 }
 
 fn ask_turning(rt: &impl Print, alloc: Global, call: &str) -> Result<(), RunFault> {
-    let turning = graph_of(records_of(alloc, TURNING)?)?;
+    let turning = records_of(alloc, TURNING)?.into_graph()?;
     let asked = ask_graph(rt, alloc, &turning, call);
     Ok(asked?)
 }

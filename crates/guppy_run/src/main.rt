@@ -3,15 +3,14 @@
 //! What it does is `guppy_program`'s `run_process`; here stand the standard streams.
 #![tactic(auto)]
 
-use guppy_input::device::{IoSink, IoSource};
-use guppy_program::process::{arguments, run_process};
+use guppy_program::{IoSink, IoSource, Lines, arguments, run_process};
 use std::process::ExitCode;
 
 fn main(rt: HostRuntime) -> ExitCode {
     let mut reader = IoSource::new(rt.stdin());
     let mut writer = IoSink::new(rt.stdout());
     let mut errors = IoSink::new(rt.stderr());
-    let ending = run_process(
+    let ending = run_process::<Lines, _, _, _>(
         rt.alloc(),
         arguments(&rt),
         &mut reader,

@@ -1,7 +1,7 @@
 //! A source and a sink in memory, and a reader and a writer of std, which fail when they are told to.
 ghost use Rattle.std.specs.Prelude.{◌≡◌, false, [], Some};
 
-use guppy_input::device::{DeviceFault, Sink, Source};
+use guppy_program::{DeviceFault, Sink, Source};
 use std::alloc::Global;
 use std::io::{self, ErrorKind, Read, Write};
 

@@ -2,9 +2,7 @@
 ghost use Rattle.std.specs.Prelude.{◌≡◌, false};
 
 use crate::devices::{Feed, Full, Paper, Stumbling};
-use guppy_input::device::{IoSink, IoSource, Sink, Source};
-use guppy_input::fault::RunFault;
-use guppy_program::process::run_process;
+use guppy_program::{IoSink, IoSource, Lines, RunFault, Sink, Source, run_process};
 use std::alloc::{AllocError, Global};
 use std::process::Abort;
 use std::test::Fail;
@@ -43,7 +41,7 @@ fn assert_ends<R: Source, W: Sink>(
 {
     let args = words_of(alloc, line)?;
     let mut errors = Paper::new(alloc, MANY, MANY);
-    let ending = run_process(alloc, Ok(args), reader, writer, &mut errors);
+    let ending = run_process::<Lines, _, _, _>(alloc, Ok(args), reader, writer, &mut errors);
     let told = line_of(alloc, fault)?;
     assert_eq!(rt; errors.bytes(), told.as_slice(), "{line}: {fault}");
     assert!(rt;
@@ -447,7 +445,7 @@ fn no_arguments(rt: HostRuntime) {
         let mut reader = Feed::new(FIRST, MANY, MANY);
         let mut writer = Paper::new(alloc, MANY, MANY);
         let mut errors = Paper::new(alloc, 1, writes);
-        let ending = run_process(
+        let ending = run_process::<Lines, _, _, _>(
             alloc,
             Err(RunFault::BadArguments),
             &mut reader,

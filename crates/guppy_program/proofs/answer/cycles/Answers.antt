@@ -1,23 +1,20 @@
-use Rattle.std.proofs.Common.{◌≡◌, ◌∙◌, ◌↔◌, sym, ap, subst, append_assoc, rules, ◌++◌, ◌∷◌, [], Bor, map, string_bytes}
+use Rattle.std.proofs.Common.{◌≡◌, ◌∙◌, ◌↔◌, ap, subst, ℕ, List, Bor, map}
+use Rattle.std.specs.declared.alloc.Global.{Global}
+use Rattle.std.specs.Prelude.{Vec}
 use Rattle.guppy.specs.Cycles.{AreCyclic, AreOnOne}
 use Rattle.guppy.specs.Graph.{GraphData, IsInOrder}
 use Rattle.guppy.specs.ListedCycles.{cycle_left, cycles_left, cycles_of}
-use Rattle.guppy_program.specs.Answer.{lines_of, joined}
+use Rattle.guppy_program.specs.Answer.{package_rows}
 use Rattle.guppy_program.proofs.Included.{all_given}
-use Rattle.guppy_program.proofs.Ordering.{lines-push}
+use Rattle.guppy_program.proofs.Ordering.{seen_push}
 use Rattle.guppy_program.proofs.answer.cycles.Goals as goal
 
 pub loop-cycle-preserved : goal.loop-cycle-preserved
-loop-cycle-preserved c =
-    let text = string_bytes c.loop-cycle.text in
-    let line = joined (cycle_left c.in-Some.cycle) in
-    let with_line : string_bytes c.push_str.new.self ≡ text ++ line = c.in_ok-push_str.ensures.bytes ∙ ap (λ bytes. text ++ bytes) (c.as_str.ensures.value ∙ c.in_ok-line.ensures) in
-    let with_end : string_bytes c.push.new.self ≡ string_bytes c.push_str.new.self ++ 10 ∷ [] = search rules in
-    with_end ∙ ap (λ bytes. bytes ++ 10 ∷ []) with_line ∙ append_assoc text line (10 ∷ []) ∙ ap (λ bytes. bytes ++ (line ++ 10 ∷ [])) c.loop-cycle.invariant
-    ∙ sym (lines-push joined cycle_left c.loop-cycle.yielded c.in-Some.cycle)
+loop-cycle-preserved c = seen_push (λ (row : Vec (Bor (List ℕ)) Global). map (λ id. id.now) row.items) cycle_left c.loop-cycle.rows.items c.push.new.self.items c.loop-cycle.yielded _ c.in-Some.cycle
+    c.in_ok-push.ensures.items c.loop-cycle.invariant c.in_ok-row_of.ensures
 
-pub returns : goal.returns
-returns c =
+pub returns-clause-ok : goal.returns-clause-ok
+returns-clause-ok c =
     let items = c.all_cycles-cycle-items.result in
     let gave = rw c.into_iter-cycle-iterator.ensures.into_iter_gives at c.loop-cycle.yielded_by in
     let all = all_given cycle_left cycles_left items _ c.next.new.self _ gave c.in-None.ensures.steps in
@@ -26,5 +23,5 @@ returns c =
       ordered = subst (λ (g : Bor GraphData). IsInOrder g.now) c.cycles.ensures c.all_cycles-cycle-items.ensures.ordered;
       common = λ a b. subst (λ cycles. AreOnOne cycles a b ↔ AreCyclic c.args.graph.now a b) left
           (subst (λ (g : Bor GraphData). AreOnOne (cycles_left items) a b ↔ AreCyclic g.now a b) c.cycles.ensures (c.all_cycles-cycle-items.ensures.common a b));
-      printed = c.loop-cycle.invariant ∙ ap (λ cycles. lines_of (map joined cycles)) (all ∙ left);
+      told = ap package_rows (c.loop-cycle.invariant ∙ all ∙ left);
     }

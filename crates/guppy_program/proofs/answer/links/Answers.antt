@@ -1,17 +1,19 @@
-use Rattle.std.proofs.Common.{◌∙◌, sym, ap, subst, ◌++◌, map}
+use Rattle.std.proofs.Common.{◌∙◌, sym, ap, subst, ◌∷◌, [], ℕ, List, Bor, map}
+use Rattle.std.proofs.lemmas.List.{map_push}
 use Rattle.guppy.specs.Query.{SetData}
 use Rattle.guppy.specs.Views.{link_data}
 use Rattle.guppy.specs.Walked.{AreWalkedLinks, walked_left}
-use Rattle.guppy_program.specs.Answer.{lines_of, line_of, link_text}
+use Rattle.guppy_program.specs.Answer.{end_ids, package_rows}
 use Rattle.guppy_program.proofs.Included.{all_given}
-use Rattle.guppy_program.proofs.Ordering.{lines-push}
+use Rattle.guppy_program.proofs.Ordering.{seen_push}
 use Rattle.guppy_program.proofs.Whole.{set_is_all}
 use Rattle.guppy_program.proofs.answer.links.Goals as goal
 
 pub loop-link-preserved : goal.loop-link-preserved
 loop-link-preserved c =
-    c.in_ok-push_link.ensures ∙ ap (λ bytes. bytes ++ line_of (link_text (link_data c.in-Some.link))) c.loop-link.invariant
-    ∙ sym (lines-push link_text link_data c.loop-link.yielded c.in-Some.link)
+    seen_push (λ (pair : Bor (List ℕ) × Bor (List ℕ)). pair.0.now ∷ pair.1.now ∷ []) end_ids c.loop-link.pairs.items c.push.new.self.items (map link_data c.loop-link.yielded) c.ends_of.result (link_data c.in-Some.link)
+    c.in_ok-push.ensures.items c.loop-link.invariant c.ends_of.ensures
+    ∙ ap (map end_ids) (sym (map_push link_data c.loop-link.yielded c.in-Some.link))
 
 pub returns-clause-ok : goal.returns-clause-ok
 returns-clause-ok c =
@@ -22,5 +24,5 @@ returns-clause-ok c =
     record {
       walked = walked_left walked;
       exact = subst (λ (s : SetData). AreWalkedLinks c.args.direction s (walked_left walked)) (set_is_all all c.args.graph.now c.in_ok-all.ensures.graph c.in_ok-all.ensures.all) c.in_ok-walked.ensures.walked;
-      printed = c.loop-link.invariant ∙ ap (λ links. lines_of (map link_text links)) given;
+      told = ap package_rows (c.loop-link.invariant ∙ ap (map end_ids) given);
     }

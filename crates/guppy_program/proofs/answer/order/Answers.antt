@@ -3,7 +3,7 @@ use Rattle.std.proofs.lemmas.Iterator.{items_from_drains}
 use Rattle.std.proofs.lemmas.Iterator.Consumers.{YieldsList-from_first}
 use Rattle.guppy.specs.Graph.{IsInOrder}
 use Rattle.guppy.specs.Listed.{listed_ids_left}
-use Rattle.guppy_program.specs.Answer.{lines_of}
+use Rattle.guppy_program.specs.Answer.{package_list}
 use Rattle.guppy_program.proofs.Ordering.{all_listed}
 use Rattle.guppy_program.proofs.answer.order.Goals as goal
 
@@ -16,7 +16,6 @@ returns-clause-ok c =
     let ordered : IsInOrder g = subst IsInOrder c.in_ok-all.ensures.graph c.package_ids.ensures.ordered in
     record {
       ordered = ordered;
-      printed = c.in_ok-lines_of.ensures
-          ∙ ap (λ (ids : List (Bor (List ℕ))). lines_of (map (λ r. r.now) ids)) (c.as_slice.ensures.value ∙ ran.2.0)
-          ∙ ap lines_of (given ∙ c.package_ids.ensures.left ∙ all_listed g all c.in_ok-all.ensures.graph c.in_ok-all.ensures.all ordered.order_is.listing);
+      told = ap package_list (ap (map (λ (r : Bor (List ℕ)). r.now)) ran.2.0 ∙ given ∙ c.package_ids.ensures.left
+          ∙ all_listed g all c.in_ok-all.ensures.graph c.in_ok-all.ensures.all ordered.order_is.listing);
     }

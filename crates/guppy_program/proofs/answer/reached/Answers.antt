@@ -5,19 +5,13 @@ use Rattle.guppy_core.specs.IxSet.{IsIn}
 use Rattle.guppy_core.specs.Reach.{LinkStep, ReachedFrom}
 use Rattle.guppy.specs.Query.{IncludesId, SetData}
 use Rattle.guppy_program.specs.Answer.{IsReached}
-use Rattle.guppy_program.proofs.Reached.{drained_ids, first_unknown-given, included_is_reached, IfOk-both, OnOk-always}
+use Rattle.guppy_program.proofs.Reached.{drained_ids, first_unknown-given, included_is_reached, IfOk-both}
 use Rattle.guppy_program.proofs.answer.reached.Goals as goal
 
 pub returns-in_err-query_directed-clause-err : goal.returns-in_err-query_directed-clause-err
 returns-in_err-query_directed-clause-err c =
     let passed_on = err_from_is_err_and c.from_residual.result c.from_residual.ensures.1 in
     rw (passed_on.1, passed_on.2) (first_unknown-given _ _ _ (YieldsList-from_slice _ c.iter.ensures.rest) _ _ c.in_err-query_directed.ensures.unknown)
-
-pub returns-clause-known : goal.returns-clause-known
-returns-clause-known c =
-    let named = c.in_ok-query_directed.ensures.initials in
-    let all = drained_ids _ _ _ (YieldsList-from_slice _ c.iter.ensures.rest) named.0 named.1 in
-    OnOk-always c.resolve.result (rw all at named.2.known)
 
 pub returns-clause-exact : goal.returns-clause-exact
 returns-clause-exact c =

@@ -3,7 +3,7 @@ use Rattle.std.proofs.lemmas.Iterator.{items_from_drains}
 use Rattle.std.proofs.lemmas.Iterator.Consumers.{YieldsList-from_first}
 use Rattle.guppy.specs.Query.{SetData}
 use Rattle.guppy.specs.Rooted.{AreRootIds, root_ids_left}
-use Rattle.guppy_program.specs.Answer.{lines_of}
+use Rattle.guppy_program.specs.Answer.{package_list}
 use Rattle.guppy_program.proofs.Whole.{set_is_all}
 use Rattle.guppy_program.proofs.answer.roots.Goals as goal
 
@@ -16,5 +16,5 @@ returns-clause-ok c =
     record {
       root_ids = root_ids_left roots;
       exact = subst (λ (s : SetData). AreRootIds c.args.direction s (root_ids_left roots)) (set_is_all all c.args.graph.now c.in_ok-all.ensures.graph c.in_ok-all.ensures.all) c.in_ok-roots.ensures.roots;
-      printed = c.in_ok-lines_of.ensures ∙ ap (λ (ids : List (Bor (List ℕ))). lines_of (map (λ r. r.now) ids)) (c.as_slice.ensures.value ∙ ran.2.0) ∙ ap lines_of given;
+      told = ap package_list (ap (map (λ (r : Bor (List ℕ)). r.now)) ran.2.0 ∙ given);
     }

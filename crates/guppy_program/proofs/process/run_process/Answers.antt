@@ -16,4 +16,4 @@ returns-clause-ran g c = ok_along c.args.args _ _ (λ list run. (_, run, c.repor
 
 pub returns-clause-no_arguments : goal.returns-clause-no_arguments
 returns-clause-no_arguments g c =
-    err_along c.args.args _ _ (λ fault h. (h.0, h.1, subst (λ outcome. EndsIn g.E.Sink.written c.args.errors.now c.report.new.errors outcome c.report.result) h.2 c.report.ensures)) c.outcome_of-outcome.ensures.no_arguments
+    err_along c.args.args _ _ (λ fault h. (h.0, h.1, subst (λ outcome. EndsIn g.F.Fault.ProgramFault.ending g.F.Fault.Display.output g.E.Sink.written c.args.errors.now c.report.new.errors outcome c.report.result) h.2 c.report.ensures)) c.outcome_of-outcome.ensures.no_arguments

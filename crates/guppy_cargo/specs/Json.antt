@@ -1,0 +1,54 @@
+-- What `guppy-cargo` reads, and what it calls packages.
+use Rattle.std.specs.Prelude.{◌≡◌, ℕ, List, Option, Some, None, IsSomeAnd, codes}
+use Rattle.std.specs.Str.{IsUtf8}
+use Rattle.serde_json.specs.Data.{Data}
+use Rattle.serde_json.specs.Read.{read}
+use Rattle.guppy_data.specs.declared.records.PackageRecord.{PackageRecord}
+use Rattle.guppy_data.specs.declared.records.LinkRecord.{LinkRecord}
+use Rattle.guppy_data.specs.declared.records.WorkspaceRecord.{WorkspaceRecord}
+use Rattle.guppy_metadata.specs.declared.fault.MetadataFault.{MetadataFault}
+use Rattle.guppy_metadata.specs.Fault.{IsNotJson, IsNotResolved}
+use Rattle.guppy_metadata.specs.Links.{AreLinks}
+use Rattle.guppy_metadata.specs.Members.{present}
+use Rattle.guppy_metadata.specs.Package.{ArePackages}
+use Rattle.guppy_metadata.specs.Workspace.{IsWorkspace}
+use Rattle.guppy_program.specs.Format.{Format}
+use Rattle.guppy_cargo.specs.declared.fault.CargoFault.{CargoFault}
+use Rattle.guppy_cargo.specs.declared.fault.CargoFault.TheVariants.{Metadata, NoText}
+use Rattle.guppy_cargo.specs.Command.{command_of}
+use Rattle.guppy_cargo.specs.Names.{text, meant}
+
+-- the JSON says these packages, these links and this workspace
+pub record DataSays (d : Data) (packages : List PackageRecord) (links : List LinkRecord)
+    (workspace : WorkspaceRecord) : Type 0 where
+  pub packages_are : ArePackages d packages
+  pub links_are : AreLinks d links
+  pub workspace_is : IsWorkspace d workspace
+
+-- the input is JSON that says these records
+abbrev pub SaysRecords : List ℕ → List PackageRecord → List LinkRecord → WorkspaceRecord → Type 0
+SaysRecords input packages links workspace =
+    IsSomeAnd (read input) (λ d. DataSays d packages links workspace)
+
+-- the fault of the JSON is told where it may be: that it is none where it is none, and that no
+-- dependencies are resolved where none are
+pub record IsMisread (input : List ℕ) (fault : MetadataFault) : Type 0 where
+  pub no_json : IsNotJson fault → read input ≡ None
+  pub not_resolved : IsNotResolved fault
+      → IsSomeAnd (read input) (λ d. present (codes "resolve") d ≡ None)
+
+-- the input is no UTF-8, or the JSON has the fault
+abbrev pub IsInputFault : List ℕ → CargoFault → Type 0
+IsInputFault input (Metadata fault) = IsMisread input fault
+IsInputFault input NoText = ¬ IsUtf8 input
+IsInputFault input _ = ⊥
+
+-- JSON says records, and a package is called by its name, its name and version, or its ID
+abbrev pub json_format : Format CargoFault
+json_format = record {
+  says = SaysRecords;
+  refuses = IsInputFault;
+  asks = command_of;
+  text = text;
+  meant = meant;
+}

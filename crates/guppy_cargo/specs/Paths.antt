@@ -1,0 +1,11 @@
+-- Paths that a file has.
+use Rattle.std.specs.Prelude.{ℕ, ◌==◌, List, [], ◌∷◌, Bool, true, false, not}
+use Rattle.std.specs.List.{filter, slice_split}
+
+abbrev pub is_empty : List ℕ → Bool
+is_empty [] = true
+is_empty (b ∷ bs) = false
+
+-- what stands before, between and after NULs, where that is anything
+abbrev pub paths_of : List ℕ → List (List ℕ)
+paths_of bytes = filter (λ path. not (is_empty path)) (slice_split (λ b. b == 0) bytes)

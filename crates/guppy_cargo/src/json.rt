@@ -1,0 +1,101 @@
+//! What `guppy-cargo` reads: the JSON that `cargo metadata` prints.
+ghost use Rattle.std.specs.Prelude.{◌≡◌, false, map, string_bytes, IfOk, List, ℕ};
+ghost use Rattle.guppy_program.specs.Format.{alternatives};
+ghost use Rattle.guppy_program.specs.Run.{IsRun};
+ghost use Rattle.guppy_cargo.specs.Fault.{cause_of};
+ghost use Rattle.guppy_cargo.specs.Json.{json_format};
+ghost use Rattle.guppy_cargo.specs.Names.{AreNames, text};
+ghost use Rattle.guppy_data.specs.declared.records.PackageRecord.{PackageRecord as PackageData};
+
+use crate::command::command_of;
+use crate::fault::CargoFault;
+use crate::names::Names;
+use guppy::{Error, PackageGraph, PackageId};
+use guppy_data::{PackageRecord, Records};
+use guppy_metadata::records_of;
+use guppy_program::format::has_package;
+use guppy_program::{Command, Format, Sink, Source, run_with};
+use std::alloc::{AllocError, Global};
+use std::str;
+
+/// What `cargo metadata` prints.
+#[derive(Clone, Copy, Debug)]
+pub struct Json;
+
+// The texts of the packages, parted by ` or `.
+fn choices_of(alloc: Global, names: &Names, ids: &[PackageId]) -> Result<String, AllocError>
+    ensures { (packages : List PackageData) → AreNames names.now packages
+        → IfOk result (λ choices. string_bytes choices ≡ alternatives (map (text packages) ids.now)) }
+{
+    let mut texts = Vec::with_capacity(alloc, ids.len())?;
+    for id in ids {
+        texts.push(names.text_of(id))?;
+    }
+    texts.join(alloc, " or ")
+}
+
+impl Format for Json {
+    type Fault = CargoFault;
+
+    type Names = Names;
+
+    ghost format = { json_format };
+
+    ghost are_names = { AreNames };
+
+    fn command_of(args: &[String]) -> Option<Command<'_>> {
+        command_of(args)
+    }
+
+    fn records_of(alloc: Global, input: &[u8]) -> Result<Records, CargoFault> {
+        let Ok(text) = str::from_utf8(input) else {
+            return Err(CargoFault::NoText);
+        };
+        Ok(records_of(alloc, text)?)
+    }
+
+    fn names_of(alloc: Global, packages: &[PackageRecord]) -> Result<Names, AllocError> {
+        Names::of(alloc, packages)
+    }
+
+    fn text_of<'a>(names: &'a Names, id: &'a PackageId) -> &'a str {
+        names.text_of(id)
+    }
+
+    fn find(
+        alloc: Global,
+        graph: &PackageGraph,
+        names: &Names,
+        word: &str,
+    ) -> Result<PackageId, CargoFault> {
+        let id = PackageId::new(String::from_str(alloc, word)?);
+        if has_package(graph, &id)? {
+            return Ok(id);
+        }
+        match names.called(word) {
+            [only] => Ok(only.clone()?),
+            [] => Err(CargoFault::Library(Error::UnknownPackageId(id))),
+            several => {
+                let choices = choices_of(alloc, names, several)?;
+                let word = String::from_str(alloc, word)?;
+                Err(CargoFault::Ambiguous(word, choices))
+            }
+        }
+    }
+}
+
+/// Reads the whole input, what `cargo metadata` prints, and writes what the command that `args` give prints of
+/// its packages: see [`run_with`], which this is.
+pub fn run<R: Source, W: Sink>(
+    alloc: Global,
+    args: &[String],
+    reader: &mut R,
+    writer: &mut W,
+) -> Result<(), CargoFault>
+    requires input_works { R.has_failed reader.old ≡ false }
+    requires output_works { W.has_failed writer.old ≡ false }
+    ensures { IsRun json_format cause_of R.left R.has_failed W.written W.has_failed
+        (map string_bytes args.now) reader.old reader.new writer.old writer.new result }
+{
+    run_with::<Json, R, W>(alloc, args, reader, writer)
+}

@@ -1,0 +1,25 @@
+//! The program `guppy-cargo`, over any source and sink: answers on the packages of a Cargo workspace, of which
+//! it reads what `cargo metadata` prints.
+//!
+//! The modules, from the bottom up:
+//!
+//! - `fault`: why there is no answer;
+//! - `command`: what the arguments ask;
+//! - `names`: what packages are called;
+//! - `json`: how the program reads its input;
+//! - `paths`: arguments that a file has;
+//! - `laws`: what is printed for a package means this package.
+#![tactic(auto)]
+
+mod command;
+mod fault;
+mod json;
+pub mod laws;
+mod names;
+mod paths;
+
+pub use command::command_of;
+pub use fault::CargoFault;
+pub use json::{Json, run};
+pub use names::Names;
+pub use paths::with_paths;

@@ -1,0 +1,55 @@
+//! Paths that a file has, as git writes them: each ended by a NUL.
+ghost use Rattle.std.specs.Prelude.{◌≡◌, map, string_bytes, IfOk, IfErr, ◌⊎◌};
+ghost use Rattle.guppy_data.specs.declared.texts.error.Error.TheVariants.{OutOfMemory};
+ghost use Rattle.guppy_cargo.specs.declared.fault.CargoFault.TheVariants.{Library, BadArguments};
+ghost use Rattle.guppy_cargo.specs.Paths.{paths_of};
+
+use crate::fault::CargoFault;
+use std::alloc::Global;
+use std::rt::Files;
+use std::{fs, str};
+
+// Adds the paths that the bytes are: what stands between NULs, where that is anything.
+fn add_paths(args: &mut Vec<String>, alloc: Global, bytes: &[u8]) -> Result<(), CargoFault>
+    ensures ok { OnOk result (map string_bytes args.new.items
+        ≡ map string_bytes args.old.items ++ paths_of bytes.now) }
+    ensures err { IfErr result
+        (λ fault. (fault ≡ Library OutOfMemory) ⊎ (fault ≡ BadArguments)) }
+{
+    for piece in bytes.split(|byte| *byte == 0) {
+        let Ok(path) = str::from_utf8(piece) else {
+            return Err(CargoFault::BadArguments);
+        };
+        if !path.is_empty() {
+            args.push(String::from_str(alloc, path)?)?;
+        }
+    }
+    Ok(())
+}
+
+/// The arguments with, for each `--paths-from FILE` behind `affected`, the paths in this file in their place:
+/// UTF-8, and each ended by a NUL. Takes memory for them all, and for the largest file.
+///
+/// A file that can't be read is told, and paths that are no UTF-8 are bad arguments.
+pub fn with_paths<R: Files + AllocGlobal>(
+    rt: &R,
+    args: Vec<String>,
+) -> Result<Vec<String>, CargoFault> {
+    let asks = args.first().is_some_and(|word| word.as_str() == "affected");
+    let mut all = Vec::new(rt.alloc());
+    let mut rest = args.into_iter();
+    while let Some(word) = rest.next() {
+        if !asks || word.as_str() != "--paths-from" {
+            all.push(word)?;
+            continue;
+        }
+        let Some(file) = rest.next() else {
+            return Err(CargoFault::BadArguments);
+        };
+        let Ok(bytes) = fs::read(rt, file.as_str()) else {
+            return Err(CargoFault::PathsFailed(file));
+        };
+        add_paths(&mut all, rt.alloc(), bytes.as_slice())?;
+    }
+    Ok(all)
+}

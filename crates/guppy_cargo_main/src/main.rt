@@ -1,0 +1,23 @@
+//! Answers questions on the packages of a Cargo workspace, of which it reads what `cargo metadata` prints.
+//!
+//! What it does is `guppy_program`'s `run_process`; here stand the standard streams.
+#![tactic(auto)]
+
+use guppy_cargo::{CargoFault, Json, with_paths};
+use guppy_program::{IoSink, IoSource, arguments, run_process};
+use std::process::ExitCode;
+
+fn main(rt: HostRuntime) -> ExitCode {
+    let mut reader = IoSource::new(rt.stdin());
+    let mut writer = IoSink::new(rt.stdout());
+    let mut errors = IoSink::new(rt.stderr());
+    let args: Result<Vec<String>, CargoFault> = arguments(&rt);
+    let ending = run_process::<Json, _, _, _>(
+        rt.alloc(),
+        args.and_then(|args| with_paths(&rt, args)),
+        &mut reader,
+        &mut writer,
+        &mut errors,
+    );
+    ExitCode::from(ending.status)
+}

@@ -1,4 +1,0 @@
-//! What the arguments of the program `guppy-run` ask.
-#![tactic(auto)]
-
-pub mod command;

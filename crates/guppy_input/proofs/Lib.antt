@@ -1,4 +1,0 @@
-pub mod Cuts
-pub mod Lines
-pub mod Adding
-pub mod Writing

@@ -1,0 +1,22 @@
+-- The first items of a list, and the next one.
+use Rattle.std.proofs.Common.{◌≡◌, ◌∙◌, sym, ap, ℕ, ◌+◌, ◌<◌, List, [], ◌∷◌, ◌++◌, length, map, take, drop, get_or, append_assoc}
+use Rattle.std.specs.List.{AllZip}
+use Rattle.std.proofs.lemmas.List.{map_push, map-append, take_more, take-append-drop}
+use Rattle.indexmap.proofs.SetLemmas.{AllZip-push}
+
+module _ {A B : Type 0} (seen : A → B) (items : List A) (k : ℕ) (item other : A) (low : k < length items) (is : item ≡ get_or items k other) where
+  -- what they are seen as
+  pub taken_with : map seen (take (k + 1) items) ≡ map seen (take k items) ++ seen item ∷ []
+  taken_with = ap (map seen) (take_more items k other low) ∙ map_push seen (take k items) (get_or items k other) ∙ ap (λ i. map seen (take k items) ++ seen i ∷ []) (sym is)
+
+  -- what stands before it, it, and what stands behind it
+  pub cut_at : map seen items ≡ map seen (take k items) ++ seen item ∷ map seen (drop (k + 1) items)
+  cut_at =
+      ap (map seen) (sym (take-append-drop (k + 1) items))
+      ∙ map-append seen (take (k + 1) items) (drop (k + 1) items)
+      ∙ ap (λ l. l ++ map seen (drop (k + 1) items)) taken_with
+      ∙ append_assoc (map seen (take k items)) (seen item ∷ []) (map seen (drop (k + 1) items))
+
+  -- what fits them, and what fits it
+  pub fits_with : {C : Type 0} (R : B → C → Type 0) (ys : List C) (y : C) → AllZip R (map seen (take k items)) ys → R (seen item) y → AllZip R (map seen (take (k + 1) items)) (ys ++ y ∷ [])
+  fits_with R ys y fit this = rw taken_with (AllZip-push R (map seen (take k items)) ys (seen item) y fit this)

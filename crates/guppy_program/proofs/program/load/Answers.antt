@@ -1,0 +1,37 @@
+use Rattle.std.proofs.Common.{sym, subst}
+use Rattle.std.specs.Prelude.{IfOk, IfErr, OnOk}
+use Rattle.std.proofs.lemmas.Result.{err_from_is_err_and}
+use Rattle.guppy.specs.Accepted.{IsAccepted}
+use Rattle.guppy.specs.Graph.{Holds}
+use Rattle.guppy.specs.Refused.{IsRefusal}
+use Rattle.guppy_program.specs.Loaded.{IsLoadFault}
+use Rattle.guppy_program.proofs.Running.{OrMemory-holds}
+use Rattle.guppy_program.proofs.program.load.Goals as goal
+
+pub returns-in_err-graph-clause-err : goal.returns-in_err-graph-clause-err
+returns-in_err-graph-clause-err g c =
+    let passed_on = err_from_is_err_and c.from_residual-in_err-graph.result c.from_residual-in_err-graph.ensures.1 in
+    let r = c.in_ok-records.records in
+    let told = c.in_err-graph.ensures.err in
+    let refused = subst (λ made. IfErr made (IsRefusal r.packages.items r.links.items r.workspace)) told.1 c.into_graph.ensures.refused in
+    rw (passed_on.1, passed_on.2) (subst (IsLoadFault g.F.Format.format c.args.input.now c.in_err-graph.field-0.0) (sym told.2) (OrMemory-holds told.0 (record {
+      packages = r.packages.items;
+      links = r.links.items;
+      workspace = r.workspace;
+      said = c.in_ok-records.ensures.said;
+      holds = refused;
+    })))
+
+pub returns-clause-ok : goal.returns-clause-ok
+returns-clause-ok g c =
+    let r = c.in_ok-records.records in
+    record {
+      packages = r.packages.items;
+      links = r.links.items;
+      workspace = r.workspace;
+      said = c.in_ok-records.ensures.said;
+      holds = (
+        subst (λ made. OnOk made (IsAccepted r.packages.items r.links.items r.workspace)) c.in_ok-graph.ensures.ok c.into_graph.ensures.accepted,
+        subst (λ made. IfOk made (λ h. Holds h r.packages.items r.links.items r.workspace)) c.in_ok-graph.ensures.ok c.into_graph.ensures.holds,
+      );
+    }

@@ -1,0 +1,38 @@
+-- Why a program gives no answer, whatever its input looks like.
+use Rattle.std.specs.Prelude.{ℕ, List, Bool, true, false, Option, Some, None, Result, Ok, Err}
+use Rattle.guppy_data.specs.declared.texts.error.Error.{Error}
+use Rattle.guppy_data.specs.declared.texts.error.Error.TheVariants.{OutOfMemory}
+
+-- the library refuses the records or the command, or memory ran out; the arguments are no command;
+-- an argument may mean several packages, and this text says which; the input says no records; the input could not be read; the output could not be written
+pub data Cause : Type 0 where
+  library : Error → Cause
+  bad_arguments : Cause
+  ambiguous : List ℕ → List ℕ → Cause
+  bad_input : Cause
+  input_failed : Cause
+  output_failed : Cause
+
+-- the cause of the fault, where there is one
+abbrev pub caused : {T Fault : Type 0} → (Fault → Cause) → Result T Fault → Option Cause
+caused cause (Ok x) = None
+caused cause (Err fault) = Some (cause fault)
+
+abbrev pub is_input_fault : Option Cause → Bool
+is_input_fault (Some input_failed) = true
+is_input_fault _ = false
+
+abbrev pub is_output_fault : Option Cause → Bool
+is_output_fault (Some output_failed) = true
+is_output_fault _ = false
+
+-- the error tells that memory ran out, or P holds
+abbrev pub OrMemory : Type 0 → Error → Type 0
+OrMemory P OutOfMemory = Unit {0}
+OrMemory P _ = P
+
+-- the input could not be read, or memory ran out
+abbrev pub IsReadFault : Cause → Type 0
+IsReadFault (library error) = OrMemory ⊥ error
+IsReadFault input_failed = Unit {0}
+IsReadFault _ = ⊥

@@ -1,0 +1,91 @@
+-- What the arguments ask.
+use Rattle.std.specs.Prelude.{ℕ, Bool, true, not, List, [], ◌∷◌, Option, Some, None, option_map, codes, if◌then◌else◌}
+use Rattle.std.specs.Str.{bytes_eq}
+use Rattle.guppy_search.specs.declared.ix.direction.DependencyDirection.{DependencyDirection}
+use Rattle.guppy_search.specs.declared.ix.direction.DependencyDirection.TheVariants.{Forward, Reverse}
+
+-- the packages that these reach in a direction, whether the first depends on the second, the
+-- packages in their order, the roots of all packages or the links walked from them in a direction,
+-- the cycles, whether the graph is a verified one, the members in an order to publish them, or, with
+-- folders to leave out, the members that changes at some paths affect
+pub data Command : Type 0 where
+  reach : DependencyDirection → List (List ℕ) → Command
+  depends : List ℕ → List ℕ → Command
+  order : Command
+  roots : DependencyDirection → Command
+  links : DependencyDirection → Command
+  cycles : Command
+  verify : Command
+  publish_order : Command
+  affected : List (List ℕ) → List (List ℕ) → Command
+
+-- `forward` or `reverse`
+abbrev pub direction_of : List ℕ → Option DependencyDirection
+direction_of word = if bytes_eq word (codes "forward") then Some Forward else
+    (if bytes_eq word (codes "reverse") then Some Reverse else None)
+
+-- `forward ID..` or `reverse ID..`, with one ID or more
+abbrev pub reach_of : List (List ℕ) → Option Command
+reach_of (word ∷ id ∷ ids) =
+    option_map (λ direction. reach direction (id ∷ ids)) (direction_of word)
+reach_of _ = None
+
+-- `A B`
+abbrev pub depends_of : List (List ℕ) → Option Command
+depends_of (from ∷ to ∷ []) = Some (depends from to)
+depends_of _ = None
+
+-- `forward` or `reverse`, with no word behind it
+abbrev pub lone_direction_of : List (List ℕ) → Option DependencyDirection
+lone_direction_of (word ∷ []) = direction_of word
+lone_direction_of _ = None
+
+-- `order`, `cycles`, `verify` or `publish-order`
+abbrev pub plain_command_of : List ℕ → Option Command
+plain_command_of word = if bytes_eq word (codes "order") then Some order
+    else (if bytes_eq word (codes "cycles") then Some cycles
+    else (if bytes_eq word (codes "verify") then Some verify
+    else (if bytes_eq word (codes "publish-order") then Some publish_order else None)))
+
+-- the command, with no word behind it
+abbrev pub alone : Option Command → List (List ℕ) → Option Command
+alone command [] = command
+alone command _ = None
+
+-- the command that the words give, if they give one
+abbrev pub command_of : List (List ℕ) → Option Command
+command_of [] = None
+command_of (word ∷ words) = if bytes_eq word (codes "reach") then reach_of words
+    else (if bytes_eq word (codes "depends") then depends_of words
+    else (if bytes_eq word (codes "roots") then option_map roots (lone_direction_of words)
+    else (if bytes_eq word (codes "links") then option_map links (lone_direction_of words)
+    else alone (plain_command_of word) words)))
+
+abbrev pub is_ignore : List ℕ → Bool
+is_ignore word = bytes_eq word (codes "--ignore")
+
+-- a folder stands behind each `--ignore`
+abbrev pub are_affected_words : List (List ℕ) → Bool
+are_affected_words [] = true
+are_affected_words (word ∷ []) = not (is_ignore word)
+are_affected_words (word ∷ next ∷ words) =
+    if is_ignore word then are_affected_words words else are_affected_words (next ∷ words)
+
+-- the folders behind `--ignore`
+abbrev pub ignored_in : List (List ℕ) → List (List ℕ)
+ignored_in [] = []
+ignored_in (word ∷ []) = []
+ignored_in (word ∷ next ∷ words) =
+    if is_ignore word then next ∷ ignored_in words else ignored_in (next ∷ words)
+
+-- the other words
+abbrev pub paths_in : List (List ℕ) → List (List ℕ)
+paths_in [] = []
+paths_in (word ∷ []) = if is_ignore word then [] else word ∷ []
+paths_in (word ∷ next ∷ words) =
+    if is_ignore word then paths_in words else word ∷ paths_in (next ∷ words)
+
+-- paths, and folders to leave out, each behind `--ignore`
+abbrev pub affected_of : List (List ℕ) → Option Command
+affected_of words =
+    if are_affected_words words then Some (affected (ignored_in words) (paths_in words)) else None

@@ -1,0 +1,46 @@
+-- How a program reads its input, and what it calls packages.
+use Rattle.std.specs.Prelude.{◌≡◌, ◌<◌, ℕ, Bool, List, [], Option, length, map, codes}
+use Rattle.std.specs.List.{join_by, list_any}
+use Rattle.std.specs.Str.{bytes_eq}
+use Rattle.guppy_data.specs.declared.records.PackageRecord.{PackageRecord}
+use Rattle.guppy_data.specs.declared.records.LinkRecord.{LinkRecord}
+use Rattle.guppy_data.specs.declared.records.WorkspaceRecord.{WorkspaceRecord}
+use Rattle.guppy_data.specs.declared.texts.error.Error.TheVariants.{UnknownPackageId, OutOfMemory}
+use Rattle.guppy_program.specs.Cause.{Cause, library, ambiguous, bad_input, OrMemory}
+use Rattle.guppy_program.specs.Command.{Command}
+
+pub record Format (Fault : Type 0) : Type 1 where
+  -- the input says these records
+  pub says : List ℕ → List PackageRecord → List LinkRecord → WorkspaceRecord → Type 0
+  -- the input says no records, and the fault tells why
+  pub refuses : List ℕ → Fault → Type 0
+  -- the command that the arguments give, if they give one
+  pub asks : List (List ℕ) → Option Command
+  -- what is printed for that of the packages which has the ID
+  pub text : List PackageRecord → List ℕ → List ℕ
+  -- the IDs of those of the packages that a word may mean
+  pub meant : List PackageRecord → List ℕ → List (List ℕ)
+
+-- the input says no records, and the fault tells why, or memory ran out
+abbrev pub IsReadingFault : {Fault : Type 0} → Format Fault → List ℕ → Fault → Cause → Type 0
+IsReadingFault format input fault bad_input = format.refuses input fault
+IsReadingFault format input fault (library error) = OrMemory ⊥ error
+IsReadingFault format input fault _ = ⊥
+
+-- these texts, parted by ` or `
+abbrev pub alternatives : List (List ℕ) → List ℕ
+alternatives texts = join_by (λ text. text) (codes " or ") texts
+
+-- one of the packages has the ID
+abbrev pub has_id : List ℕ → List PackageRecord → Bool
+has_id id packages = list_any (λ r. bytes_eq id r.id) packages
+
+-- the word means no package, or it may mean several, whose texts are told, or memory ran out
+abbrev pub IsUnclear : {Fault : Type 0} → Format Fault → List PackageRecord → List ℕ → Cause → Type 0
+IsUnclear format packages word (library (UnknownPackageId id)) =
+    (id ≡ word) × (format.meant packages word ≡ [])
+IsUnclear format packages word (ambiguous given choices) = (given ≡ word)
+    × (1 < length (format.meant packages word))
+    × (choices ≡ alternatives (map (format.text packages) (format.meant packages word)))
+IsUnclear format packages word (library OutOfMemory) = Unit {0}
+IsUnclear format packages word _ = ⊥

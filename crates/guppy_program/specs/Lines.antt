@@ -1,0 +1,44 @@
+-- The lines of an input, as `guppy-run` reads them.
+use Rattle.std.specs.Prelude.{ℕ, List, [], ◌∷◌, if◌then◌else◌}
+use Rattle.guppy_data.specs.declared.records.PackageRecord.{PackageRecord}
+use Rattle.guppy_data.specs.declared.records.LinkRecord.{LinkRecord}
+use Rattle.guppy_data.specs.declared.records.WorkspaceRecord.{WorkspaceRecord}
+use Rattle.guppy_program.specs.declared.lines.fault.RunFault.{RunFault}
+use Rattle.guppy_program.specs.declared.lines.fault.RunFault.TheVariants.{Library, BadArguments, BadLine, InputFailed, OutputFailed}
+use Rattle.guppy_program.specs.Cause.{Cause, library, bad_arguments, bad_input, input_failed, output_failed}
+use Rattle.guppy_program.specs.Command.{command_of}
+use Rattle.guppy_program.specs.Format.{Format, has_id}
+use Rattle.guppy_program.specs.Text.{IsAllGood, IsFirstBadLine, statements_of}
+use Rattle.guppy_program.specs.Records.{AreRecordsOf}
+
+-- every line is good, and these are the records that they say
+pub record SayRecords (input : List ℕ) (packages : List PackageRecord) (links : List LinkRecord)
+    (workspace : WorkspaceRecord) : Type 0 where
+  pub good : IsAllGood input
+  pub said : AreRecordsOf (statements_of input) packages links workspace
+
+-- the fault tells the first bad line
+abbrev pub TellsBadLine : List ℕ → RunFault → Type 0
+TellsBadLine input (BadLine number) = IsFirstBadLine input number
+TellsBadLine input _ = ⊥
+
+-- a word means the package whose ID it is
+abbrev pub meant_by_id : List PackageRecord → List ℕ → List (List ℕ)
+meant_by_id packages word = if has_id word packages then word ∷ [] else []
+
+-- lines say records, and a package is called by its ID
+abbrev pub lines_format : Format RunFault
+lines_format = record {
+  says = SayRecords;
+  refuses = TellsBadLine;
+  asks = command_of;
+  text = λ packages id. id;
+  meant = meant_by_id;
+}
+
+abbrev pub cause_of : RunFault → Cause
+cause_of (Library error) = library error
+cause_of BadArguments = bad_arguments
+cause_of (BadLine number) = bad_input
+cause_of InputFailed = input_failed
+cause_of OutputFailed = output_failed

@@ -1,0 +1,40 @@
+-- How an answer is printed.
+use Rattle.std.specs.Prelude.{◌≡◌, ◌↔◌, ℕ, Bool, List, [], ◌∷◌, ◌++◌, map, Contains, codes, if◌then◌else◌}
+use Rattle.std.specs.List.{flat_map, join_by}
+use Rattle.std.specs.List.Sorted.{IsStrictlySortedBy}
+use Rattle.std.specs.Ordering.{nat_cmp}
+use Rattle.std.specs.Cmp.Lexicographic.{slice_cmp}
+use Rattle.guppy_program.specs.Answer.{Answer, package_set, package_list, package_rows, truth, all_well}
+
+abbrev pub line_of : List ℕ → List ℕ
+line_of text = text ++ 10 ∷ []
+
+-- these texts, one a line
+abbrev pub lines_of : List (List ℕ) → List ℕ
+lines_of texts = flat_map line_of texts
+
+-- these texts, parted by spaces
+abbrev pub joined : List (List ℕ) → List ℕ
+joined texts = join_by (λ text. text) (32 ∷ []) texts
+
+abbrev pub truth_line : Bool → List ℕ
+truth_line answer = line_of (if answer then codes "true" else codes "false")
+
+-- strictly ascending by bytes
+abbrev pub IsAscending : List (List ℕ) → Type 0
+IsAscending = IsStrictlySortedBy (slice_cmp nat_cmp)
+
+-- these texts, each once, in the order of their bytes, one a line
+pub record AreSortedLines (texts : List (List ℕ)) (output : List ℕ) : Type 0 where
+  pub sorted : List (List ℕ)
+  pub ascending : IsAscending sorted
+  pub same : (text : List ℕ) → Contains sorted text ↔ Contains texts text
+  pub printed : output ≡ lines_of sorted
+
+-- the output is the answer, in which `text` tells what is printed for the package with an ID
+abbrev pub IsPrinted : (List ℕ → List ℕ) → Answer → List ℕ → Type 0
+IsPrinted text (package_set ids) output = AreSortedLines (map text ids) output
+IsPrinted text (package_list ids) output = output ≡ lines_of (map text ids)
+IsPrinted text (package_rows rows) output = output ≡ lines_of (map (λ ids. joined (map text ids)) rows)
+IsPrinted text (truth holds) output = output ≡ truth_line holds
+IsPrinted text all_well output = output ≡ line_of (codes "ok")

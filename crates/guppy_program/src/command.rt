@@ -1,0 +1,154 @@
+//! What the arguments ask.
+ghost use Rattle.std.specs.Prelude.{◌≡◌, map, string_bytes, option_map};
+ghost use Rattle.guppy_program.specs.Command.{command_of, direction_of, lone_direction_of, reach_of, depends_of, plain_command_of, alone, is_ignore, are_affected_words, affected_of};
+ghost use Rattle.guppy_program.specs.Shown.{command_shown};
+
+use guppy_core::DependencyDirection;
+
+/// What the program is asked.
+#[derive(Debug, Drop)]
+pub enum Command<'a> {
+    /// The packages that these reach in the direction, in the order of their IDs.
+    Reach(DependencyDirection, &'a [String]),
+    /// Whether the first package depends on the second.
+    Depends(&'a str, &'a str),
+    /// All packages in their order, dependents first.
+    Order,
+    /// The roots of all packages in the direction, by position.
+    Roots(DependencyDirection),
+    /// The links that are walked from these roots in the direction.
+    Links(DependencyDirection),
+    /// The cycles in the order of the packages.
+    Cycles,
+    /// Whether the graph is a verified graph.
+    Verify,
+    /// The members of the workspace, each after those that it needs.
+    PublishOrder,
+    /// The members to test when the files at these paths changed, but for those in a folder behind a word
+    /// `--ignore`.
+    Affected(&'a [String]),
+}
+
+fn direction_of(word: &str) -> Option<DependencyDirection>
+    ensures { result ≡ direction_of word.now }
+{
+    if word == "forward" {
+        Some(DependencyDirection::Forward)
+    } else if word == "reverse" {
+        Some(DependencyDirection::Reverse)
+    } else {
+        None
+    }
+}
+
+// The direction, where it is the only word.
+fn lone_direction_of(words: &[String]) -> Option<DependencyDirection>
+    ensures { result ≡ lone_direction_of (map string_bytes words.now) }
+{
+    let [word] = words else {
+        return None;
+    };
+    direction_of(word.as_str())
+}
+
+fn reach_of(words: &[String]) -> Option<Command<'_>>
+    ensures { option_map command_shown result ≡ reach_of (map string_bytes words.now) }
+{
+    let [word, ids @ ..] = words else {
+        return None;
+    };
+    if ids.is_empty() {
+        return None;
+    }
+    let direction = direction_of(word.as_str())?;
+    Some(Command::Reach(direction, ids))
+}
+
+fn depends_of(words: &[String]) -> Option<Command<'_>>
+    ensures { option_map command_shown result ≡ depends_of (map string_bytes words.now) }
+{
+    let [from, to] = words else {
+        return None;
+    };
+    Some(Command::Depends(from.as_str(), to.as_str()))
+}
+
+// The command of this one word.
+fn plain_command_of<'a>(word: &str) -> Option<Command<'a>>
+    ensures { option_map command_shown result ≡ plain_command_of word.now }
+{
+    if word == "order" {
+        Some(Command::Order)
+    } else if word == "cycles" {
+        Some(Command::Cycles)
+    } else if word == "verify" {
+        Some(Command::Verify)
+    } else if word == "publish-order" {
+        Some(Command::PublishOrder)
+    } else {
+        None
+    }
+}
+
+// The command, where no words are behind it.
+fn alone<'a>(command: Option<Command<'a>>, words: &[String]) -> Option<Command<'a>>
+    ensures { option_map command_shown result
+        ≡ alone (option_map command_shown command.entry) (map string_bytes words.now) }
+{
+    if words.is_empty() { command } else { None }
+}
+
+/// The command that the arguments give, if they give one. Takes time linear in their lengths, and no memory.
+pub fn command_of(args: &[String]) -> Option<Command<'_>>
+    ensures { option_map command_shown result ≡ command_of (map string_bytes args.now) }
+{
+    let [word, words @ ..] = args else {
+        return None;
+    };
+    if word.as_str() == "reach" {
+        reach_of(words)
+    } else if word.as_str() == "depends" {
+        depends_of(words)
+    } else if word.as_str() == "roots" {
+        Some(Command::Roots(lone_direction_of(words)?))
+    } else if word.as_str() == "links" {
+        Some(Command::Links(lone_direction_of(words)?))
+    } else {
+        alone(plain_command_of(word.as_str()), words)
+    }
+}
+
+pub(crate) fn is_ignore(word: &str) -> bool
+    ensures { result ≡ is_ignore word.now }
+{
+    word == "--ignore"
+}
+
+// Whether a folder stands behind each `--ignore`.
+fn are_affected_words(words: &[String]) -> bool
+    ensures { result ≡ are_affected_words (map string_bytes words.now) }
+{
+    let mut rest = words;
+    while let [word, after @ ..] = rest {
+        rest = after;
+        if is_ignore(word.as_str()) {
+            let [_, after @ ..] = rest else {
+                return false;
+            };
+            rest = after;
+        }
+    }
+    true
+}
+
+/// The command whose words behind `affected` these are: paths, and folders to leave out, each behind
+/// `--ignore`. Takes time linear in their lengths, and no memory.
+pub fn affected_of(words: &[String]) -> Option<Command<'_>>
+    ensures { option_map command_shown result ≡ affected_of (map string_bytes words.now) }
+{
+    if are_affected_words(words) {
+        Some(Command::Affected(words))
+    } else {
+        None
+    }
+}

@@ -1,0 +1,76 @@
+//! What differs between programs: how they read their input, and what they call packages.
+ghost use Rattle.std.specs.Prelude.{◌≡◌, ◌∷◌, [], List, map, string_bytes, option_map, IfOk, IfErr, IsOkUnless};
+ghost use Rattle.guppy_data.specs.declared.records.PackageRecord.{PackageRecord as PackageData};
+ghost use Rattle.guppy.specs.Ids.{IsKnown};
+ghost use Rattle.guppy_program.specs.Format.{Format as FormatOf, IsReadingFault, IsUnclear, has_id};
+ghost use Rattle.guppy_program.specs.Shown.{command_shown};
+
+use crate::command::Command;
+use crate::fault::ProgramFault;
+use guppy::{Error, PackageGraph, PackageId};
+use guppy_data::{PackageRecord, Records};
+use std::alloc::{AllocError, Global};
+
+/// How a program reads its input, and what it calls packages.
+pub trait Format {
+    /// Why the program gives no answer.
+    type Fault: ProgramFault;
+
+    /// What the packages of a graph are called.
+    type Names: Drop;
+
+    /// Which records an input says, or with which fault it is refused; what arguments ask; which text is
+    /// printed for a package, and which packages a word may mean.
+    ghost format: { FormatOf Self.Fault };
+
+    /// The names are those of these packages.
+    ghost are_names: { Self.Names → List PackageData → Type 0 };
+
+    /// The command that the arguments give, if they give one. Takes time linear in their lengths, and no
+    /// memory.
+    fn command_of(args: &[String]) -> Option<Command<'_>>
+        ensures { option_map command_shown result ≡ format.asks (map string_bytes args.now) };
+
+    /// The records that the input says.
+    fn records_of(alloc: Global, input: &[u8]) -> Result<Records, Self::Fault>
+        ensures said { IfOk result (λ r.
+            format.says input.now r.packages.items r.links.items r.workspace) }
+        ensures refused { IfErr result (λ fault.
+            IsReadingFault format input.now fault (Self.Fault.cause fault)) };
+
+    /// The names of the packages.
+    fn names_of(alloc: Global, packages: &[PackageRecord]) -> Result<Self::Names, AllocError>
+        ensures { IfOk result (λ names. are_names names packages.now) };
+
+    /// What is printed for the package with this ID.
+    fn text_of<'a>(names: &'a Self::Names, id: &'a PackageId) -> &'a str
+        ensures { (packages : List PackageData) → are_names names.now packages
+            → result.now ≡ format.text packages id.now };
+
+    /// The ID of the package that the word means, where it means one alone. Takes memory for the ID, and
+    /// for a fault.
+    fn find(
+        alloc: Global,
+        graph: &PackageGraph,
+        names: &Self::Names,
+        word: &str,
+    ) -> Result<PackageId, Self::Fault>
+        requires { are_names names.now graph.now.packages }
+        ensures found { IfOk result (λ id. format.meant graph.now.packages word.now ≡ id ∷ []) }
+        ensures known { IfOk result (IsKnown graph.now.packages) }
+        ensures unclear { IfErr result (λ fault.
+            IsUnclear format graph.now.packages word.now (Self.Fault.cause fault)) };
+}
+
+/// Whether one of the graph's packages has the ID. Time grows with the logarithm of the packages; takes memory
+/// for a copy of the ID where none has it.
+pub fn has_package(graph: &PackageGraph, id: &PackageId) -> Result<bool, Error>
+    ensures exact { IfOk result (λ has. has ≡ has_id id.now graph.now.packages) }
+    ensures err { IsOkUnless result Error.OutOfMemory }
+{
+    match graph.metadata(id) {
+        Ok(_) => Ok(true),
+        Err(Error::OutOfMemory) => Err(Error::OutOfMemory),
+        Err(_) => Ok(false),
+    }
+}

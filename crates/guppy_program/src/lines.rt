@@ -1,0 +1,83 @@
+//! What `guppy-run` reads: lines, each of which says a package or a link. A package is called by its ID.
+ghost use Rattle.std.specs.Prelude.{◌≡◌, false, map, string_bytes};
+ghost use Rattle.guppy_program.specs.Lines.{lines_format, cause_of};
+ghost use Rattle.guppy_program.specs.Run.{IsRun};
+
+pub mod fault;
+pub mod input;
+pub mod records;
+pub mod statements;
+
+use crate::command::{Command, command_of};
+use crate::device::{Sink, Source};
+use crate::format::{Format, has_package};
+use crate::lines::fault::RunFault;
+use crate::lines::input::records_of;
+use crate::lines::records::id_of;
+use crate::program::run_with;
+use guppy::{Error, PackageGraph, PackageId};
+use guppy_data::{PackageRecord, Records};
+use std::alloc::{AllocError, Global};
+
+/// Lines, each of which says a package or a link.
+#[derive(Clone, Copy, Debug)]
+pub struct Lines;
+
+impl Format for Lines {
+    type Fault = RunFault;
+
+    type Names = ();
+
+    ghost format = { lines_format };
+
+    ghost are_names = { λ names packages. Unit {0} };
+
+    fn command_of(args: &[String]) -> Option<Command<'_>> {
+        command_of(args)
+    }
+
+    fn records_of(alloc: Global, input: &[u8]) -> Result<Records, RunFault> {
+        records_of(alloc, input)
+    }
+
+    fn names_of(_alloc: Global, _packages: &[PackageRecord]) -> Result<(), AllocError> {
+        Ok(())
+    }
+
+    fn text_of<'a>(_names: &'a (), id: &'a PackageId) -> &'a str {
+        id.repr()
+    }
+
+    fn find(
+        alloc: Global,
+        graph: &PackageGraph,
+        _names: &(),
+        word: &str,
+    ) -> Result<PackageId, RunFault> {
+        let id = id_of(alloc, word)?;
+        if has_package(graph, &id)? {
+            Ok(id)
+        } else {
+            Err(RunFault::Library(Error::UnknownPackageId(id)))
+        }
+    }
+}
+
+/// Reads the whole input, lines of text, and writes what the command that `args` give prints of its package
+/// graph: see [`run_with`], which this is.
+///
+/// `BadLine` has the number of the first bad line, and `Library` the first fault of the records, the first
+/// unknown ID of the command, or what `verify` refuses. The statuses are those of [`RunFault::status`].
+pub fn run<R: Source, W: Sink>(
+    alloc: Global,
+    args: &[String],
+    reader: &mut R,
+    writer: &mut W,
+) -> Result<(), RunFault>
+    requires input_works { R.has_failed reader.old ≡ false }
+    requires output_works { W.has_failed writer.old ≡ false }
+    ensures { IsRun lines_format cause_of R.left R.has_failed W.written W.has_failed
+        (map string_bytes args.now) reader.old reader.new writer.old writer.new result }
+{
+    run_with::<Lines, R, W>(alloc, args, reader, writer)
+}

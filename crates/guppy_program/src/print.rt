@@ -1,0 +1,142 @@
+//! How an answer is printed.
+ghost use Rattle.std.specs.Prelude.{◌≡◌, ◌∷◌, ◌++◌, [], List, map, string_bytes, IfOk, OnOk};
+ghost use Rattle.guppy_data.specs.declared.records.PackageRecord.{PackageRecord};
+ghost use Rattle.guppy_program.specs.Printed.{line_of, lines_of, joined, truth_line, AreSortedLines, IsPrinted};
+ghost use Rattle.guppy_program.specs.Shown.{answer_shown};
+
+use crate::answer::Answer;
+use crate::format::Format;
+use guppy::{PackageId, SortedSet};
+use std::alloc::{AllocError, Global};
+
+// What is printed for the packages with these IDs. To sort these texts reads no records, which lie far
+// apart.
+fn texts_of<'a, F: Format>(
+    alloc: Global,
+    names: &'a F::Names,
+    ids: &[&'a PackageId],
+) -> Result<Vec<&'a str>, AllocError>
+    ensures { (packages : List PackageRecord) → F.are_names names.now packages
+        → IfOk result (λ texts. map (λ text. text.now) texts.items
+        ≡ map (F.format.text packages) (map (λ id. id.now) ids.now)) }
+{
+    let mut texts = Vec::with_capacity(alloc, ids.len())?;
+    for id in ids {
+        texts.push(F::text_of(names, id))?;
+    }
+    Ok(texts)
+}
+
+// These texts, one a line.
+fn lines_of(alloc: Global, texts: &[&str]) -> Result<String, AllocError>
+    ensures { IfOk result (λ lines. string_bytes lines ≡ lines_of (map (λ text. text.now) texts.now)) }
+{
+    let mut lines = String::new(alloc);
+    for text in texts {
+        lines.push_str(text)?;
+        lines.push('\n')?;
+    }
+    Ok(lines)
+}
+
+// These texts, each once, in the order of their bytes, one a line.
+fn sorted_lines(alloc: Global, texts: Vec<&str>) -> Result<String, AllocError>
+    ensures { IfOk result (λ lines.
+        AreSortedLines (map (λ text. text.now) texts.entry.items) (string_bytes lines)) }
+{
+    let sorted = SortedSet::new(texts);
+    lines_of(alloc, sorted.as_slice())
+}
+
+// Adds the texts of the two packages, parted by a space, on a line.
+fn push_pair(text: &mut String, from: &str, to: &str) -> Result<(), AllocError>
+    ensures { OnOk result (string_bytes text.new ≡ string_bytes text.old
+        ++ line_of (joined (from.now ∷ to.now ∷ []))) }
+{
+    text.push_str(from)?;
+    text.push(' ')?;
+    text.push_str(to)?;
+    text.push('\n')
+}
+
+fn lines_of_pairs<F: Format>(
+    alloc: Global,
+    names: &F::Names,
+    pairs: &[(&PackageId, &PackageId)],
+) -> Result<String, AllocError>
+    ensures { (packages : List PackageRecord) → F.are_names names.now packages
+        → IfOk result (λ text. string_bytes text
+        ≡ lines_of (map (λ ids. joined (map (F.format.text packages) ids))
+        (map (λ pair. pair.0.now ∷ pair.1.now ∷ []) pairs.now))) }
+{
+    let mut text = String::new(alloc);
+    for (from, to) in pairs {
+        push_pair(&mut text, F::text_of(names, from), F::text_of(names, to))?;
+    }
+    Ok(text)
+}
+
+// The texts of these packages, parted by spaces.
+fn joined<F: Format>(
+    alloc: Global,
+    names: &F::Names,
+    ids: &[&PackageId],
+) -> Result<String, AllocError>
+    ensures { (packages : List PackageRecord) → F.are_names names.now packages
+        → IfOk result (λ text. string_bytes text
+        ≡ joined (map (F.format.text packages) (map (λ id. id.now) ids.now))) }
+{
+    texts_of::<F>(alloc, names, ids)?.join(alloc, " ")
+}
+
+fn lines_of_rows<F: Format>(
+    alloc: Global,
+    names: &F::Names,
+    rows: &[Vec<&PackageId>],
+) -> Result<String, AllocError>
+    ensures { (packages : List PackageRecord) → F.are_names names.now packages
+        → IfOk result (λ text. string_bytes text
+        ≡ lines_of (map (λ ids. joined (map (F.format.text packages) ids))
+        (map (λ row. map (λ id. id.now) row.items) rows.now))) }
+{
+    let mut text = String::new(alloc);
+    for row in rows {
+        let line = joined::<F>(alloc, names, row.as_slice())?;
+        text.push_str(line.as_str())?;
+        text.push('\n')?;
+    }
+    Ok(text)
+}
+
+fn truth_line(holds: bool) -> &'static str
+    ensures { result.now ≡ truth_line holds }
+{
+    if holds { "true\n" } else { "false\n" }
+}
+
+/// The answer's text, with each package as the names of the graph's packages tell. Takes memory for the
+/// text, and for a reference a package. Time grows with the answer, and where it is a set with its packages
+/// times the logarithm of their number.
+pub fn printed<F: Format>(
+    alloc: Global,
+    names: &F::Names,
+    answer: &Answer<'_>,
+) -> Result<String, AllocError>
+    ensures { (packages : List PackageRecord) → F.are_names names.now packages
+        → IfOk result (λ text. IsPrinted (F.format.text packages) (answer_shown answer.now)
+        (string_bytes text)) }
+{
+    match answer {
+        Answer::Set(ids) => sorted_lines(alloc, texts_of::<F>(alloc, names, ids.as_slice())?),
+        Answer::List(ids) => {
+            lines_of(
+                alloc,
+                texts_of::<F>(alloc, names, ids.as_slice())?.as_slice(),
+            )
+        }
+        Answer::Pairs(pairs) => lines_of_pairs::<F>(alloc, names, pairs.as_slice()),
+        Answer::Rows(rows) => lines_of_rows::<F>(alloc, names, rows.as_slice()),
+        Answer::Truth(holds) => String::from_str(alloc, truth_line(*holds)),
+        Answer::AllWell => String::from_str(alloc, "ok\n"),
+    }
+}

@@ -1,0 +1,165 @@
+//! A program, over any source and sink.
+ghost use Rattle.std.specs.Prelude.{◌≡◌, ◌↔◌, ◌++◌, ℕ, List, Some, false, map, string_bytes, Err, OnOk, IfOk, IfErr, IsNone, Bool};
+ghost use Rattle.std.specs.Io.KnownBytes.{Appends};
+ghost use Rattle.guppy_program.specs.Cause.{Cause, bad_arguments, output_failed, caused, is_input_fault, is_output_fault};
+ghost use Rattle.guppy_program.specs.Loaded.{IsLoaded, IsLoadFault};
+ghost use Rattle.guppy_program.specs.Answer.{IsAnswer, IsCommandFault};
+ghost use Rattle.guppy_program.specs.Printed.{IsPrinted};
+ghost use Rattle.guppy_program.specs.Shown.{command_shown};
+ghost use Rattle.guppy_program.specs.Run.{IsAnswerTo, IsAnswerOf, IsFaultOf, IsSourceFault, IsAnswered, IsBegun, IsRunFault, OfWholeInput, WritesNothing};
+
+use crate::answer::answer_of;
+use crate::command::Command;
+use crate::device::{Sink, Source};
+use crate::fault::{ProgramFault, passed_on, want_of_memory};
+use crate::format::Format;
+use crate::print::printed;
+use crate::transfer::{read_all, write_all};
+use guppy::{IntoGraph, PackageGraph};
+use std::alloc::Global;
+use std::mem;
+
+// The graph of the records that the input says, and the names of its packages.
+fn load<F: Format>(alloc: Global, input: &[u8]) -> Result<(PackageGraph, F::Names), F::Fault>
+    ensures ok { IfOk result (λ loaded. IsLoaded F.format input.now loaded.0) }
+    ensures names { IfOk result (λ loaded. F.are_names loaded.1 loaded.0.packages) }
+    ensures err { IfErr result (λ fault. IsLoadFault F.format input.now fault (F.Fault.cause fault)) }
+{
+    let records = F::records_of(alloc, input)?;
+    let Ok(names) = F::names_of(alloc, records.packages.as_slice()) else {
+        return Err(want_of_memory());
+    };
+    let graph = passed_on(records.into_graph())?;
+    Ok((graph, names))
+}
+
+// What is printed of the graph for the command.
+fn answer_text<F: Format>(
+    alloc: Global,
+    graph: &PackageGraph,
+    names: &F::Names,
+    command: &Command<'_>,
+) -> Result<String, F::Fault>
+    requires { F.are_names names.now graph.now.packages }
+    ensures ok { IfOk result (λ text. IsAnswerOf F.format (command_shown command.now) graph.now
+        (string_bytes text)) }
+    ensures err { IfErr result (λ fault. IsCommandFault F.format (command_shown command.now)
+        graph.now (F.Fault.cause fault)) }
+{
+    let answer = answer_of::<F>(alloc, graph, names, command)?;
+    match printed::<F>(alloc, names, &answer) {
+        Ok(text) => Ok(text),
+        Err(_) => Err(want_of_memory()),
+    }
+}
+
+// What is printed for the command of the graph that the input says.
+fn answer_input<F: Format>(
+    alloc: Global,
+    command: &Command<'_>,
+    input: &[u8],
+) -> Result<String, F::Fault>
+    ensures ok { IfOk result (λ text. IsAnswerTo F.format (command_shown command.now) input.now
+        (string_bytes text)) }
+    ensures err { IfErr result (λ fault. IsFaultOf F.format (command_shown command.now) input.now
+        fault (F.Fault.cause fault)) }
+{
+    let (graph, names) = load::<F>(alloc, input)?;
+    let text = answer_text::<F>(alloc, &graph, &names, command);
+    // The process ends once the answer is written, and gives all memory back at once; to let go of the
+    // parts of a large graph one by one takes some tenths of the whole time.
+    mem::forget(graph);
+    mem::forget(names);
+    text
+}
+
+// What is printed for the command of the graph that the whole input says.
+fn answer_source<F: Format, R: Source>(
+    alloc: Global,
+    command: &Command<'_>,
+    reader: &mut R,
+) -> Result<String, F::Fault>
+    requires { R.has_failed reader.old ≡ false }
+    ensures ok { IfOk result (λ text. OfWholeInput (R.left reader.old) (R.left reader.new) (λ input.
+        IsAnswerTo F.format (command_shown command.now) input (string_bytes text))) }
+    ensures err { IfErr result (λ fault. IsSourceFault F.format (command_shown command.now)
+        (R.left reader.old) (R.left reader.new) fault (F.Fault.cause fault)) }
+    ensures failed { R.has_failed reader.new ≡ is_input_fault (caused F.Fault.cause result) }
+{
+    let input = read_all::<R, F::Fault>(alloc, reader)?;
+    answer_input::<F>(alloc, command, input.as_slice())
+}
+
+// Writes the text, or a beginning of it where a write fails.
+fn write_text<W: Sink, F: ProgramFault>(writer: &mut W, text: &str) -> Result<(), F>
+    requires { W.has_failed writer.old ≡ false }
+    ensures ok { OnOk result (Appends (W.written writer.old) (W.written writer.new) text.now) }
+    ensures begun { (front rest : List ℕ) × (text.now ≡ front ++ rest)
+        × Appends (W.written writer.old) (W.written writer.new) front }
+    ensures err { IfErr result (λ fault. F.cause fault ≡ output_failed) }
+    ensures failed { W.has_failed writer.new ≡ is_output_fault (caused F.cause result) }
+{
+    match write_all(writer, text.as_bytes()) {
+        Ok(()) => Ok(()),
+        Err(_) => Err(F::output_failed()),
+    }
+}
+
+/// Reads the whole input, and writes what the command that `args` give prints of its package graph.
+///
+/// `args` are the arguments without the program's own name. They are judged first: where they are no
+/// command, that is told, and nothing is read and no memory taken. Then all input is read, and kept; then
+/// its format is judged, then its records, then the packages that the command names, or for `verify` and
+/// `publish-order` the graph, and the first fault is given. Want of memory may come at any growth, in place
+/// of every fault not yet found. The answer is whole before its first byte is written, so a refusal writes
+/// nothing, and an output that fails has a beginning of the answer.
+///
+/// The graph is forgotten, not let go: its memory is given back when the process ends.
+///
+/// Neither device may have failed before. Time grows with the input's length, and with the packages and
+/// links times the logarithm of the packages.
+pub fn run_with<F: Format, R: Source, W: Sink>(
+    alloc: Global,
+    args: &[String],
+    reader: &mut R,
+    writer: &mut W,
+) -> Result<(), F::Fault>
+    requires input_works { R.has_failed reader.old ≡ false }
+    requires output_works { W.has_failed writer.old ≡ false }
+
+    // All input was read, and what was written is an answer to it.
+    ensures ok { OnOk result (OfWholeInput (R.left reader.old) (R.left reader.new) (λ input.
+        IsAnswered F.format (map string_bytes args.now) input
+        (Appends (W.written writer.old) (W.written writer.new)))) }
+
+    // The arguments are no command, and nothing was read.
+    ensures arguments { (caused F.Fault.cause result ≡ Some bad_arguments)
+        ↔ IsNone (F.format.asks (map string_bytes args.now)) }
+    ensures arguments_read { caused F.Fault.cause result ≡ Some bad_arguments
+        → reader.new ≡ reader.old }
+
+    // All input was read. The fault is why the input says no records, or the first fault of its records,
+    // or where they have none, the first word of the command that doesn't mean one package or, for
+    // `verify` and `publish-order` alone, a fault that the graph's `verify` may tell; or memory ran out.
+    ensures fault { (fault : F.Fault) → result ≡ Err fault
+        → IsRunFault F.format (map string_bytes args.now) (R.left reader.old) (R.left reader.new)
+        fault (F.Fault.cause fault) }
+
+    // The devices are blamed exactly where they failed.
+    ensures input_failed { R.has_failed reader.new ≡ is_input_fault (caused F.Fault.cause result) }
+    ensures output_failed { W.has_failed writer.new
+        ≡ is_output_fault (caused F.Fault.cause result) }
+
+    // A refusal writes nothing, and a write that fails leaves a beginning of an answer.
+    ensures refused { WritesNothing writer.old writer.new (caused F.Fault.cause result) }
+    ensures begun { caused F.Fault.cause result ≡ Some output_failed
+        → OfWholeInput (R.left reader.old) (R.left reader.new) (λ input.
+        IsBegun F.format (map string_bytes args.now) input
+        (Appends (W.written writer.old) (W.written writer.new))) }
+{
+    let Some(command) = F::command_of(args) else {
+        return Err(F::Fault::bad_arguments());
+    };
+    let text = answer_source::<F, R>(alloc, &command, reader)?;
+    write_text::<W, F::Fault>(writer, text.as_str())
+}

@@ -1,0 +1,46 @@
+//! Reading to the end, and writing all.
+ghost use Rattle.std.specs.Prelude.{◌≡◌, ◌++◌, ℕ, List, false, IfOk, IfErr, OnOk};
+ghost use Rattle.std.specs.Io.KnownBytes.{Consumes, Appends, IsAtEnd};
+ghost use Rattle.guppy_program.specs.Device.{MarksFault};
+ghost use Rattle.guppy_program.specs.Cause.{IsReadFault, caused, is_input_fault};
+
+use crate::device::{DeviceFault, Sink, Source};
+use crate::fault::{ProgramFault, want_of_memory};
+use std::alloc::Global;
+
+/// Reads all that is left. Takes memory for it, so an input that never ends comes to want of memory.
+pub fn read_all<R: Source, F: ProgramFault>(alloc: Global, reader: &mut R) -> Result<Vec<u8>, F>
+    requires works { R.has_failed reader.old ≡ false }
+    ensures bytes { IfOk result (λ v. Consumes (R.left reader.old) (R.left reader.new) v.items) }
+    ensures end { OnOk result (IsAtEnd (R.left reader.new)) }
+    ensures failed { R.has_failed reader.new ≡ is_input_fault (caused F.cause result) }
+    ensures err { IfErr result (λ fault. IsReadFault (F.cause fault)) }
+{
+    let mut bytes = Vec::new(alloc);
+    let mut chunk = [0u8; 16384];
+    'read: loop {
+        let Ok(count) = reader.read(&mut chunk) else {
+            return Err(F::input_failed());
+        };
+        if count == 0 {
+            return Ok(bytes);
+        }
+        if bytes.extend_from_slice(&chunk[..count]).is_err() {
+            return Err(want_of_memory());
+        }
+    }
+}
+
+/// Writes all the bytes, or a beginning of them where a write fails.
+pub fn write_all<W: Sink>(writer: &mut W, bytes: &[u8]) -> Result<(), DeviceFault>
+    ensures ok { OnOk result (Appends (W.written writer.old) (W.written writer.new) bytes.now) }
+    ensures begun { (front rest : List ℕ) × (bytes.now ≡ front ++ rest)
+        × Appends (W.written writer.old) (W.written writer.new) front }
+    ensures failed { MarksFault (W.has_failed writer.old) (W.has_failed writer.new) result }
+{
+    let mut at = 0;
+    while at < bytes.len() {
+        at += writer.write(&bytes[at..])?;
+    }
+    Ok(())
+}
