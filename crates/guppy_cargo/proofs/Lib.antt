@@ -1,4 +1,3 @@
-pub mod Among
 pub mod Called
 pub mod Firsts
 pub mod Grouped

@@ -2,7 +2,7 @@
 use Rattle.std.specs.Prelude.{◌≡◌, ℕ, Bool, false, ◌||◌, List, [], ◌∷◌, ◌++◌, Vec, String, map, codes, if◌then◌else◌}
 use Rattle.std.specs.declared.alloc.Global.{Global}
 use Rattle.std.specs.Borrow.{Bor}
-use Rattle.std.specs.List.{filter, find, list_any}
+use Rattle.std.specs.List.{filter, find}
 use Rattle.std.specs.Option.{option_map_or}
 use Rattle.std.specs.BTreeMap.{BTreeMap, get_by_text}
 use Rattle.std.specs.Str.{bytes_eq}
@@ -10,6 +10,7 @@ use Rattle.std.specs.String.{string_bytes}
 use Rattle.indexmap.specs.IndexSet.{IndexSet, contains_by}
 use Rattle.semver.specs.Identifiers.{version_text}
 use Rattle.guppy_data.specs.declared.records.PackageRecord.{PackageRecord}
+use Rattle.guppy_program.specs.Format.{has_id}
 use Rattle.guppy_cargo.specs.declared.names.Names.{Names}
 
 abbrev pub name_of : PackageRecord → List ℕ
@@ -26,10 +27,6 @@ is_called text r = bytes_eq text (name_of r) || bytes_eq text (full_name_of r)
 -- the IDs of the packages that are called so, in their order
 abbrev pub called : List PackageRecord → List ℕ → List (List ℕ)
 called packages text = map (λ r. r.id) (filter (is_called text) packages)
-
--- one of the packages has the ID
-abbrev pub has_id : List ℕ → List PackageRecord → Bool
-has_id id packages = list_any (λ r. bytes_eq id r.id) packages
 
 -- the IDs of the packages that a word may mean: the one whose ID it is, and else those called so
 abbrev pub meant : List PackageRecord → List ℕ → List (List ℕ)

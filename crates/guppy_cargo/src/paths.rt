@@ -1,5 +1,5 @@
 //! Paths that a file has, as git writes them: each ended by a NUL.
-ghost use Rattle.std.specs.Prelude.{◌≡◌, map, string_bytes, IfOk, IfErr, ◌⊎◌};
+ghost use Rattle.std.specs.Prelude.{◌≡◌, ◌⊎◌, ◌++◌, map, string_bytes, OnOk, IfErr};
 ghost use Rattle.guppy_data.specs.declared.texts.error.Error.TheVariants.{OutOfMemory};
 ghost use Rattle.guppy_cargo.specs.declared.fault.CargoFault.TheVariants.{Library, BadArguments};
 ghost use Rattle.guppy_cargo.specs.Paths.{paths_of};
@@ -16,10 +16,10 @@ fn add_paths(args: &mut Vec<String>, alloc: Global, bytes: &[u8]) -> Result<(), 
     ensures err { IfErr result
         (λ fault. (fault ≡ Library OutOfMemory) ⊎ (fault ≡ BadArguments)) }
 {
-    for piece in bytes.split(|byte| *byte == 0) {
-        let Ok(path) = str::from_utf8(piece) else {
-            return Err(CargoFault::BadArguments);
-        };
+    let Ok(text) = str::from_utf8(bytes) else {
+        return Err(CargoFault::BadArguments);
+    };
+    for path in text.split('\0') {
         if !path.is_empty() {
             args.push(String::from_str(alloc, path)?)?;
         }
@@ -37,19 +37,22 @@ pub fn with_paths<R: Files + AllocGlobal>(
 ) -> Result<Vec<String>, CargoFault> {
     let asks = args.first().is_some_and(|word| word.as_str() == "affected");
     let mut all = Vec::new(rt.alloc());
-    let mut rest = args.into_iter();
-    while let Some(word) = rest.next() {
-        if !asks || word.as_str() != "--paths-from" {
+    let mut is_file = false;
+    for word in args {
+        if is_file {
+            let Ok(bytes) = fs::read(rt, word.as_str()) else {
+                return Err(CargoFault::PathsFailed(word));
+            };
+            add_paths(&mut all, rt.alloc(), bytes.as_slice())?;
+            is_file = false;
+        } else if asks && word.as_str() == "--paths-from" {
+            is_file = true;
+        } else {
             all.push(word)?;
-            continue;
         }
-        let Some(file) = rest.next() else {
-            return Err(CargoFault::BadArguments);
-        };
-        let Ok(bytes) = fs::read(rt, file.as_str()) else {
-            return Err(CargoFault::PathsFailed(file));
-        };
-        add_paths(&mut all, rt.alloc(), bytes.as_slice())?;
+    }
+    if is_file {
+        return Err(CargoFault::BadArguments);
     }
     Ok(all)
 }

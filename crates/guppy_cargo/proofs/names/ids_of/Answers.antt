@@ -2,8 +2,8 @@ use Rattle.std.proofs.Common.{◌∙◌, ◌||◌, sym, ap, take, arith}
 use Rattle.std.specs.Str.{bytes_eq}
 use Rattle.std.proofs.lemmas.List.{take_all}
 use Rattle.std.proofs.lemmas.List.Folds.{list_any_more}
-use Rattle.guppy_cargo.specs.Names.{has_id}
-use Rattle.guppy_cargo.proofs.Among.{in_keys, among_inserted}
+use Rattle.guppy_program.specs.Format.{has_id}
+use Rattle.guppy_metadata.proofs.Among.{in_keys, among_inserted}
 use Rattle.guppy_cargo.proofs.names.ids_of.Goals as goal
 
 pub loop-package-preserved : goal.loop-package-preserved
