@@ -35,7 +35,8 @@ EVERYONES = ("Cargo.toml", "Cargo.lock", "rust-toolchain", "rust-toolchain.toml"
 # What is told of bad arguments.
 BAD_ARGUMENTS = (
     "bad arguments: give `reach forward|reverse PACKAGE..`, `depends PACKAGE PACKAGE`, `order`, "
-    "`roots forward|reverse`, `links forward|reverse`, `cycles`, `verify`, `publish-order` or `affected PATH..`"
+    "`roots forward|reverse`, `links forward|reverse`, `cycles`, `verify`, `publish-order` "
+    "or `affected [--ignore FOLDER].. [--paths-from FILE] PATH..`"
 )
 
 
@@ -202,6 +203,41 @@ def try_affected(graph):
         yield f"affected {' '.join(paths)}, the wrong way round", [], graph.led_back(answer[::-1])
 
 
+def is_in(path, folders):
+    """Whether the path lies in one of the folders."""
+    parts = path.removeprefix("./").split("/")
+    return any(parts[: len(it)] == it for it in (folder.removeprefix("./").split("/") for folder in folders))
+
+
+def try_left_out(graph):
+    """Folders to leave out, and paths that a file has."""
+    folders = ["docs", "./base", "base/src", *("/".join(it) for it in graph.local.values() if it)]
+    paths = ["docs/a b", "base/src/lib.rs", "base-more/src/lib.rs", "./base/x", "a\nb/\u00e9", "Cargo.lock", "docs"]
+    with tempfile.TemporaryDirectory() as room:
+        for number in range(3 * STARTS):
+            ignored = graph.random.sample(folders, number % 3)
+            chosen = graph.random.sample(paths + [f"{it}/x" for it in folders], 1 + number % 5)
+            left = [it for it in chosen if not is_in(it, ignored)]
+            wanted = sorted(graph.tested_with(set().union(*map(graph.touched, left))))
+            words = [*itertools.chain(*(("--ignore", it) for it in ignored)), *chosen]
+            yield f"affected {words}", wanted, sorted(graph.ask("affected", *words))
+            file = os.path.join(room, f"paths {number}")
+            with open(file, "wb") as held:
+                held.write(b"".join(it.encode() + b"\0" for it in chosen[1:]))
+            words = [*words[:-len(chosen)], "--paths-from", file, chosen[0]]
+            yield f"affected {words}, the paths in a file", wanted, sorted(graph.ask("affected", *words))
+        given = graph.text.encode()
+        with open(os.path.join(room, "bytes"), "wb") as held:
+            held.write(b"a\0\xff\0")
+        for words, fault in (
+            (["--ignore"], BAD_ARGUMENTS),
+            (["x", "--paths-from"], BAD_ARGUMENTS),
+            (["--paths-from", os.path.join(room, "bytes")], BAD_ARGUMENTS),
+            (["--paths-from", "no/such"], "no/such: the paths in it can't be read"),
+        ):
+            yield f"affected {words}", (2, "", f"error: {fault}\n"), run(["affected", *words], given)
+
+
 def try_names(graph):
     """Each package by each text that means it alone, and texts that are names where IDs belong."""
     for it, forms in graph.forms.items():
@@ -263,6 +299,7 @@ PARTS = {
     "roots and links": try_links,
     "verify and publish-order": try_publish,
     "affected": try_affected,
+    "what is left out": try_left_out,
     "names": try_names,
     "refusals": try_refused,
 }

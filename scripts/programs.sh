@@ -64,7 +64,7 @@ try_program() {
     command -v rt > /dev/null ||
         fail "the program is not proved on this machine yet, and the toolchain's rt is not on the path"
     echo "$name: this answer takes a minute, and comes from a program that is not proved on this machine yet; '$here/prove' proves it" >&2
-    room= is_over=
+    room= is_over= is_file=
     clean() {
         if [ -n "$!" ] && [ -z "$is_over" ]; then
             kill "$!" 2> /dev/null
@@ -76,8 +76,21 @@ try_program() {
     room=$(mktemp -d) || fail "no temporary folder can be made"
     cat > "$room/input" 2> /dev/null || fail "standard input can't be read"
     [ "$(wc -c < "$room/input")" -le "$most_bytes" ] || give_up "the input has more than $most_bytes bytes"
+    # The program opens only what rt is told to hand it: each file behind --paths-from gets a name of its own.
+    files= number=0 left=$#
+    while [ "$left" -gt 0 ]; do
+        word=$1 left=$((left - 1))
+        shift
+        if [ -n "$is_file" ] && cp -- "$word" "$room/paths$((number + 1))" 2> /dev/null; then
+            number=$((number + 1)) word=paths$number
+            files="$files --data $word=\"\$room/$word\""
+        fi
+        is_file=
+        [ "$word" != --paths-from ] || is_file=1
+        set -- "$@" "$word"
+    done
     cd "$here/crates/$top" || fail "there is no folder crates/$top"
-    rt try --seconds "$most_seconds" -- "$@" < "$room/input" > "$room/answer" 2> "$room/told" &
+    eval "rt try --seconds $most_seconds $files -- \"\$@\"" < "$room/input" > "$room/answer" 2> "$room/told" &
     wait "$!"
     status=$?
     is_over=1

@@ -1,8 +1,6 @@
 //! What `guppy-cargo` reads: the JSON that `cargo metadata` prints.
-ghost use Rattle.std.specs.Prelude.{◌≡◌, false, map, string_bytes, IfOk, List, ℕ};
+ghost use Rattle.std.specs.Prelude.{◌≡◌, map, string_bytes, IfOk, List};
 ghost use Rattle.guppy_program.specs.Format.{alternatives};
-ghost use Rattle.guppy_program.specs.Run.{IsRun};
-ghost use Rattle.guppy_cargo.specs.Fault.{cause_of};
 ghost use Rattle.guppy_cargo.specs.Json.{json_format};
 ghost use Rattle.guppy_cargo.specs.Names.{AreNames, text};
 ghost use Rattle.guppy_data.specs.declared.records.PackageRecord.{PackageRecord as PackageData};
@@ -14,11 +12,11 @@ use guppy::{Error, PackageGraph, PackageId};
 use guppy_data::{PackageRecord, Records};
 use guppy_metadata::records_of;
 use guppy_program::format::has_package;
-use guppy_program::{Command, Format, Sink, Source, run_with};
+use guppy_program::{Command, Format};
 use std::alloc::{AllocError, Global};
 use std::str;
 
-/// What `cargo metadata` prints.
+/// What `cargo metadata` prints: with it `run_with` is the program.
 #[derive(Clone, Copy, Debug)]
 pub struct Json;
 
@@ -82,20 +80,4 @@ impl Format for Json {
             }
         }
     }
-}
-
-/// Reads the whole input, what `cargo metadata` prints, and writes what the command that `args` give prints of
-/// its packages: see [`run_with`], which this is.
-pub fn run<R: Source, W: Sink>(
-    alloc: Global,
-    args: &[String],
-    reader: &mut R,
-    writer: &mut W,
-) -> Result<(), CargoFault>
-    requires input_works { R.has_failed reader.old ≡ false }
-    requires output_works { W.has_failed writer.old ≡ false }
-    ensures { IsRun json_format cause_of R.left R.has_failed W.written W.has_failed
-        (map string_bytes args.now) reader.old reader.new writer.old writer.new result }
-{
-    run_with::<Json, R, W>(alloc, args, reader, writer)
 }

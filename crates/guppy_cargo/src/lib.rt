@@ -20,6 +20,6 @@ mod paths;
 
 pub use command::command_of;
 pub use fault::CargoFault;
-pub use json::{Json, run};
+pub use json::Json;
 pub use names::Names;
 pub use paths::with_paths;
