@@ -5,9 +5,10 @@ ghost use Rattle.guppy_cargo.specs.declared.fault.CargoFault.TheVariants.{Librar
 ghost use Rattle.guppy_cargo.specs.Paths.{paths_of};
 
 use crate::fault::CargoFault;
+use guppy::Error;
 use std::alloc::Global;
 use std::rt::Files;
-use std::{fs, str};
+use std::{fs, io, str};
 
 // Adds the paths that the bytes are: what stands between NULs, where that is anything.
 fn add_paths(args: &mut Vec<String>, alloc: Global, bytes: &[u8]) -> Result<(), CargoFault>
@@ -27,25 +28,36 @@ fn add_paths(args: &mut Vec<String>, alloc: Global, bytes: &[u8]) -> Result<(), 
     Ok(())
 }
 
+// The bytes of the file, whose name is told where it can't be read.
+fn read_file<R: Files + AllocGlobal>(rt: &R, file: String) -> Result<Vec<u8>, CargoFault> {
+    match fs::read(rt, file.as_str()) {
+        Ok(bytes) => Ok(bytes),
+        Err(error) if error.kind() == io::ErrorKind::OutOfMemory => {
+            Err(CargoFault::Library(Error::OutOfMemory))
+        }
+        Err(_) => Err(CargoFault::PathsFailed(file)),
+    }
+}
+
 /// The arguments with, for each `--paths-from FILE` behind `affected`, the paths in this file in their place:
-/// UTF-8, and each ended by a NUL. Takes memory for them all, and for the largest file.
+/// UTF-8, and each ended by a NUL. Takes memory for them all, and for the largest file; none for another command.
 ///
 /// A file that can't be read is told, and paths that are no UTF-8 are bad arguments.
 pub fn with_paths<R: Files + AllocGlobal>(
     rt: &R,
     args: Vec<String>,
 ) -> Result<Vec<String>, CargoFault> {
-    let asks = args.first().is_some_and(|word| word.as_str() == "affected");
+    if !args.first().is_some_and(|word| word.as_str() == "affected") {
+        return Ok(args);
+    }
     let mut all = Vec::new(rt.alloc());
     let mut is_file = false;
     for word in args {
         if is_file {
-            let Ok(bytes) = fs::read(rt, word.as_str()) else {
-                return Err(CargoFault::PathsFailed(word));
-            };
+            let bytes = read_file(rt, word)?;
             add_paths(&mut all, rt.alloc(), bytes.as_slice())?;
             is_file = false;
-        } else if asks && word.as_str() == "--paths-from" {
+        } else if word.as_str() == "--paths-from" {
             is_file = true;
         } else {
             all.push(word)?;
