@@ -4,41 +4,39 @@ use Rattle.guppy_data.specs.declared.texts.error.Error.TheVariants.{OutOfMemory}
 use Rattle.guppy_data.specs.Texts.{error_text}
 use Rattle.guppy_metadata.specs.declared.fault.MetadataFault.{MetadataFault}
 use Rattle.guppy_metadata.specs.declared.fault.MetadataFault.TheVariants.{OutOfMemory as MetadataMemory}
-use Rattle.guppy_program.specs.Cause.{Cause, library, bad_arguments, ambiguous, bad_input, input_failed, output_failed}
+use Rattle.guppy_program.specs.Cause.{Cause, bad_arguments, ambiguous, bad_input}
+use Rattle.guppy_program.specs.Shown.{cause_shown}
+use Rattle.guppy_program.specs.declared.fault.Fault.TheVariants.{Library, BadArguments, InputFailed, OutputFailed}
 use Rattle.guppy_cargo.specs.declared.fault.CargoFault.{CargoFault}
-use Rattle.guppy_cargo.specs.declared.fault.CargoFault.TheVariants.{Library, BadArguments, Ambiguous, Metadata, NoText, PathsFailed, InputFailed, OutputFailed}
+use Rattle.guppy_cargo.specs.declared.fault.CargoFault.TheVariants.{Program, Ambiguous, Metadata, NoText, PathsFailed}
 
 abbrev pub cause_of : CargoFault → Cause
-cause_of (Library error) = library error
-cause_of BadArguments = bad_arguments
+cause_of (Program fault) = cause_shown fault
 cause_of (Ambiguous word choices) = ambiguous (string_bytes word) (string_bytes choices)
 cause_of (Metadata fault) = bad_input
 cause_of NoText = bad_input
 cause_of (PathsFailed file) = bad_arguments
-cause_of InputFailed = input_failed
-cause_of OutputFailed = output_failed
 
 -- 2 for bad arguments, and for a file and streams that fail, else 1
 abbrev pub status_of : CargoFault → ℕ
-status_of BadArguments = 2
+status_of (Program (Library error)) = 1
+status_of (Program fault) = 2
 status_of (PathsFailed file) = 2
-status_of InputFailed = 2
-status_of OutputFailed = 2
 status_of _ = 1
 
 -- the text, where it is known: of a fault of the JSON it isn't
 abbrev pub fault_text : CargoFault → Option (List ℕ)
-fault_text (Library error) = Some (error_text error)
-fault_text BadArguments = Some (codes "bad arguments: give `reach forward|reverse PACKAGE..`, `depends PACKAGE PACKAGE`, `order`, `roots forward|reverse`, `links forward|reverse`, `cycles`, `verify`, `publish-order` or `affected [--ignore FOLDER].. [--paths-from FILE] PATH..`")
+fault_text (Program (Library error)) = Some (error_text error)
+fault_text (Program BadArguments) = Some (codes "bad arguments: give `reach forward|reverse PACKAGE..`, `depends PACKAGE PACKAGE`, `order`, `roots forward|reverse`, `links forward|reverse`, `cycles`, `verify`, `publish-order` or `affected [--ignore FOLDER].. [--paths-from FILE] PATH..`")
 fault_text (Ambiguous word choices) =
     Some (codes "ambiguous package " ++ string_bytes word ++ codes ": give " ++ string_bytes choices)
 fault_text (Metadata fault) = None
 fault_text NoText = Some (codes "the input is no UTF-8")
 fault_text (PathsFailed file) = Some (string_bytes file ++ codes ": the paths in it can't be read")
-fault_text InputFailed = Some (codes "input failed")
-fault_text OutputFailed = Some (codes "output failed")
+fault_text (Program InputFailed) = Some (codes "input failed")
+fault_text (Program OutputFailed) = Some (codes "output failed")
 
 -- a fault of the JSON, or want of memory
 abbrev pub of_metadata : MetadataFault → CargoFault
-of_metadata MetadataMemory = Library OutOfMemory
+of_metadata MetadataMemory = Program (Library OutOfMemory)
 of_metadata fault = Metadata fault

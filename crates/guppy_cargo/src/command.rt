@@ -11,12 +11,8 @@ use guppy_program::command::{affected_of, command_of as plain_command_of};
 pub fn command_of(args: &[String]) -> Option<Command<'_>>
     ensures { option_map command_shown result ≡ command_of (map string_bytes args.now) }
 {
-    let [word, words @ ..] = args else {
-        return None;
-    };
-    if word.as_str() == "affected" {
-        affected_of(words)
-    } else {
-        plain_command_of(args)
+    match args {
+        [word, words @ ..] if word.as_str() == "affected" => affected_of(words),
+        _ => plain_command_of(args),
     }
 }

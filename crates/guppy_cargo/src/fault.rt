@@ -1,21 +1,20 @@
 //! Why there is no answer.
 ghost use Rattle.std.specs.Prelude.{◌≡◌};
 ghost use Rattle.guppy_data.specs.declared.texts.error.Error.TheVariants.{OutOfMemory};
-ghost use Rattle.guppy_cargo.specs.declared.fault.CargoFault.TheVariants.{Library};
+ghost use Rattle.guppy_program.specs.declared.fault.Fault.TheVariants.{Library};
+ghost use Rattle.guppy_cargo.specs.declared.fault.CargoFault.TheVariants.{Program};
 
 use guppy::Error;
 use guppy_metadata::MetadataFault;
-use guppy_program::ProgramFault;
+use guppy_program::{Fault, ProgramFault};
 use std::alloc::{AllocError, AllocFailed};
 use std::fmt;
 
 /// Why the program gives no answer.
 #[derive(Debug, Drop)]
 pub enum CargoFault {
-    /// The library refused the records or the command, or found no memory.
-    Library(Error),
-    /// The arguments are no command.
-    BadArguments,
+    /// One that every program has.
+    Program(Fault),
     /// The first text may mean several packages, of which each is called by one of the others, parted by ` or `.
     Ambiguous(String, String),
     /// The input is not what `cargo metadata` prints.
@@ -24,10 +23,6 @@ pub enum CargoFault {
     NoText,
     /// The file with paths could not be read.
     PathsFailed(String),
-    /// The input could not be read.
-    InputFailed,
-    /// The output could not be written.
-    OutputFailed,
 }
 
 impl fmt::Display for CargoFault {
@@ -37,8 +32,8 @@ impl fmt::Display for CargoFault {
 
     fn fmt<W: fmt::Write>(&self, f: &mut fmt::Formatter<W>) -> fmt::Result {
         match self {
-            CargoFault::Library(error) => write!(f, "{error}"),
-            CargoFault::BadArguments => f.write_str(
+            CargoFault::Program(Fault::Library(error)) => write!(f, "{error}"),
+            CargoFault::Program(Fault::BadArguments) => f.write_str(
                 "bad arguments: give `reach forward|reverse PACKAGE..`, `depends PACKAGE PACKAGE`, `order`, \
                  `roots forward|reverse`, `links forward|reverse`, `cycles`, `verify`, `publish-order` \
                  or `affected [--ignore FOLDER].. [--paths-from FILE] PATH..`",
@@ -49,8 +44,8 @@ impl fmt::Display for CargoFault {
             CargoFault::Metadata(fault) => write!(f, "{fault}"),
             CargoFault::NoText => f.write_str("the input is no UTF-8"),
             CargoFault::PathsFailed(file) => write!(f, "{file}: the paths in it can't be read"),
-            CargoFault::InputFailed => f.write_str("input failed"),
-            CargoFault::OutputFailed => f.write_str("output failed"),
+            CargoFault::Program(Fault::InputFailed) => f.write_str("input failed"),
+            CargoFault::Program(Fault::OutputFailed) => f.write_str("output failed"),
         }
     }
 }
@@ -64,28 +59,14 @@ impl ProgramFault for CargoFault {
 
     ghost ending = { status_of };
 
-    fn library(error: Error) -> Self {
-        CargoFault::Library(error)
-    }
-
-    fn bad_arguments() -> Self {
-        CargoFault::BadArguments
-    }
-
-    fn input_failed() -> Self {
-        CargoFault::InputFailed
-    }
-
-    fn output_failed() -> Self {
-        CargoFault::OutputFailed
+    fn of(fault: Fault) -> Self {
+        CargoFault::Program(fault)
     }
 
     fn ending(&self) -> u8 {
         match self {
-            CargoFault::BadArguments
-            | CargoFault::PathsFailed(_)
-            | CargoFault::InputFailed
-            | CargoFault::OutputFailed => 2,
+            CargoFault::Program(Fault::Library(_)) => 1,
+            CargoFault::Program(_) | CargoFault::PathsFailed(_) => 2,
             _ => 1,
         }
     }
@@ -98,32 +79,32 @@ impl From<MetadataFault> for CargoFault {
 
     fn from(fault: MetadataFault) -> Self {
         match fault {
-            MetadataFault::OutOfMemory => CargoFault::Library(Error::OutOfMemory),
+            MetadataFault::OutOfMemory => CargoFault::Program(Fault::Library(Error::OutOfMemory)),
             fault => CargoFault::Metadata(fault),
         }
     }
 }
 
 impl From<Error> for CargoFault {
-    ghost from_gives = { λ error fault. fault ≡ Library error };
+    ghost from_gives = { λ error fault. fault ≡ Program (Library error) };
 
     fn from(error: Error) -> Self {
-        CargoFault::Library(error)
+        CargoFault::Program(Fault::Library(error))
     }
 }
 
 impl From<AllocError> for CargoFault {
-    ghost from_gives = { λ _ fault. fault ≡ Library OutOfMemory };
+    ghost from_gives = { λ _ fault. fault ≡ Program (Library OutOfMemory) };
 
     fn from(_error: AllocError) -> Self {
-        CargoFault::Library(Error::OutOfMemory)
+        CargoFault::Program(Fault::Library(Error::OutOfMemory))
     }
 }
 
 impl<T: Drop> From<AllocFailed<T>> for CargoFault {
-    ghost from_gives = { λ _ fault. fault ≡ Library OutOfMemory };
+    ghost from_gives = { λ _ fault. fault ≡ Program (Library OutOfMemory) };
 
     fn from(_error: AllocFailed<T>) -> Self {
-        CargoFault::Library(Error::OutOfMemory)
+        CargoFault::Program(Fault::Library(Error::OutOfMemory))
     }
 }

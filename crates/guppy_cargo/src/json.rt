@@ -12,7 +12,7 @@ use guppy::{Error, PackageGraph, PackageId};
 use guppy_data::{PackageRecord, Records};
 use guppy_metadata::records_of;
 use guppy_program::format::has_package;
-use guppy_program::{Command, Format};
+use guppy_program::{Command, Fault, Format};
 use std::alloc::{AllocError, Global};
 use std::str;
 
@@ -72,7 +72,7 @@ impl Format for Json {
         }
         match names.called(word) {
             [only] => Ok(only.clone()?),
-            [] => Err(CargoFault::Library(Error::UnknownPackageId(id))),
+            [] => Err(CargoFault::Program(Fault::Library(Error::UnknownPackageId(id)))),
             several => {
                 let choices = choices_of(alloc, names, several)?;
                 let word = String::from_str(alloc, word)?;

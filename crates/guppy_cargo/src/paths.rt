@@ -1,11 +1,13 @@
 //! Paths that a file has, as git writes them: each ended by a NUL.
 ghost use Rattle.std.specs.Prelude.{◌≡◌, ◌⊎◌, ◌++◌, map, string_bytes, OnOk, IfErr};
 ghost use Rattle.guppy_data.specs.declared.texts.error.Error.TheVariants.{OutOfMemory};
-ghost use Rattle.guppy_cargo.specs.declared.fault.CargoFault.TheVariants.{Library, BadArguments};
+ghost use Rattle.guppy_program.specs.declared.fault.Fault.TheVariants.{Library, BadArguments};
+ghost use Rattle.guppy_cargo.specs.declared.fault.CargoFault.TheVariants.{Program};
 ghost use Rattle.guppy_cargo.specs.Paths.{paths_of};
 
 use crate::fault::CargoFault;
 use guppy::Error;
+use guppy_program::Fault;
 use std::alloc::Global;
 use std::rt::Files;
 use std::{fs, io, str};
@@ -15,10 +17,10 @@ fn add_paths(args: &mut Vec<String>, alloc: Global, bytes: &[u8]) -> Result<(), 
     ensures ok { OnOk result (map string_bytes args.new.items
         ≡ map string_bytes args.old.items ++ paths_of bytes.now) }
     ensures err { IfErr result
-        (λ fault. (fault ≡ Library OutOfMemory) ⊎ (fault ≡ BadArguments)) }
+        (λ fault. (fault ≡ Program (Library OutOfMemory)) ⊎ (fault ≡ Program BadArguments)) }
 {
     let Ok(text) = str::from_utf8(bytes) else {
-        return Err(CargoFault::BadArguments);
+        return Err(CargoFault::Program(Fault::BadArguments));
     };
     for path in text.split('\0') {
         if !path.is_empty() {
@@ -33,7 +35,7 @@ fn read_file<R: Files + AllocGlobal>(rt: &R, file: String) -> Result<Vec<u8>, Ca
     match fs::read(rt, file.as_str()) {
         Ok(bytes) => Ok(bytes),
         Err(error) if error.kind() == io::ErrorKind::OutOfMemory => {
-            Err(CargoFault::Library(Error::OutOfMemory))
+            Err(CargoFault::Program(Fault::Library(Error::OutOfMemory)))
         }
         Err(_) => Err(CargoFault::PathsFailed(file)),
     }
@@ -64,7 +66,7 @@ pub fn with_paths<R: Files + AllocGlobal>(
         }
     }
     if is_file {
-        return Err(CargoFault::BadArguments);
+        return Err(CargoFault::Program(Fault::BadArguments));
     }
     Ok(all)
 }

@@ -2,12 +2,26 @@
 ghost use Rattle.std.specs.Prelude.{◌≡◌, ℕ, Ok, Err, IfOk, IfErr};
 ghost use Rattle.guppy_data.specs.declared.texts.error.Error.{Error};
 ghost use Rattle.guppy_data.specs.declared.texts.error.Error.TheVariants.{OutOfMemory};
-ghost use Rattle.guppy_program.specs.Cause.{Cause, library, bad_arguments, input_failed, output_failed};
+ghost use Rattle.guppy_program.specs.Cause.{Cause, library};
+ghost use Rattle.guppy_program.specs.Shown.{cause_shown};
 
 use guppy_data::Error;
 use std::fmt;
 
-/// Why a program gives no answer: a fault of its own, or one that every program has.
+/// Why a program gives no answer, whatever its input looks like.
+#[derive(Debug, Drop)]
+pub enum Fault {
+    /// The library refused the records or the command, or found no memory.
+    Library(Error),
+    /// The arguments are no command.
+    BadArguments,
+    /// The input could not be read.
+    InputFailed,
+    /// The output could not be written.
+    OutputFailed,
+}
+
+/// Why a program gives no answer: one of these faults, or one of its own.
 pub trait ProgramFault: fmt::Display + Drop {
     /// Why, whatever the input looks like.
     ghost cause: { Self → Cause };
@@ -15,21 +29,9 @@ pub trait ProgramFault: fmt::Display + Drop {
     /// The status that the program ends with.
     ghost ending: { Self → ℕ };
 
-    /// The library refused the records or the command, or found no memory.
-    fn library(error: Error) -> Self
-        ensures { cause result ≡ library error };
-
-    /// The arguments are no command.
-    fn bad_arguments() -> Self
-        ensures { cause result ≡ bad_arguments };
-
-    /// The input could not be read.
-    fn input_failed() -> Self
-        ensures { cause result ≡ input_failed };
-
-    /// The output could not be written.
-    fn output_failed() -> Self
-        ensures { cause result ≡ output_failed };
+    /// The program's fault that this one is.
+    fn of(fault: Fault) -> Self
+        ensures { cause result ≡ cause_shown fault };
 
     /// The status that the program ends with. Takes constant time.
     fn ending(&self) -> u8
@@ -44,7 +46,7 @@ pub fn passed_on<T: Drop, F: ProgramFault>(given: Result<T, Error>) -> Result<T,
 {
     match given {
         Ok(value) => Ok(value),
-        Err(error) => Err(F::library(error)),
+        Err(error) => Err(F::of(Fault::Library(error))),
     }
 }
 
@@ -52,5 +54,5 @@ pub fn passed_on<T: Drop, F: ProgramFault>(given: Result<T, Error>) -> Result<T,
 pub fn want_of_memory<F: ProgramFault>() -> F
     ensures { F.cause result ≡ library OutOfMemory }
 {
-    F::library(Error::OutOfMemory)
+    F::of(Fault::Library(Error::OutOfMemory))
 }

@@ -28,7 +28,7 @@ pub mod transfer;
 pub use answer::Answer;
 pub use command::Command;
 pub use device::{DeviceFault, IoSink, IoSource, Sink, Source};
-pub use fault::ProgramFault;
+pub use fault::{Fault, ProgramFault};
 pub use format::Format;
 pub use lines::fault::RunFault;
 pub use lines::input::records_of;

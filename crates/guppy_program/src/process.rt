@@ -7,7 +7,7 @@ ghost use Rattle.guppy_program.specs.Run.{IsRun};
 ghost use Rattle.guppy_program.specs.Process.{EndsIn, fault_line};
 
 use crate::device::{Sink, Source};
-use crate::fault::{ProgramFault, want_of_memory};
+use crate::fault::{Fault, ProgramFault, want_of_memory};
 use crate::format::Format;
 use crate::program::run_with;
 use crate::transfer::write_all;
@@ -34,7 +34,7 @@ pub fn arguments<R: Env + AllocGlobal, F: ProgramFault>(rt: &R) -> Result<Vec<St
     match read_arguments(rt) {
         Ok(args) => Ok(args),
         Err(error) if error.kind() == io::ErrorKind::OutOfMemory => Err(want_of_memory()),
-        Err(_) => Err(F::bad_arguments()),
+        Err(_) => Err(F::of(Fault::BadArguments)),
     }
 }
 

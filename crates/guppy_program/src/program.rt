@@ -11,7 +11,7 @@ ghost use Rattle.guppy_program.specs.Run.{IsAnswerTo, IsAnswerOf, IsFaultOf, IsS
 use crate::answer::answer_of;
 use crate::command::Command;
 use crate::device::{Sink, Source};
-use crate::fault::{ProgramFault, passed_on, want_of_memory};
+use crate::fault::{Fault, ProgramFault, passed_on, want_of_memory};
 use crate::format::Format;
 use crate::print::printed;
 use crate::transfer::{read_all, write_all};
@@ -101,7 +101,7 @@ fn write_text<W: Sink, F: ProgramFault>(writer: &mut W, text: &str) -> Result<()
 {
     match write_all(writer, text.as_bytes()) {
         Ok(()) => Ok(()),
-        Err(_) => Err(F::output_failed()),
+        Err(_) => Err(F::of(Fault::OutputFailed)),
     }
 }
 
@@ -158,7 +158,7 @@ pub fn run_with<F: Format, R: Source, W: Sink>(
         (Appends (W.written writer.old) (W.written writer.new))) }
 {
     let Some(command) = F::command_of(args) else {
-        return Err(F::Fault::bad_arguments());
+        return Err(F::Fault::of(Fault::BadArguments));
     };
     let text = answer_source::<F, R>(alloc, &command, reader)?;
     write_text::<W, F::Fault>(writer, text.as_str())

@@ -5,7 +5,7 @@ ghost use Rattle.guppy_program.specs.Device.{MarksFault};
 ghost use Rattle.guppy_program.specs.Cause.{IsReadFault, caused, is_input_fault};
 
 use crate::device::{DeviceFault, Sink, Source};
-use crate::fault::{ProgramFault, want_of_memory};
+use crate::fault::{Fault, ProgramFault, want_of_memory};
 use std::alloc::Global;
 
 /// Reads all that is left. Takes memory for it, so an input that never ends comes to want of memory.
@@ -20,7 +20,7 @@ pub fn read_all<R: Source, F: ProgramFault>(alloc: Global, reader: &mut R) -> Re
     let mut chunk = [0u8; 16384];
     'read: loop {
         let Ok(count) = reader.read(&mut chunk) else {
-            return Err(F::input_failed());
+            return Err(F::of(Fault::InputFailed));
         };
         if count == 0 {
             return Ok(bytes);

@@ -4,7 +4,7 @@ ghost use Rattle.guppy_data.specs.declared.texts.error.Error.TheVariants.{OutOfM
 ghost use Rattle.guppy_program.specs.declared.lines.fault.RunFault.TheVariants.{Library};
 ghost use Rattle.guppy_program.specs.RunFault.{fault_text, status_of};
 
-use crate::fault::ProgramFault;
+use crate::fault::{Fault, ProgramFault};
 use guppy_data::Error;
 use std::alloc::{AllocError, AllocFailed};
 use std::fmt;
@@ -59,20 +59,13 @@ impl ProgramFault for RunFault {
 
     ghost ending = { status_of };
 
-    fn library(error: Error) -> Self {
-        RunFault::Library(error)
-    }
-
-    fn bad_arguments() -> Self {
-        RunFault::BadArguments
-    }
-
-    fn input_failed() -> Self {
-        RunFault::InputFailed
-    }
-
-    fn output_failed() -> Self {
-        RunFault::OutputFailed
+    fn of(fault: Fault) -> Self {
+        match fault {
+            Fault::Library(error) => RunFault::Library(error),
+            Fault::BadArguments => RunFault::BadArguments,
+            Fault::InputFailed => RunFault::InputFailed,
+            Fault::OutputFailed => RunFault::OutputFailed,
+        }
     }
 
     fn ending(&self) -> u8 {
