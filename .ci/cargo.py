@@ -13,6 +13,7 @@ import itertools
 import json
 import os
 import random
+import re
 import subprocess
 import sys
 import tempfile
@@ -262,6 +263,20 @@ def named(data, key, old, new):
     return [named(it, key, old, new) for it in data] if isinstance(data, list) else data
 
 
+def try_help(graph):
+    """What the program says of itself, with no metadata."""
+    for words in ("--help", "-h", "help", "help order", "order --help", "affected -h", "help affected"):
+        status, output, errors = run(words.split(), b"")
+        yield f"{words}, how it ends", (0, ""), (status, errors)
+        yield f"{words}, whose usage", ["guppy-cargo"], re.findall(r"^Usage: (\S+) ", output, re.M)
+    told = run(["help"], b"")[1]
+    named = re.findall(r"`([a-z-]+)", BAD_ARGUMENTS)
+    yield "help, the commands", sorted(named), sorted(set(re.findall(r"^  ([a-z-]+)", told, re.M)))
+    yield "--version", (0, "guppy-cargo of guppy 0.19.1, proved\n", ""), run(["--version"], b"")
+    for words in ("help no-such", "--help order roots"):
+        yield words, (2, "", f"error: {BAD_ARGUMENTS}\n"), run(words.split(), graph.text.encode())
+
+
 def try_refused(graph):
     """Arguments, names and input that are wrong, and cycles that no order can have."""
     given = graph.text.encode()
@@ -301,6 +316,7 @@ PARTS = {
     "affected": try_affected,
     "what is left out": try_left_out,
     "names": try_names,
+    "help": try_help,
     "refusals": try_refused,
 }
 

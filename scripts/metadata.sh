@@ -11,6 +11,20 @@ tell() {
     [ ! -t 2 ] || echo "$name: $1" >&2
 }
 
+# Whether the words ask what the program says of itself, for which no metadata is needed.
+asks_for_help() {
+    case ${1-} in --help | -h | help | --version | -V) return 0 ;; esac
+    [ $# -eq 2 ] || return 1
+    case $2 in --help | -h) return 0 ;; esac
+    return 1
+}
+
+# Whether the program, the first word, refuses the others, as it does before it reads anything.
+refuses() {
+    "$@" < /dev/null > /dev/null 2>&1
+    [ $? -eq 2 ]
+}
+
 # Sets cargo to what runs it; the word is what is told where nothing does.
 find_cargo() {
     cargo=${CARGO:-cargo}

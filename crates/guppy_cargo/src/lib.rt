@@ -8,11 +8,13 @@
 //! - `names`: what packages are called;
 //! - `json`: how the program reads its input;
 //! - `paths`: arguments that a file has;
+//! - `help`: what the program says of itself;
 //! - `laws`: what is printed for a package means this package.
 #![tactic(auto)]
 
 mod command;
 mod fault;
+mod help;
 mod json;
 pub mod laws;
 mod names;
@@ -20,6 +22,7 @@ mod paths;
 
 pub use command::command_of;
 pub use fault::CargoFault;
+pub use help::help_of;
 pub use json::Json;
 pub use names::Names;
 pub use paths::with_paths;

@@ -1,17 +1,29 @@
 //! Answers questions on the packages of a Cargo workspace, of which it reads what `cargo metadata` prints.
 //!
-//! What it does is `guppy_program`'s `run_process`; here stand the standard streams.
+//! What it does is `guppy_program`'s `run_process`; here stand the standard streams, and help.
 #![tactic(auto)]
 
-use guppy_cargo::{CargoFault, Json, with_paths};
+use guppy_cargo::{CargoFault, Json, help_of, with_paths};
 use guppy_program::{IoSink, IoSource, arguments, run_process};
 use std::process::ExitCode;
 
 fn main(rt: HostRuntime) -> ExitCode {
+    let args: Result<Vec<String>, CargoFault> = arguments(&rt);
+    if let Ok(words) = &args
+        && let Some(text) = help_of(words.as_slice())
+    {
+        return match print!(rt; "{text}") {
+            Ok(()) => ExitCode::from(0),
+            Err(_) => {
+                // Where the fault can't be told, the status still says that there was one.
+                let _ = eprintln!(rt; "error: output failed");
+                ExitCode::from(2)
+            }
+        };
+    }
     let mut reader = IoSource::new(rt.stdin());
     let mut writer = IoSink::new(rt.stdout());
     let mut errors = IoSink::new(rt.stderr());
-    let args: Result<Vec<String>, CargoFault> = arguments(&rt);
     let ending = run_process::<Json, _, _, _>(
         rt.alloc(),
         args.and_then(|args| with_paths(&rt, args)),

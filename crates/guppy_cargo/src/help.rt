@@ -1,0 +1,65 @@
+//! What the program says of itself.
+
+const HELP: &str = "\
+Answers questions on the packages of a Cargo workspace, of which it reads what
+`cargo metadata --format-version 1` prints. Where nothing is given on standard
+input, the scripts guppy-cargo and cargo guppy ask cargo.
+
+Usage: guppy-cargo COMMAND
+
+  affected PATH..           the members to test when these files changed
+  publish-order             the members, each after those that it needs
+  depends PACKAGE PACKAGE   whether the first depends on the second
+  reach forward PACKAGE..   what these packages need, and themselves
+  reach reverse PACKAGE..   what needs these packages, and themselves
+  order                     all packages, dependents first
+  roots forward|reverse     the packages that no other one needs, or that need none
+  links forward|reverse     the links from these on, the ends of each on a line
+  cycles                    the packages that need each other, a cycle a line
+  verify                    ok, where no cycle is over links that aren't dev-only
+
+A PACKAGE is named by its name, by name@version, or by its ID.
+guppy-cargo help affected says what else affected takes.
+";
+
+const AFFECTED: &str = "\
+Prints the members of the workspace to test when the files at these paths changed,
+what they depend on first.
+
+Usage: guppy-cargo affected [--since REVISION] [--ignore FOLDER].. [--paths-from FILE].. PATH..
+
+  PATH              relative to the workspace's root; ./--ignore is a path
+  --since REVISION  adds what git says changed since then; it comes first, and the
+                    scripts guppy-cargo and cargo guppy take it
+  --ignore FOLDER   leaves out what lies in this folder
+  --paths-from FILE adds the paths in this file, each ended by a NUL, as git writes
+                    them with -z
+";
+
+const VERSION: &str = "guppy-cargo of guppy 0.19.1, proved\n";
+
+fn asks_for_help(word: &str) -> bool {
+    matches!(word, "--help" | "-h" | "help")
+}
+
+// What it says of a command.
+fn help_on(command: &str) -> Option<&'static str> {
+    match command {
+        "affected" => Some(AFFECTED),
+        "publish-order" | "depends" | "reach" | "order" | "roots" | "links" | "cycles" | "verify" =>
+            { Some(HELP) }
+        _ => None,
+    }
+}
+
+/// What the program says of itself, where the arguments ask for that alone: `--help`, `-h` or `help`, perhaps with
+/// a command before or behind it, or `--version` or `-V`. Takes time linear in their lengths, and no memory.
+pub fn help_of(args: &[String]) -> Option<&'static str> {
+    match args {
+        [word] if asks_for_help(word.as_str()) => Some(HELP),
+        [word] if matches!(word.as_str(), "--version" | "-V") => Some(VERSION),
+        [first, second] if asks_for_help(first.as_str()) => help_on(second.as_str()),
+        [first, second] if matches!(second.as_str(), "--help" | "-h") => help_on(first.as_str()),
+        _ => None,
+    }
+}
