@@ -90,7 +90,8 @@ try_program() {
         set -- "$@" "$word"
     done
     cd "$here/crates/$top" || fail "there is no folder crates/$top"
-    eval "rt try --seconds $most_seconds $files -- \"\$@\"" < "$room/input" > "$room/answer" 2> "$room/told" &
+    eval "set -- $files -- \"\$@\""
+    rt try --seconds "$most_seconds" "$@" < "$room/input" > "$room/answer" 2> "$room/told" &
     wait "$!"
     status=$?
     is_over=1

@@ -22,7 +22,7 @@ mod verifying;
 mod world;
 
 use crate::world::{World, tell_world};
-use guppy::IntoGraph;
+use guppy::{Error, IntoGraph};
 use guppy_program::{RunFault, records_of};
 use std::alloc::Global;
 use std::process::ExitCode;
