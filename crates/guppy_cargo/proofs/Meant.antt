@@ -15,14 +15,6 @@ only_one id [] only = cc
 only_one id (other ∷ []) only = ap (λ i. i ∷ []) (sym ((bytes_eq-Decides id other).0 only))
 only_one id (other ∷ another ∷ rest) only = cc
 
--- whether a word means a package alone, where it is an ID
-pub alone_by_id : (packages : List PackageRecord) (word id : List ℕ) → has_id word packages ≡ true → is_only id (meant packages word) ≡ bytes_eq id word
-alone_by_id packages word id has = ap (λ b. is_only id (if b then word ∷ [] else called packages word)) has
-
--- and where it is none
-pub alone_by_name : (packages : List PackageRecord) (word id : List ℕ) → has_id word packages ≡ false → is_only id (meant packages word) ≡ is_only id (called packages word)
-alone_by_name packages word id has = ap (λ b. is_only id (if b then word ∷ [] else called packages word)) has
-
 -- what is printed for a package means its ID alone
 printed_means : (packages : List PackageRecord) (r : PackageRecord) → has_id r.id packages ≡ true → meant packages (printed packages r) ≡ r.id ∷ []
 printed_means packages r has = by (is_only r.id (meant packages (name_of r))) refl (is_only r.id (meant packages (full_name_of r))) refl

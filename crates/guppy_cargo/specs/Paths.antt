@@ -1,10 +1,7 @@
 -- Paths that a file has.
-use Rattle.std.specs.Prelude.{ℕ, ◌==◌, List, [], ◌∷◌, Bool, true, false, not}
+use Rattle.std.specs.Prelude.{ℕ, ◌==◌, List, not}
 use Rattle.std.specs.List.{filter, slice_split}
-
-abbrev pub is_empty : List ℕ → Bool
-is_empty [] = true
-is_empty (b ∷ bs) = false
+use Rattle.guppy_program.specs.Text.{is_empty}
 
 -- what stands before, between and after NULs, where that is anything
 abbrev pub paths_of : List ℕ → List (List ℕ)
