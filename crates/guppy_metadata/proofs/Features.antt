@@ -1,21 +1,19 @@
--- What the text of a feature switches on, by how it is cut, and that no feature has the name of one before it.
-use Rattle.std.proofs.Common.{ℕ, true, false, cond, List, [], ◌∷◌, ◌++◌, ◌≡◌, ◌∙◌, None, Some, String, Vec, refl, sym, ap, true≢false, codes, append_assoc}
+-- What the text of a feature switches on, by how it is cut, and features named one by one.
+use Rattle.std.proofs.Common.{ℕ, ◌+◌, ◌<◌, Bool, true, false, List, [], ◌∷◌, ◌++◌, ◌≡◌, ◌∙◌, String, Vec, take, length, get_or, refl, sym, ap, subst, codes, append_assoc, if◌then◌else◌}
 use Rattle.std.specs.declared.alloc.Global.{Global}
-use Rattle.std.specs.List.{AllZip, AllByRecursion}
-use Rattle.std.specs.List.Sorted.{IsStrictlySortedBy}
-use Rattle.std.specs.Map.{lookup, keys_of}
-use Rattle.std.specs.Ordering.{is_eq}
+use Rattle.std.specs.Borrow.{Bor}
+use Rattle.std.specs.List.{AllZip}
 use Rattle.std.specs.Str.{bytes_eq}
-use Rattle.std.specs.declared.cmp.Ordering.TheVariants.{Less}
-use Rattle.std.proofs.lemmas.Bool.{false_from_ne_true}
-use Rattle.std.proofs.lemmas.Map.Text.{is_eq-slice_cmp}
-use Rattle.std.proofs.lemmas.Slice.Eq.{bytes_eq-Decides}
-use Rattle.std.specs.String.{string_bytes, string_eq, string_cmp}
-use Rattle.serde_json.specs.declared.value.Value.{Value}
+use Rattle.std.specs.String.{string_bytes, string_eq}
+use Rattle.indexmap.specs.IndexMap.{insert_entry}
+use Rattle.json.specs.Json.{Json}
+use Rattle.json.specs.Value.{value_view, members_view}
+use Rattle.json.specs.declared.value.Value.{Value}
 use Rattle.guppy_data.specs.Texts.{named_feature_text}
 use Rattle.guppy_data.specs.declared.texts.named_feature.NamedFeatureDep.{NamedFeatureDep}
 use Rattle.guppy_data.specs.declared.texts.named_feature.NamedFeatureDep.TheVariants.{NamedFeature, OptionalDependency, DependencyNamedFeature}
-use Rattle.guppy_metadata.specs.Feature.{IsFeature, IsNamedFeature}
+use Rattle.guppy_metadata.specs.Feature.{IsFeature, IsNamedFeature, once_behind, each_once}
+use Rattle.guppy_metadata.proofs.Fitting.{take_with}
 
 -- what is printed is the text
 pub printed-is : (text : List ℕ) (d : NamedFeatureDep) → IsFeature text d → named_feature_text d ≡ text
@@ -26,24 +24,37 @@ printed-is text (DependencyNamedFeature name f false) h =
 printed-is text (DependencyNamedFeature name f true) h =
     sym (h.1.0 ∙ ap (λ l. l ++ (codes "/" ++ string_bytes f)) h.2 ∙ append_assoc (string_bytes name) (codes "?") (codes "/" ++ string_bytes f))
 
-apart : (a b : String Global) → string_cmp a b ≡ Less → string_eq b a ≡ false
-apart a b less = false_from_ne_true (string_eq b a) (λ same.
-    let text : string_bytes b ≡ string_bytes a = (bytes_eq-Decides (string_bytes b) (string_bytes a)).0 same in
-    let again : bytes_eq (string_bytes a) (string_bytes b) ≡ true = (bytes_eq-Decides (string_bytes a) (string_bytes b)).1 (sym text) in
-    true≢false (sym again ∙ (sym (is_eq-slice_cmp (string_bytes a) (string_bytes b)) ∙ ap is_eq less)))
+-- one more member is put in its place
+once_behind-push : (seen : List (List ℕ × Json)) (ms : List (Bor (List ℕ) × Value Global)) (m : Bor (List ℕ) × Value Global)
+    → once_behind seen (members_view (ms ++ m ∷ [])) ≡ insert_entry bytes_eq (once_behind seen (members_view ms)) m.0.now (value_view m.1)
+once_behind-push seen [] m = refl
+once_behind-push seen (x ∷ ms) m = once_behind-push (insert_entry bytes_eq seen x.0.now (value_view x.1)) ms m
 
-holds_behind : (P : String Global → Type 0) (front : List (String Global × Value)) (m : String Global × Value) (rest : List (String Global × Value)) → AllByRecursion P (keys_of (front ++ m ∷ rest)) → P m.0
-holds_behind P [] m rest all = all.0
-holds_behind P (n ∷ front) m rest all = holds_behind P front m rest all.1
+same_named : (e : List ℕ × Json) (f g : String Global × Vec NamedFeatureDep Global) (name : List ℕ) (value : Json) → IsNamedFeature e f → IsNamedFeature (name, value) g → IsNamedFeature (e.0, value) (f.0, g.1)
+same_named e f g name value old new = record { name = old.name; texts = new.texts; texts_are = new.texts_are; switches_on = new.switches_on }
 
--- the name of a member is not among the features that the members in front of it are
-pub is_new : (front : List (String Global × Value)) (m : String Global × Value) (rest : List (String Global × Value)) (features : List (String Global × Vec NamedFeatureDep Global)) (name : String Global)
-    → IsStrictlySortedBy string_cmp (keys_of (front ++ m ∷ rest)) → AllZip IsNamedFeature front features → string_bytes name ≡ string_bytes m.0 → lookup (string_eq name) features ≡ None
-unfolding IsStrictlySortedBy
-is_new [] m rest [] name sorted fit is = refl
-is_new [] m rest (f ∷ features) name sorted fit is = absurd fit
-is_new (n ∷ front) m rest [] name sorted fit is = absurd fit
-is_new (n ∷ front) m rest (f ∷ features) name sorted fit is =
-    let before : string_cmp n.0 m.0 ≡ Less = holds_behind (λ key. string_cmp n.0 key ≡ Less) front m rest sorted.0 in
-    let other : string_eq name f.0 ≡ false = ap (λ text. bytes_eq text (string_bytes f.0)) is ∙ (ap (bytes_eq (string_bytes m.0)) fit.0.name ∙ apart n.0 m.0 before) in
-    ap (λ b. cond b (Some f.1) (lookup (string_eq name) features)) other ∙ is_new front m rest features name sorted.1 fit.1 is
+-- a member and its feature, each put in its place
+fits_inserted : (es : List (List ℕ × Json)) (fs : List (String Global × Vec NamedFeatureDep Global)) (name : List ℕ) (value : Json) (g : String Global × Vec NamedFeatureDep Global)
+    → AllZip IsNamedFeature es fs → IsNamedFeature (name, value) g → AllZip IsNamedFeature (insert_entry bytes_eq es name value) (insert_entry string_eq fs g.0 g.1)
+fits_inserted [] [] name value g fit is = (is, tt)
+fits_inserted [] (f ∷ fs) name value g fit is = absurd fit
+fits_inserted (e ∷ es) [] name value g fit is = absurd fit
+fits_inserted (e ∷ es) (f ∷ fs) name value g fit is = by (bytes_eq name e.0) refl (fits_inserted es fs name value g fit.1 is)
+  where
+    same_test : string_eq g.0 f.0 ≡ bytes_eq name e.0
+    same_test = ap (λ text. bytes_eq text (string_bytes f.0)) is.name ∙ ap (bytes_eq name) fit.0.name
+
+    Fits : Bool → Bool → Type 0
+    Fits here there = AllZip IsNamedFeature (if here then (e.0, value) ∷ es else e ∷ insert_entry bytes_eq es name value) (if there then (f.0, g.1) ∷ fs else f ∷ insert_entry string_eq fs g.0 g.1)
+
+    by : (same : Bool) → bytes_eq name e.0 ≡ same → AllZip IsNamedFeature (insert_entry bytes_eq es name value) (insert_entry string_eq fs g.0 g.1) → Fits (bytes_eq name e.0) (string_eq g.0 f.0)
+    by true same rest = subst (λ b. Fits b (string_eq g.0 f.0)) (sym same) (subst (Fits true) (sym (same_test ∙ same)) (same_named e f g name value fit.0 is, fit.1))
+    by false same rest = subst (λ b. Fits b (string_eq g.0 f.0)) (sym same) (subst (Fits false) (sym (same_test ∙ same)) (fit.0, rest))
+
+-- the features of the first members, and of one more
+pub named_more : (ms : List (Bor (List ℕ) × Value Global)) (k : ℕ) (m other : Bor (List ℕ) × Value Global) (fs : List (String Global × Vec NamedFeatureDep Global)) (g : String Global × Vec NamedFeatureDep Global)
+    → k < length ms → m ≡ get_or ms k other → AllZip IsNamedFeature (each_once (members_view (take k ms))) fs → IsNamedFeature (m.0.now, value_view m.1) g
+    → AllZip IsNamedFeature (each_once (members_view (take (k + 1) ms))) (insert_entry string_eq fs g.0 g.1)
+named_more ms k m other fs g low at fit is =
+    let taken = ap (λ l. each_once (members_view l)) (take_with ms k m other low at) ∙ once_behind-push [] (take k ms) m in
+    subst (λ es. AllZip IsNamedFeature es (insert_entry string_eq fs g.0 g.1)) (sym taken) (fits_inserted (each_once (members_view (take k ms))) fs m.0.now (value_view m.1) g fit is)

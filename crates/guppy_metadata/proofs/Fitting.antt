@@ -5,7 +5,7 @@ use Rattle.std.proofs.lemmas.List.{map_push, take_more}
 use Rattle.indexmap.proofs.SetLemmas.{AllZip-push, filter_keep, filter_skip}
 
 -- the first items and the next one
-take_with : {A : Type 0} (items : List A) (k : ℕ) (item other : A) → k < length items → item ≡ get_or items k other → take (k + 1) items ≡ take k items ++ item ∷ []
+pub take_with : {A : Type 0} (items : List A) (k : ℕ) (item other : A) → k < length items → item ≡ get_or items k other → take (k + 1) items ≡ take k items ++ item ∷ []
 take_with items k item other low is = take_more items k other low ∙ ap (λ v. take k items ++ v ∷ []) (sym is)
 
 -- what the first items are seen as, and the next one

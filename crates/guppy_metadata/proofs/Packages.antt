@@ -1,50 +1,64 @@
--- Packages of workspaces whose members are told in two ways, and packages by their IDs.
-use Rattle.std.proofs.Common.{◌≡◌, ◌∙◌, ℕ, ◌+◌, ◌<◌, Bool, true, false, cond, List, [], ◌∷◌, ◌++◌, Option, None, Some, filter, take, length, get_or, slice_get, option_and_then, refl, sym, ap, codes}
+-- Packages' records, of what is told of each, and packages by their IDs.
+use Rattle.std.proofs.Common.{◌≡◌, ◌∙◌, ℕ, ◌+◌, ◌<◌, Bool, true, false, cond, List, [], ◌∷◌, ◌++◌, Option, None, Some, filter, take, length, get_or, slice_get, option_and_then, refl, sym, ap, subst, codes}
 use Rattle.std.specs.List.{AllZip, last_or}
 use Rattle.std.specs.Str.{bytes_eq}
 use Rattle.std.proofs.lemmas.Option.{slice_get-get_or}
-use Rattle.serde_json.specs.Data.{Data, array}
-use Rattle.serde_json.specs.Find.{get}
-use Rattle.serde_json.specs.View.{items_of}
+use Rattle.std.specs.Option.{option_copied}
+use Rattle.std.specs.Prelude.{IsSomeAnd, unwrap_or}
+use Rattle.json.specs.Json.{Json, string}
+use Rattle.json.specs.Find.{get, as_str}
 use Rattle.guppy_data.specs.declared.records.PackageRecord.{PackageRecord}
-use Rattle.guppy_data.specs.declared.records.PackageSourceRecord.{PackageSourceRecord}
-use Rattle.guppy_data.specs.declared.records.PackageSourceRecord.TheVariants.{Workspace, Path, External}
 use Rattle.guppy_metadata.specs.declared.package.Package.{Package}
-use Rattle.guppy_metadata.specs.Members.{is_among}
-use Rattle.guppy_metadata.specs.Package.{IsFrom, IsPackage, ArePackagesOf, with_id}
+use Rattle.guppy_metadata.specs.Dependency.{NamesOptional}
+use Rattle.guppy_metadata.specs.Members.{is_among, list_of}
+use Rattle.guppy_metadata.specs.Package.{IsFrom, IsTold, AreTold, IsRecordOf, IsPackage, ArePackages, with_id}
 use Rattle.guppy_metadata.proofs.Fitting.{picked_more, passed_over}
 
-module _ (known told : List ℕ → Bool) (same : (id : List ℕ) → known id ≡ told id) where
-  from_same : (id : List ℕ) (d : Data) (source : PackageSourceRecord) → IsFrom known id d source → IsFrom told id d source
-  from_same id d (Workspace path) from = sym (same id) ∙ from
-  from_same id d (External source) from = (sym (same id) ∙ from.0, from.1)
-  from_same id d (Path path) from = (sym (same id) ∙ from.0, from.1)
+module _ {A : Type 0} {P Q : A → Type 0} where
+  some_and : (o : Option A) → ((a : A) → P a → Q a) → IsSomeAnd o P → IsSomeAnd o Q
+  some_and None implies holds = holds
+  some_and (Some a) implies holds = implies a holds
 
-  package_same : (d : Data) (r : PackageRecord) → IsPackage known d r → IsPackage told d r
-  package_same d r is = record {
-    named = record {
-      id = is.named.id;
-      name = is.named.name;
-      version = is.named.version;
-      source = from_same r.id d r.source is.named.source;
-      manifest_path = is.named.manifest_path;
-      edition = is.named.edition;
-    };
-    described = is.described;
-    filled = is.filled;
-    optional = is.optional;
-  }
+abbrev text_of : Option Json → List ℕ
+text_of None = []
+text_of (Some d) = unwrap_or (as_str d) []
 
-  packages_same : (ds : List Data) (rs : List PackageRecord) → AllZip (IsPackage known) ds rs → AllZip (IsPackage told) ds rs
-  packages_same [] [] all = all
-  packages_same [] (r ∷ rs) all = absurd all
-  packages_same (d ∷ ds) [] all = absurd all
-  packages_same (d ∷ ds) (r ∷ rs) all = (package_same d r all.0, packages_same ds rs all.1)
+-- a package's record, in a workspace of which a set has the members
+module _ (root : List ℕ) (known told : List ℕ → Bool) (same : (id : List ℕ) → known id ≡ told id) where
+  record_is : (d : Json) (p : Package) (r : PackageRecord) → IsTold d p → IsRecordOf root known p r → IsPackage root told d r
+  record_is d p r tells is =
+      let named = is.named d tells.named in
+      let id : p.id.now ≡ r.id = ap text_of (sym tells.id ∙ named.id) in
+      record {
+        named = named;
+        described = is.described d tells.described;
+        filled = is.filled d tells.filled;
+        optional = some_and (get (codes "dependencies") d) (λ list are. (p.declared.items, are, subst (NamesOptional p.declared.items) (sym is.optional) tells.optional)) tells.declared;
+        source = option_copied p.source;
+        source_is = tells.source;
+        comes_from = subst (λ is_member. IsFrom root r.manifest_path is_member (option_copied p.source) r.source) (ap known id ∙ same r.id) is.source;
+      }
 
--- the packages are those of a workspace with these members, where a set tells which they are
-pub packages_known : (known : List ℕ → Bool) (members : List (List ℕ)) → ((id : List ℕ) → known id ≡ is_among members id) → (d : Data) (items : List Data) (records : List PackageRecord)
-    → get (codes "packages") d ≡ Some (array (items_of items)) → AllZip (IsPackage known) items records → ArePackagesOf members d records
-packages_known known members same d items records at all = (items, at, packages_same known (is_among members) same items records all)
+  records_are : (ds : List Json) (ps : List Package) (rs : List PackageRecord) → AllZip IsTold ds ps → AllZip (IsRecordOf root known) ps rs → AllZip (IsPackage root told) ds rs
+  records_are [] [] [] tells are = tt
+  records_are [] [] (r ∷ rs) tells are = absurd are
+  records_are [] (p ∷ ps) rs tells are = absurd tells
+  records_are (d ∷ ds) [] rs tells are = absurd tells
+  records_are (d ∷ ds) (p ∷ ps) [] tells are = absurd are
+  records_are (d ∷ ds) (p ∷ ps) (r ∷ rs) tells are = (record_is d p r tells.0 are.0, records_are ds ps rs tells.1 are.1)
+
+-- the records of all packages that the JSON tells
+pub packages_are : (d : Json) (root path : List ℕ) (members : List (List ℕ)) (known : List ℕ → Bool) (packages : List Package) (records : List PackageRecord)
+    → path ≡ root → ((id : List ℕ) → known id ≡ is_among members id) → get (codes "workspace_root") d ≡ Some (string root) → get (codes "workspace_members") d ≡ Some (list_of members)
+    → AreTold d packages → AllZip (IsRecordOf path known) packages records → ArePackages d records
+packages_are d root path members known packages records path_is same root_is members_are tells are = (
+  root,
+  members,
+  root_is,
+  members_are,
+  some_and (get (codes "packages") d)
+      (λ list is. (is.0, is.1, records_are root known (is_among members) same is.0 packages records is.2 (subst (λ at. AllZip (IsRecordOf at known) packages records) path_is are))) tells,
+)
 
 last_pushed : {A : Type 0} (o : Option A) (xs : List A) (x : A) → last_or o (xs ++ x ∷ []) ≡ Some x
 last_pushed o [] x = refl

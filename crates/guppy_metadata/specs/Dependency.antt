@@ -6,8 +6,8 @@ use Rattle.std.specs.Option.{option_copied}
 use Rattle.semver.specs.Identifiers.{comparator_view}
 use Rattle.semver.specs.Parse.{req_of}
 use Rattle.semver.specs.declared.VersionReq.{VersionReq}
-use Rattle.serde_json.specs.Data.{Data, string}
-use Rattle.serde_json.specs.Find.{get}
+use Rattle.json.specs.Json.{Json, string}
+use Rattle.json.specs.Find.{get}
 use Rattle.indexmap.specs.IndexSet.{IndexSet, contains_text}
 use Rattle.guppy_data.specs.declared.texts.dependency_kind.DependencyKind.{DependencyKind}
 use Rattle.guppy_data.specs.declared.texts.dependency_kind.DependencyKind.TheVariants.{Normal, Development, Build}
@@ -15,18 +15,18 @@ use Rattle.guppy_metadata.specs.declared.declared.Declared.{Declared}
 use Rattle.guppy_metadata.specs.Members.{IsText, IsTruth, IsListOf, AreTexts, is_among}
 
 -- the section that the member `kind` names: the normal one where there is none
-abbrev pub NamesSection : Data → DependencyKind → Type 0
+abbrev pub NamesSection : Json → DependencyKind → Type 0
 NamesSection d Normal = IsText (codes "kind") d None ⊎ IsText (codes "kind") d (Some (codes "normal"))
 NamesSection d Development = IsText (codes "kind") d (Some (codes "dev"))
 NamesSection d Build = IsText (codes "kind") d (Some (codes "build"))
 
 -- the requirement that the text of the member `req` is
-abbrev pub NamesRequirement : Data → VersionReq → Type 0
+abbrev pub NamesRequirement : Json → VersionReq → Type 0
 NamesRequirement d req = (text : List ℕ) × (get (codes "req") d ≡ Some (string text))
     × (req_of text ≡ Ok (map comparator_view req.comparators.items))
 
 -- a declared dependency
-pub record IsDeclared (d : Data) (x : Declared) : Type 0 where
+pub record IsDeclared (d : Json) (x : Declared) : Type 0 where
   pub name : get (codes "name") d ≡ Some (string x.name.now)
   pub rename : IsText (codes "rename") d (option_copied x.rename)
   pub requirement : NamesRequirement d x.requirement
@@ -51,5 +51,5 @@ abbrev pub NamesOptional : {S : Type 0} → List Declared → IndexSet (String G
 NamesOptional declared names = (name : List ℕ) → contains_text names name ≡ is_among (filter_map optional_name declared) name
 
 -- these are the names of the optional ones among the dependencies of a list
-abbrev pub AreOptional : {S : Type 0} → Data → IndexSet (String Global) S → Type 0
+abbrev pub AreOptional : {S : Type 0} → Json → IndexSet (String Global) S → Type 0
 AreOptional d names = (declared : List Declared) × IsListOf IsDeclared d declared × NamesOptional declared names

@@ -1,10 +1,11 @@
 -- What the text of a feature switches on.
-use Rattle.std.specs.Prelude.{ℕ, Bool, true, false, List, ◌++◌, ◌≡◌, ◌≢◌, String, Vec, codes}
+use Rattle.std.specs.Prelude.{ℕ, Bool, true, false, List, [], ◌++◌, ◌≡◌, ◌≢◌, String, Vec, codes}
 use Rattle.std.specs.List.{AllZip}
 use Rattle.std.specs.declared.alloc.Global.{Global}
-use Rattle.serde_json.specs.View.{view}
-use Rattle.serde_json.specs.declared.value.Value.{Value}
+use Rattle.std.specs.Str.{bytes_eq}
 use Rattle.std.specs.String.{string_bytes}
+use Rattle.indexmap.specs.IndexMap.{insert_entry}
+use Rattle.json.specs.Json.{Json, object, Members, no_members, member}
 use Rattle.guppy_data.specs.ExternalSource.{Lacks, IsCutAt}
 use Rattle.guppy_data.specs.declared.texts.named_feature.NamedFeatureDep.{NamedFeatureDep}
 use Rattle.guppy_data.specs.declared.texts.named_feature.NamedFeatureDep.TheVariants.{NamedFeature, OptionalDependency, DependencyNamedFeature}
@@ -27,8 +28,21 @@ IsFeature text (NamedFeature name) = Lacks (codes "/") text
     × ((rest : List ℕ) → text ≢ codes "dep:" ++ rest) × (text ≡ string_bytes name)
 
 -- the feature that a member is: its name, and what the texts of its list switch on
-pub record IsNamedFeature (m : String Global × Value) (f : String Global × Vec NamedFeatureDep Global) : Type 0 where
-  pub name : string_bytes f.0 ≡ string_bytes m.0
+pub record IsNamedFeature (m : List ℕ × Json) (f : String Global × Vec NamedFeatureDep Global) : Type 0 where
+  pub name : string_bytes f.0 ≡ m.0
   pub texts : List (List ℕ)
-  pub texts_are : view m.1 ≡ list_of texts
+  pub texts_are : m.1 ≡ list_of texts
   pub switches_on : AllZip IsFeature texts f.1.items
+
+-- what was seen, with each of these members put in its place, or behind the others where its name is new
+abbrev pub once_behind : List (List ℕ × Json) → Members → List (List ℕ × Json)
+once_behind seen no_members = seen
+once_behind seen (member name value rest) = once_behind (insert_entry bytes_eq seen name value) rest
+
+-- the members, each name once, where it first stands, with the value that it has last
+abbrev pub each_once : Members → List (List ℕ × Json)
+each_once = once_behind []
+
+-- the features that the members of an object are, each name once
+abbrev pub AreFeatures : Json → List (String Global × Vec NamedFeatureDep Global) → Type 0
+AreFeatures d features = (members : Members) × (d ≡ object members) × AllZip IsNamedFeature (each_once members) features

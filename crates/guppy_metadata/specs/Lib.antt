@@ -6,5 +6,8 @@ pub mod Gathered
 pub mod Links
 pub mod Members
 pub mod Package
+pub mod Path
+pub mod PathText
+pub mod Table
 pub mod Target
 pub mod Workspace

@@ -1,10 +1,10 @@
 -- What the JSON says of links.
-use Rattle.std.specs.Prelude.{◌≡◌, ℕ, List, [], Option, Some, None, IsSomeAnd, filter, map, string_bytes, codes}
+use Rattle.std.specs.Prelude.{◌≡◌, ℕ, List, [], Option, Some, None, IsSomeAnd, option_and_then, filter, string_bytes, codes}
 use Rattle.std.specs.List.{AllZip, flat_map}
 use Rattle.std.specs.Option.{option_copied}
-use Rattle.serde_json.specs.Data.{Data, string, array}
-use Rattle.serde_json.specs.Find.{get}
-use Rattle.serde_json.specs.View.{items_of}
+use Rattle.json.specs.Json.{Json, string, array}
+use Rattle.json.specs.Find.{get}
+use Rattle.json.specs.Value.{items_of}
 use Rattle.guppy_data.specs.declared.records.LinkRecord.{LinkRecord}
 use Rattle.guppy_metadata.specs.declared.link.Resolved.{Resolved}
 use Rattle.guppy_metadata.specs.declared.link.Usage.{Usage}
@@ -13,7 +13,7 @@ use Rattle.guppy_metadata.specs.Dependency.{NamesSection}
 use Rattle.guppy_metadata.specs.Fits.{fits}
 use Rattle.guppy_metadata.specs.Gathered.{IsGathered, IsMadeOf}
 use Rattle.guppy_metadata.specs.Members.{IsText, IsListOf}
-use Rattle.guppy_metadata.specs.Package.{ArePackages, Declares, with_id}
+use Rattle.guppy_metadata.specs.Package.{AreTold, with_id}
 
 -- the link leads from one ID to another, and has this name in the code
 pub record Joins (from to name : List ℕ) (r : LinkRecord) : Type 0 where
@@ -22,12 +22,12 @@ pub record Joins (from to name : List ℕ) (r : LinkRecord) : Type 0 where
   pub name_is : string_bytes r.resolved_name ≡ name
 
 -- a section and the platforms that a dependency is used for
-pub record IsUsage (d : Data) (x : Usage) : Type 0 where
+pub record IsUsage (d : Json) (x : Usage) : Type 0 where
   pub section : NamesSection d x.section
   pub target : IsText (codes "target") d (option_copied x.target)
 
 -- a resolved dependency: its ID, its name in the code, and what it is used for
-pub record IsResolved (d : Data) (x : Resolved) : Type 0 where
+pub record IsResolved (d : Json) (x : Resolved) : Type 0 where
   pub id_is : get (codes "pkg") d ≡ Some (string x.id.now)
   pub name_is : get (codes "name") d ≡ Some (string x.name.now)
   pub usages_are : IsSomeAnd (get (codes "dep_kinds") d) (λ told. IsListOf IsUsage told x.usages.items)
@@ -47,37 +47,34 @@ IsAsked (Some asking) None from resolved r = IsUnasked resolved.name.now r
 IsAsked None needed from resolved r = IsUnasked resolved.name.now r
 
 -- the link from this ID that the dependency is
-pub record IsLink (packages : List Package) (from : List ℕ) (d : Data) (r : LinkRecord) : Type 0 where
+pub record IsLink (packages : List Package) (from : List ℕ) (d : Json) (r : LinkRecord) : Type 0 where
   pub resolved : Resolved
   pub resolved_is : IsResolved d resolved
   pub joins : Joins from resolved.id.now resolved.name.now r
   pub asked : IsAsked (with_id from packages) (with_id resolved.id.now packages) from resolved r
 
 -- the links that leave the package of a node: one for each of its dependencies, in their order
-pub record AreLinksOf (packages : List Package) (d : Data) (links : List LinkRecord) : Type 0 where
+pub record AreLinksOf (packages : List Package) (d : Json) (links : List LinkRecord) : Type 0 where
   pub id : List ℕ
   pub id_is : get (codes "id") d ≡ Some (string id)
-  pub deps : List Data
-  pub deps_are : get (codes "deps") d ≡ Some (array (items_of deps))
-  pub links_are : AllZip (IsLink packages id) deps links
+  pub links_are : IsSomeAnd (get (codes "deps") d) (λ deps. IsListOf (IsLink packages id) deps links)
 
 -- the links of all nodes, one row behind the other
-pub record AreLinksOfAll (packages : List Package) (nodes : List Data) (links : List LinkRecord) : Type 0 where
+pub record AreLinksOfAll (packages : List Package) (nodes : List Json) (links : List LinkRecord) : Type 0 where
   pub rows : List (List LinkRecord)
   pub rows_are : AllZip (AreLinksOf packages) nodes rows
   pub all : links ≡ flat_map (λ row. row) rows
 
+-- the links of all nodes of a list
+abbrev pub AreLinksOfList : List Package → Json → List LinkRecord → Type 0
+AreLinksOfList packages told links = (nodes : List Json) × (told ≡ array (items_of nodes)) × AreLinksOfAll packages nodes links
+
 -- the nodes of the resolved dependencies
-pub record AreNodes (d : Data) (nodes : List Data) : Type 0 where
-  pub resolve : Data
-  pub resolve_is : get (codes "resolve") d ≡ Some resolve
-  pub nodes_are : get (codes "nodes") resolve ≡ Some (array (items_of nodes))
+abbrev pub nodes_in : Json → Option Json
+nodes_in d = option_and_then (get (codes "nodes")) (get (codes "resolve") d)
 
 -- the links of what is resolved, between the packages
-pub record AreLinks (d : Data) (links : List LinkRecord) : Type 0 where
+pub record AreLinks (d : Json) (links : List LinkRecord) : Type 0 where
   pub packages : List Package
-  pub records_are : ArePackages d (map (λ p. p.record) packages)
-  pub declare : IsSomeAnd (get (codes "packages") d) (λ told. IsListOf Declares told packages)
-  pub nodes : List Data
-  pub nodes_are : AreNodes d nodes
-  pub links_are : AreLinksOfAll packages nodes links
+  pub packages_are : AreTold d packages
+  pub links_are : IsSomeAnd (nodes_in d) (λ nodes. AreLinksOfList packages nodes links)

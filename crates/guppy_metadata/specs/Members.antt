@@ -4,16 +4,16 @@ use Rattle.std.specs.Borrow.{Bor}
 use Rattle.std.specs.List.{AllZip, list_any}
 use Rattle.std.specs.Str.{bytes_eq}
 use Rattle.indexmap.specs.IndexSet.{IndexSet, contains_by}
-use Rattle.serde_json.specs.Data.{Data, null, boolean, number, string, array, object}
-use Rattle.serde_json.specs.Find.{get}
-use Rattle.serde_json.specs.View.{view, items_of}
+use Rattle.json.specs.Json.{Json, null, boolean, number, string, array, object}
+use Rattle.json.specs.Find.{get}
+use Rattle.json.specs.Value.{value_view, items_of}
 use Rattle.guppy_metadata.specs.declared.object.Object.{Object}
 
 -- the value of an object
-abbrev pub data_of : Object → Data
-data_of o = view o.value.now
+abbrev pub data_of : Object → Json
+data_of o = value_view o.value.now
 
-abbrev pub unless_null : Data → Option Data
+abbrev pub unless_null : Json → Option Json
 unless_null null = None
 unless_null (boolean b) = Some (boolean b)
 unless_null (number n) = Some (number n)
@@ -22,15 +22,15 @@ unless_null (array ds) = Some (array ds)
 unless_null (object ms) = Some (object ms)
 
 -- the member of this name, where there is one that isn't null
-abbrev pub present : List ℕ → Data → Option Data
+abbrev pub present : List ℕ → Json → Option Json
 present name d = option_and_then unless_null (get name d)
 
 -- this is the text in the member of this name, where there is one that isn't null
-abbrev pub IsText : List ℕ → Data → Option (List ℕ) → Type 0
+abbrev pub IsText : List ℕ → Json → Option (List ℕ) → Type 0
 IsText name d text = present name d ≡ option_map string text
 
 -- this is the truth value in the member of this name, or the default where there is none
-abbrev pub IsTruth : List ℕ → Data → Bool → Bool → Type 0
+abbrev pub IsTruth : List ℕ → Json → Bool → Bool → Type 0
 IsTruth name d default truth = (present name d ≡ Some (boolean truth)) ⊎ ((present name d ≡ None) × (truth ≡ default))
 
 -- whether the text is one of these
@@ -42,18 +42,18 @@ abbrev pub is_in : {S : Type 0} → IndexSet (Bor (List ℕ)) S → List ℕ →
 is_in set text = contains_by (λ key. bytes_eq text key.now) set
 
 -- the list whose items these are, each as R says
-abbrev pub IsListOf : {X : Type 0} → (Data → X → Type 0) → Data → List X → Type 0
-IsListOf R d xs = (items : List Data) × (d ≡ array (items_of items)) × AllZip R items xs
+abbrev pub IsListOf : {X : Type 0} → (Json → X → Type 0) → Json → List X → Type 0
+IsListOf R d xs = (items : List Json) × (d ≡ array (items_of items)) × AllZip R items xs
 
 -- the list of these texts
-abbrev pub list_of : List (List ℕ) → Data
+abbrev pub list_of : List (List ℕ) → Json
 list_of texts = array (items_of (map string texts))
 
 -- these are the items of the list in the member of this name; none where there is no list
-abbrev pub AreItems : List ℕ → Data → List Data → Type 0
+abbrev pub AreItems : List ℕ → Json → List Json → Type 0
 AreItems name d items = (present name d ≡ Some (array (items_of items)))
     ⊎ ((present name d ≡ None) × (items ≡ []))
 
 -- these are the texts of the list in the member of this name; none where there is no list
-abbrev pub AreTexts : List ℕ → Data → List (List ℕ) → Type 0
+abbrev pub AreTexts : List ℕ → Json → List (List ℕ) → Type 0
 AreTexts name d texts = AreItems name d (map string texts)

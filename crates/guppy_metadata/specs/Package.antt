@@ -1,47 +1,50 @@
 -- What the JSON of a package says.
-use Rattle.std.specs.Prelude.{◌≡◌, ◌==◌, ℕ, zero, suc, Bool, true, false, List, [], ◌++◌, Option, Some, None, IsSomeAnd, Ok, String, Vec, length, filter, map, option_map, option_and_then, unwrap_or, slice_get, string_bytes, codes}
-use Rattle.std.specs.declared.alloc.Global.{Global}
+use Rattle.std.specs.Prelude.{◌≡◌, ◌==◌, ℕ, zero, suc, Bool, true, false, List, [], ◌++◌, Option, Some, None, IsSomeAnd, Ok, length, filter, map, option_map, option_and_then, unwrap_or, slice_get, string_bytes, codes}
 use Rattle.std.specs.Borrow.{Bor}
-use Rattle.std.specs.List.{AllZip, last_or}
+use Rattle.std.specs.List.{last_or}
+use Rattle.std.specs.Option.{option_copied}
 use Rattle.std.specs.Str.{bytes_eq}
 use Rattle.indexmap.specs.IndexMap.{IndexMap, get_by}
 use Rattle.semver.specs.Identifiers.{parts_of}
 use Rattle.semver.specs.Parse.{version_parts}
 use Rattle.semver.specs.declared.Version.{Version}
-use Rattle.serde_json.specs.Data.{Data, null, string, array, object}
-use Rattle.serde_json.specs.Find.{get}
-use Rattle.serde_json.specs.View.{view, items_of, members_view}
-use Rattle.serde_json.specs.declared.value.Value.{Value}
+use Rattle.json.specs.Json.{Json, null, string}
+use Rattle.json.specs.Find.{get}
+use Rattle.serde_json.specs.View.{view}
 use Rattle.guppy_data.specs.declared.records.PackageRecord.{PackageRecord}
 use Rattle.guppy_data.specs.declared.records.PackagePublishRecord.{PackagePublishRecord}
 use Rattle.guppy_data.specs.declared.records.PackagePublishRecord.TheVariants.{Unrestricted, Registries}
 use Rattle.guppy_data.specs.declared.records.PackageSourceRecord.{PackageSourceRecord}
 use Rattle.guppy_data.specs.declared.records.PackageSourceRecord.TheVariants.{Workspace, Path, External}
-use Rattle.guppy_data.specs.declared.texts.named_feature.NamedFeatureDep.{NamedFeatureDep}
 use Rattle.guppy_metadata.specs.declared.package.Package.{Package}
-use Rattle.guppy_metadata.specs.Dependency.{IsDeclared, AreOptional}
-use Rattle.guppy_metadata.specs.Feature.{IsNamedFeature}
+use Rattle.guppy_metadata.specs.Dependency.{IsDeclared, NamesOptional, AreOptional}
+use Rattle.guppy_metadata.specs.Feature.{AreFeatures}
 use Rattle.guppy_metadata.specs.Members.{present, IsText, IsListOf, list_of, AreTexts, is_among}
+use Rattle.guppy_metadata.specs.Path.{IsFolderFrom}
+use Rattle.guppy_metadata.specs.Table.{IsTable}
 use Rattle.guppy_metadata.specs.Target.{IsTarget}
 
--- where a package with this ID comes from: a member of the workspace, another place that the JSON tells, or a path
-abbrev pub IsFrom : (List ℕ → Bool) → List ℕ → Data → PackageSourceRecord → Type 0
-IsFrom is_member id d (Workspace path) = is_member id ≡ true
-IsFrom is_member id d (External source) = (is_member id ≡ false) × IsText (codes "source") d (Some (string_bytes source))
-IsFrom is_member id d (Path path) = (is_member id ≡ false) × IsText (codes "source") d None
+-- where a package with this manifest comes from, in a workspace at the root: from a folder of it as its member,
+-- from another place that is told, or from a path
+abbrev pub IsFrom : List ℕ → List ℕ → Bool → Option (List ℕ) → PackageSourceRecord → Type 0
+IsFrom root manifest is_member told (Workspace folder) =
+    (is_member ≡ true) × IsFolderFrom root manifest folder
+IsFrom root manifest is_member told (External source) =
+    (is_member ≡ false) × (told ≡ Some (string_bytes source))
+IsFrom root manifest is_member told (Path folder) =
+    (is_member ≡ false) × (told ≡ None) × IsFolderFrom root manifest folder
 
 -- what each package has
-pub record IsNamed (is_member : List ℕ → Bool) (d : Data) (r : PackageRecord) : Type 0 where
+pub record IsNamed (d : Json) (r : PackageRecord) : Type 0 where
   pub id : get (codes "id") d ≡ Some (string r.id)
   pub name : get (codes "name") d ≡ Some (string (string_bytes r.name))
   pub version : (text : List ℕ) × (get (codes "version") d ≡ Some (string text))
       × (version_parts text ≡ Ok (parts_of r.version))
-  pub source : IsFrom is_member r.id d r.source
   pub manifest_path : get (codes "manifest_path") d ≡ Some (string r.manifest_path)
   pub edition : get (codes "edition") d ≡ Some (string (string_bytes r.edition))
 
 -- what is told of a package for people
-pub record IsDescribed (d : Data) (r : PackageRecord) : Type 0 where
+pub record IsDescribed (d : Json) (r : PackageRecord) : Type 0 where
   pub authors : AreTexts (codes "authors") d (map string_bytes r.authors.items)
   pub description : IsText (codes "description") d (option_map string_bytes r.description)
   pub license : IsText (codes "license") d (option_map string_bytes r.license)
@@ -54,7 +57,7 @@ pub record IsDescribed (d : Data) (r : PackageRecord) : Type 0 where
   pub documentation : IsText (codes "documentation") d (option_map string_bytes r.documentation)
 
 -- where the package may be published: everywhere where nothing is told
-abbrev pub IsPublishable : Data → PackagePublishRecord → Type 0
+abbrev pub IsPublishable : Json → PackagePublishRecord → Type 0
 IsPublishable d Unrestricted = present (codes "publish") d ≡ None
 IsPublishable d (Registries names) =
     present (codes "publish") d ≡ Some (list_of (map string_bytes names.items))
@@ -74,19 +77,14 @@ abbrev pub whole_version : List ℕ → List ℕ
 whole_version text = text ++ zeros_behind (dots_in text)
 
 -- the oldest Rust that builds a package, where one is told
-abbrev pub IsRustVersion : Data → Option Version → Type 0
+abbrev pub IsRustVersion : Json → Option Version → Type 0
 IsRustVersion d None = IsText (codes "rust_version") d None
 IsRustVersion d (Some version) = (text : List ℕ) × IsText (codes "rust_version") d (Some text)
     × (version_parts (whole_version text) ≡ Ok (parts_of version))
 
--- the features that the members of an object are, in their order
-abbrev pub AreFeatures : Data → List (String Global × Vec NamedFeatureDep Global) → Type 0
-AreFeatures d features = (members : List (String Global × Value))
-    × (d ≡ object (members_view members)) × AllZip IsNamedFeature members features
-
 -- what is told of a package for Cargo
-pub record IsFilled (d : Data) (r : PackageRecord) : Type 0 where
-  pub metadata_table : view r.metadata_table ≡ unwrap_or (get (codes "metadata") d) null
+pub record IsFilled (d : Json) (r : PackageRecord) : Type 0 where
+  pub metadata_table : IsTable (unwrap_or (get (codes "metadata") d) null) (view r.metadata_table)
   pub links : IsText (codes "links") d (option_map string_bytes r.links)
   pub publish : IsPublishable d r.publish
   pub default_run : IsText (codes "default_run") d (option_map string_bytes r.default_run)
@@ -94,22 +92,44 @@ pub record IsFilled (d : Data) (r : PackageRecord) : Type 0 where
   pub features : IsSomeAnd (get (codes "features") d) (λ told. AreFeatures told r.named_features.entries)
   pub targets : IsSomeAnd (get (codes "targets") d) (λ told. IsListOf IsTarget told r.build_targets.items)
 
--- a package's record, but for the folder that it lies in
-pub record IsPackage (is_member : List ℕ → Bool) (d : Data) (r : PackageRecord) : Type 0 where
-  pub named : IsNamed is_member d r
+-- a package as the JSON tells it, but for where it comes from
+pub record IsTold (d : Json) (p : Package) : Type 0 where
+  pub id : get (codes "id") d ≡ Some (string p.id.now)
+  pub source : IsText (codes "source") d (option_copied p.source)
+  pub named : IsNamed d p.record
+  pub described : IsDescribed d p.record
+  pub filled : IsFilled d p.record
+  pub declared : IsSomeAnd (get (codes "dependencies") d) (λ told. IsListOf IsDeclared told p.declared.items)
+  pub optional : NamesOptional p.declared.items p.record.optional_deps
+
+-- the packages that the JSON tells
+abbrev pub AreTold : Json → List Package → Type 0
+AreTold d packages = IsSomeAnd (get (codes "packages") d) (λ told. IsListOf IsTold told packages)
+
+-- the record of the package, in a workspace at the root of which these IDs are the members
+pub record IsRecordOf (root : List ℕ) (is_member : List ℕ → Bool) (p : Package) (r : PackageRecord) : Type 0 where
+  pub source : IsFrom root r.manifest_path (is_member p.id.now) (option_copied p.source) r.source
+  pub named : (d : Json) → IsNamed d p.record → IsNamed d r
+  pub described : (d : Json) → IsDescribed d p.record → IsDescribed d r
+  pub filled : (d : Json) → IsFilled d p.record → IsFilled d r
+  pub optional : r.optional_deps ≡ p.record.optional_deps
+
+-- a package's record, in a workspace at the root of which these IDs are the members
+pub record IsPackage (root : List ℕ) (is_member : List ℕ → Bool) (d : Json) (r : PackageRecord) : Type 0 where
+  pub named : IsNamed d r
   pub described : IsDescribed d r
   pub filled : IsFilled d r
   pub optional : IsSomeAnd (get (codes "dependencies") d) (λ told. AreOptional told r.optional_deps)
-
--- the packages, in their order, of a workspace with these members
-abbrev pub ArePackagesOf : List (List ℕ) → Data → List PackageRecord → Type 0
-ArePackagesOf members d records = (items : List Data) × (get (codes "packages") d ≡ Some (array (items_of items)))
-    × AllZip (IsPackage (is_among members)) items records
+  pub source : Option (List ℕ)
+  pub source_is : IsText (codes "source") d source
+  pub comes_from : IsFrom root r.manifest_path (is_member r.id) source r.source
 
 -- the packages, in their order
-abbrev pub ArePackages : Data → List PackageRecord → Type 0
-ArePackages d records = (members : List (List ℕ))
-    × (get (codes "workspace_members") d ≡ Some (list_of members)) × ArePackagesOf members d records
+abbrev pub ArePackages : Json → List PackageRecord → Type 0
+ArePackages d records = (root : List ℕ) × (members : List (List ℕ))
+    × (get (codes "workspace_root") d ≡ Some (string root))
+    × (get (codes "workspace_members") d ≡ Some (list_of members))
+    × IsSomeAnd (get (codes "packages") d) (λ told. IsListOf (IsPackage root (is_among members)) told records)
 
 -- the last package with this ID
 abbrev pub with_id : List ℕ → List Package → Option Package
@@ -119,8 +139,3 @@ with_id id packages = last_or None (filter (λ p. bytes_eq p.id.now id) packages
 abbrev pub ArePositions : {S : Type 0} → List Package → IndexMap (Bor (List ℕ)) ℕ S → Type 0
 ArePositions packages positions = (id : List ℕ)
     → option_and_then (slice_get packages) (get_by (λ key. bytes_eq id key.now) positions) ≡ with_id id packages
-
--- a package, and the dependencies that it declares
-pub record Declares (d : Data) (p : Package) : Type 0 where
-  pub id : get (codes "id") d ≡ Some (string p.id.now)
-  pub declared : IsSomeAnd (get (codes "dependencies") d) (λ told. IsListOf IsDeclared told p.declared.items)

@@ -1,7 +1,7 @@
 -- What the JSON of a build target says.
 use Rattle.std.specs.Prelude.{◌≡◌, ◌≢◌, ℕ, true, false, List, ◌∷◌, Option, Some, None, map, option_map, string_bytes, codes}
-use Rattle.serde_json.specs.Data.{Data, string}
-use Rattle.serde_json.specs.Find.{get}
+use Rattle.json.specs.Json.{Json, string}
+use Rattle.json.specs.Find.{get}
 use Rattle.guppy_data.specs.declared.records.BuildTargetRecord.{BuildTargetRecord}
 use Rattle.guppy_data.specs.declared.records.BuildTargetKindRecord.{BuildTargetKindRecord}
 use Rattle.guppy_data.specs.declared.records.BuildTargetKindRecord.TheVariants.{LibraryOrExample, ProcMacro, Binary as BinaryKind}
@@ -36,7 +36,7 @@ IsMadeOf (Example own) types kind = IsLibraryOf types kind
 IsMadeOf _ types kind = kind ≡ BinaryKind
 
 -- a target: of its kinds the first one counts, as a library has one for each of its crate types
-pub record IsTarget (d : Data) (r : BuildTargetRecord) : Type 0 where
+pub record IsTarget (d : Json) (r : BuildTargetRecord) : Type 0 where
   pub name : List ℕ
   pub name_is : get (codes "name") d ≡ Some (string name)
   pub kind : List ℕ

@@ -1,17 +1,16 @@
 //! A dependency as a package declares it.
-ghost use Rattle.std.specs.Prelude.{◌≡◌, unwrap_or, map, IfOk};
-ghost use Rattle.std.specs.List.{AllZip};
+ghost use Rattle.std.specs.Prelude.{◌≡◌, unwrap_or, IfOk};
 ghost use Rattle.std.specs.Option.{option_copied};
-ghost use Rattle.serde_json.specs.View.{view};
+ghost use Rattle.json.specs.Value.{value_view};
 ghost use Rattle.guppy_metadata.specs.Dependency.{IsDeclared, NamesSection, NamesOptional};
-ghost use Rattle.guppy_metadata.specs.Members.{data_of};
+ghost use Rattle.guppy_metadata.specs.Members.{data_of, IsListOf};
 
-use crate::fault::{Misfit, TextFault};
+use crate::fault::{Kind, Misfit, TextFault};
 use crate::object::{Object, requirement_of};
 use guppy_data::DependencyKind;
 use indexmap::IndexSet;
+use json::Value;
 use semver::{Version, VersionReq};
-use serde_json::Value;
 use std::alloc::{AllocError, Global};
 
 /// A dependency as a package declares it, with borrowed texts.
@@ -63,7 +62,7 @@ impl<'a> Declared<'a> {
 }
 
 /// The section that the text in the member `kind` names; `normal` where there is none.
-pub(crate) fn section_of(object: Object<'_>) -> Result<DependencyKind, Misfit>
+pub(crate) fn section_of(object: Object<'_, '_>) -> Result<DependencyKind, Misfit>
     ensures { IfOk result (NamesSection (data_of object.entry)) }
 {
     match object.optional_text("kind")? {
@@ -77,7 +76,7 @@ pub(crate) fn section_of(object: Object<'_>) -> Result<DependencyKind, Misfit>
     }
 }
 
-fn declared_of(dependency: Object<'_>) -> Result<Declared<'_>, Misfit>
+fn declared_of<'a>(dependency: Object<'_, 'a>) -> Result<Declared<'a>, Misfit>
     ensures { IfOk result (IsDeclared (data_of dependency.entry)) }
 {
     let requirement = dependency.text("req")?;
@@ -96,12 +95,15 @@ fn declared_of(dependency: Object<'_>) -> Result<Declared<'_>, Misfit>
 }
 
 /// The dependencies that the items of the list `dependencies` are.
-pub(crate) fn declared_dependencies(
+pub(crate) fn declared_dependencies<'a>(
     alloc: Global,
-    items: &[Value],
-) -> Result<Vec<Declared<'_>>, Misfit>
-    ensures { IfOk result (λ declared. AllZip IsDeclared (map view items.now) declared.items) }
+    value: &Value<'a>,
+) -> Result<Vec<Declared<'a>>, Misfit>
+    ensures { IfOk result (λ declared. IsListOf IsDeclared (value_view value.now) declared.items) }
 {
+    let Value::Array(items) = value else {
+        return Err(Misfit::wrong_kind(alloc, "dependencies", Kind::List));
+    };
     let mut declared = Vec::with_capacity(alloc, items.len())?;
     for (index, item) in items.iter().enumerate() {
         let dependency = Object::of_item(alloc, "dependencies", index, item)?;

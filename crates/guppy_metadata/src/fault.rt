@@ -1,6 +1,7 @@
 //! Why there are no records, and where in the JSON.
 ghost use Rattle.std.specs.Prelude.{◌≡◌};
-ghost use Rattle.guppy_metadata.specs.declared.fault.Misfit.TheVariants.{OutOfMemory};
+ghost use Rattle.guppy_metadata.specs.declared.fault.Misfit.TheVariants.{OutOfMemory as MisfitMemory};
+ghost use Rattle.guppy_metadata.specs.declared.fault.MetadataFault.TheVariants.{OutOfMemory};
 ghost use Rattle.guppy_metadata.specs.Fault.{IsNotJson, IsNotResolved};
 
 use std::alloc::{AllocError, AllocFailed, Global};
@@ -9,8 +10,8 @@ use std::fmt;
 /// Why a text says no records.
 #[derive(Debug, Drop)]
 pub enum MetadataFault {
-    /// The text is no JSON.
-    NotJson(serde_json::Error),
+    /// The text is no JSON: what stands at this line and column, both from one, belongs to none.
+    NotJson { line: usize, column: usize },
     /// The dependencies aren't resolved, as where Cargo is asked with `--no-deps`.
     NotResolved,
     /// Nothing stands at this place.
@@ -48,12 +49,14 @@ pub enum Kind {
 /// What is wrong with a text.
 #[derive(Debug, Drop)]
 pub enum TextFault {
-    /// It is no version.
-    NoVersion(semver::Error),
-    /// It is no requirement of versions.
-    NoRequirement(semver::Error),
+    /// It is no version, for this reason.
+    NoVersion(String),
+    /// It is no requirement of versions, for this reason.
+    NoRequirement(String),
     /// It is no kind of dependency.
     NoDependencyKind,
+    /// It has a number that no float holds.
+    NumberOutOfRange,
     /// It is the ID of no package.
     NoPackage,
     /// The package that it stands in declares no dependency that fits.
@@ -66,6 +69,29 @@ fn joined(alloc: Global, step: &str, inner: &str) -> Result<String, AllocError> 
         String::from_str(alloc, step)
     } else {
         format!(in alloc; "{step}.{inner}")
+    }
+}
+
+// The line and the column, both from one, at which the text goes on behind so many bytes.
+fn line_and_column(text: &str, offset: usize) -> (usize, usize) {
+    let mut place = (1usize, 1usize);
+    for byte in text.as_bytes().iter().take(offset) {
+        place = if *byte == b'\n' {
+            (place.0.saturating_add(1), 1)
+        } else {
+            (place.0, place.1.saturating_add(1))
+        };
+    }
+    place
+}
+
+impl MetadataFault {
+    /// The text is no JSON, as is seen behind so many bytes.
+    pub(crate) fn no_json(text: &str, offset: usize) -> Self
+        ensures { IsNotJson result }
+    {
+        let (line, column) = line_and_column(text, offset);
+        MetadataFault::NotJson { line, column }
     }
 }
 
@@ -125,19 +151,31 @@ impl Misfit {
 }
 
 impl fmt::Display for MetadataFault {
+    ghost use Rattle.std.specs.Prelude.{Some};
+    ghost use Rattle.guppy_metadata.specs.Fault.{fault_text};
+
+    ghost output = { λ x. Some (fault_text x) };
+
     fn fmt<W: fmt::Write>(&self, f: &mut fmt::Formatter<W>) -> fmt::Result {
         match self {
-            MetadataFault::NotJson(error) => write!(f, "no JSON: {error}"),
-            MetadataFault::NotResolved => write!(f, "resolve: no dependencies are resolved"),
+            MetadataFault::NotJson { line, column } => {
+                write!(f, "no JSON at line {line} column {column}")
+            }
+            MetadataFault::NotResolved => f.write_str("resolve: no dependencies are resolved"),
             MetadataFault::Missing(place) => write!(f, "{place}: missing"),
             MetadataFault::WrongKind(place, wanted) => write!(f, "{place}: no {wanted}"),
             MetadataFault::BadText(place, why) => write!(f, "{place}: {why}"),
-            MetadataFault::OutOfMemory => write!(f, "out of memory"),
+            MetadataFault::OutOfMemory => f.write_str("out of memory"),
         }
     }
 }
 
 impl fmt::Display for Kind {
+    ghost use Rattle.std.specs.Prelude.{Some};
+    ghost use Rattle.guppy_metadata.specs.Fault.{kind_text};
+
+    ghost output = { λ x. Some (kind_text x) };
+
     fn fmt<W: fmt::Write>(&self, f: &mut fmt::Formatter<W>) -> fmt::Result {
         f.write_str(match self {
             Kind::Object => "object",
@@ -149,13 +187,19 @@ impl fmt::Display for Kind {
 }
 
 impl fmt::Display for TextFault {
+    ghost use Rattle.std.specs.Prelude.{Some};
+    ghost use Rattle.guppy_metadata.specs.Fault.{text_fault_text};
+
+    ghost output = { λ x. Some (text_fault_text x) };
+
     fn fmt<W: fmt::Write>(&self, f: &mut fmt::Formatter<W>) -> fmt::Result {
         match self {
-            TextFault::NoVersion(error) => write!(f, "no version: {error}"),
-            TextFault::NoRequirement(error) => write!(f, "no requirement of versions: {error}"),
-            TextFault::NoDependencyKind => write!(f, "no kind of dependency"),
-            TextFault::NoPackage => write!(f, "the ID of no package"),
-            TextFault::NoDependency => write!(f, "no declared dependency fits"),
+            TextFault::NoVersion(reason) => write!(f, "no version: {reason}"),
+            TextFault::NoRequirement(reason) => write!(f, "no requirement of versions: {reason}"),
+            TextFault::NoDependencyKind => f.write_str("no kind of dependency"),
+            TextFault::NumberOutOfRange => f.write_str("a number in it is too large"),
+            TextFault::NoPackage => f.write_str("the ID of no package"),
+            TextFault::NoDependency => f.write_str("no declared dependency fits"),
         }
     }
 }
@@ -175,8 +219,16 @@ impl From<Misfit> for MetadataFault {
     }
 }
 
-impl From<AllocError> for Misfit {
+impl From<AllocError> for MetadataFault {
     ghost from_gives = { λ _ fault. fault ≡ OutOfMemory };
+
+    fn from(_error: AllocError) -> Self {
+        MetadataFault::OutOfMemory
+    }
+}
+
+impl From<AllocError> for Misfit {
+    ghost from_gives = { λ _ fault. fault ≡ MisfitMemory };
 
     fn from(_error: AllocError) -> Self {
         Misfit::OutOfMemory
@@ -184,7 +236,7 @@ impl From<AllocError> for Misfit {
 }
 
 impl<T: Drop> From<AllocFailed<T>> for Misfit {
-    ghost from_gives = { λ _ fault. fault ≡ OutOfMemory };
+    ghost from_gives = { λ _ fault. fault ≡ MisfitMemory };
 
     fn from(_error: AllocFailed<T>) -> Self {
         Misfit::OutOfMemory

@@ -1,18 +1,16 @@
 //! Named features.
-ghost use Rattle.std.specs.Prelude.{◌≡◌, ◌++◌, [], ◌∷◌, ℕ, List, None, map, IfOk, OnOk};
-ghost use Rattle.std.specs.Map.{lookup};
-ghost use Rattle.std.specs.String.{string_eq};
+ghost use Rattle.std.specs.Prelude.{◌≡◌, ℕ, List, map, IfOk};
 ghost use Rattle.std.specs.List.{AllZip};
-ghost use Rattle.serde_json.specs.View.{view};
+ghost use Rattle.json.specs.Value.{value_view};
 ghost use Rattle.guppy_data.specs.Texts.{named_feature_text};
-ghost use Rattle.guppy_metadata.specs.Feature.{NamesDependency, IsFeature, IsNamedFeature};
+ghost use Rattle.guppy_metadata.specs.Feature.{NamesDependency, IsFeature, AreFeatures};
 ghost use Rattle.guppy_metadata.specs.Members.{list_of};
 
-use crate::fault::Misfit;
-use crate::object::{items_of, texts_of};
+use crate::fault::{Kind, Misfit};
+use crate::object::texts_of;
 use guppy_data::NamedFeatureDep;
 use indexmap::IndexMap;
-use serde_json::{Map, Value};
+use json::Value;
 use std::alloc::{AllocError, Global};
 
 // The name of a dependency, and whether a `?` behind it says that it is a weak one.
@@ -63,39 +61,29 @@ fn features_of(alloc: Global, texts: &[&str]) -> Result<Vec<NamedFeatureDep>, Al
 }
 
 // What the texts of the list in the member of this name switch on.
-fn switched_on(alloc: Global, name: &str, value: &Value) -> Result<Vec<NamedFeatureDep>, Misfit>
-    ensures { IfOk result (λ features. (texts : List (List ℕ)) × (view value.now ≡ list_of texts)
+fn switched_on(alloc: Global, name: &str, value: &Value<'_>) -> Result<Vec<NamedFeatureDep>, Misfit>
+    ensures { IfOk result (λ features. (texts : List (List ℕ)) × (value_view value.now ≡ list_of texts)
         × AllZip IsFeature texts features.items) }
 {
-    let items = items_of(alloc, name, value)?;
-    let texts = texts_of(alloc, name, items)?;
+    let texts = texts_of(alloc, name, value)?;
     Ok(features_of(alloc, texts.as_slice())?)
 }
 
-// Puts a feature behind the others, where none has its name.
-fn put(
-    named: &mut IndexMap<String, Vec<NamedFeatureDep>>,
-    name: String,
-    features: Vec<NamedFeatureDep>,
-) -> Result<(), AllocError>
-    requires { lookup (string_eq name) named.old.entries ≡ None }
-    ensures { OnOk result (named.new.entries ≡ named.old.entries ++ (name, features) ∷ []) }
-{
-    named.insert(name, features)?;
-    Ok(())
-}
-
-/// The named features that the members of an object are, in their order.
+/// The named features that the members of the object `features` are.
 pub(crate) fn named_features(
     alloc: Global,
-    members: &Map<String, Value>,
+    value: &Value<'_>,
 ) -> Result<IndexMap<String, Vec<NamedFeatureDep>>, Misfit>
-    ensures { IfOk result (λ named. AllZip IsNamedFeature members.now.entries named.entries) }
+    ensures { IfOk result (λ named. AreFeatures (value_view value.now) named.entries) }
 {
+    let Value::Object(members) = value else {
+        return Err(Misfit::wrong_kind(alloc, "", Kind::Object));
+    };
     let mut named = IndexMap::new(alloc);
-    for (name, value) in members.iter() {
-        let features = switched_on(alloc, name.as_str(), value)?;
-        put(&mut named, name.clone()?, features)?;
+    for member in members {
+        let (name, value) = member;
+        let features = switched_on(alloc, name, value)?;
+        named.insert(String::from_str(alloc, name)?, features)?;
     }
     Ok(named)
 }

@@ -23,6 +23,7 @@ mod object;
 mod package;
 mod path;
 mod records;
+mod table;
 mod target;
 mod workspace;
 

@@ -1,21 +1,21 @@
 //! Links, of what packages declare and what is resolved.
 ghost use Rattle.std.specs.Prelude.{◌≡◌, ◌++◌, ◌∷◌, [], ℕ, List, if◌then◌else◌, true, false, filter, map, string_bytes, option_map, IfOk, OnOk, IfSome};
-ghost use Rattle.std.specs.List.{AllZip, fold};
+ghost use Rattle.std.specs.List.{fold};
 ghost use Rattle.std.specs.Str.{bytes_eq};
 ghost use Rattle.std.specs.Option.{option_copied, option_or};
 ghost use Rattle.guppy_data.specs.declared.records.LinkRecord.{LinkRecord};
 ghost use Rattle.guppy_data.specs.Platform.{recorded_status, with_spec};
 ghost use Rattle.semver.specs.Identifiers.{comparator_view};
-ghost use Rattle.serde_json.specs.View.{view};
+ghost use Rattle.json.specs.Value.{value_view};
 ghost use Rattle.guppy_metadata.specs.declared.declared.Declared.{Declared};
 ghost use Rattle.guppy_metadata.specs.Fits.{stands_for, is_named, has_name, same_usage, is_used, fits};
 ghost use Rattle.guppy_metadata.specs.Gathered.{status_at, asked_too, asks_for, IsSection, IsGathered, IsNamedAs, IsMadeOf, MakeLink};
-ghost use Rattle.guppy_metadata.specs.Links.{Joins, IsUsage, IsResolved, IsUnasked, IsLink, AreLinksOf, AreLinksOfAll};
-ghost use Rattle.guppy_metadata.specs.Members.{data_of};
+ghost use Rattle.guppy_metadata.specs.Links.{Joins, IsUsage, IsResolved, IsUnasked, IsLink, AreLinksOf, AreLinksOfList};
+ghost use Rattle.guppy_metadata.specs.Members.{data_of, IsListOf};
 ghost use Rattle.guppy_metadata.specs.Package.{ArePositions};
 
 use crate::declared::{Declared, section_of};
-use crate::fault::{Misfit, TextFault};
+use crate::fault::{Kind, Misfit, TextFault};
 use crate::object::{Object, optional_copy};
 use crate::package::Package;
 use guppy_data::{
@@ -23,8 +23,8 @@ use guppy_data::{
     PlatformStatusImpl, TargetSpec, Utf8PathBuf,
 };
 use indexmap::IndexMap;
+use json::Value;
 use semver::VersionReq;
-use serde_json::Value;
 use std::alloc::{AllocError, Global};
 use std::collections::BTreeMap;
 
@@ -64,7 +64,7 @@ struct Resolved<'a> {
     usages: Vec<Usage<'a>>,
 }
 
-fn usage_of(usage: Object<'_>) -> Result<Usage<'_>, Misfit>
+fn usage_of<'a>(usage: Object<'_, 'a>) -> Result<Usage<'a>, Misfit>
     ensures { IfOk result (IsUsage (data_of usage.entry)) }
 {
     Ok(Usage {
@@ -74,9 +74,12 @@ fn usage_of(usage: Object<'_>) -> Result<Usage<'_>, Misfit>
 }
 
 // The usages that the items of the list `dep_kinds` are.
-fn usages_of(alloc: Global, items: &[Value]) -> Result<Vec<Usage<'_>>, Misfit>
-    ensures { IfOk result (λ usages. AllZip IsUsage (map view items.now) usages.items) }
+fn usages_of<'a>(alloc: Global, value: &Value<'a>) -> Result<Vec<Usage<'a>>, Misfit>
+    ensures { IfOk result (λ usages. IsListOf IsUsage (value_view value.now) usages.items) }
 {
+    let Value::Array(items) = value else {
+        return Err(Misfit::wrong_kind(alloc, "dep_kinds", Kind::List));
+    };
     let mut usages = Vec::with_capacity(alloc, items.len())?;
     for (index, item) in items.iter().enumerate() {
         let usage = Object::of_item(alloc, "dep_kinds", index, item)?;
@@ -88,13 +91,13 @@ fn usages_of(alloc: Global, items: &[Value]) -> Result<Vec<Usage<'_>>, Misfit>
     Ok(usages)
 }
 
-fn resolved_of(dependency: Object<'_>) -> Result<Resolved<'_>, Misfit>
+fn resolved_of<'a>(dependency: Object<'_, 'a>) -> Result<Resolved<'a>, Misfit>
     ensures { IfOk result (IsResolved (data_of dependency.entry)) }
 {
     Ok(Resolved {
         name: dependency.text("name")?,
         id: dependency.text("pkg")?,
-        usages: usages_of(dependency.alloc, dependency.items("dep_kinds")?)?,
+        usages: usages_of(dependency.alloc, dependency.required("dep_kinds")?)?,
     })
 }
 
@@ -433,7 +436,7 @@ fn unasked_link(
 fn link_of(
     packages: Packages<'_, '_>,
     from: &str,
-    dependency: Object<'_>,
+    dependency: Object<'_, '_>,
 ) -> Result<LinkRecord, Misfit>
     requires { ArePositions packages.packages.now packages.positions.now }
     ensures { IfOk result
@@ -450,19 +453,22 @@ fn link_of(
     Ok(link_between(alloc, from, &resolved, asking, needed)?)
 }
 
-// Adds the links that leave a package.
+// Adds the links from the package with this ID that the items of the list `deps` are.
 fn add_links(
     links: &mut Vec<LinkRecord>,
+    alloc: Global,
     packages: Packages<'_, '_>,
-    node: Object<'_>,
+    from: &str,
+    value: &Value<'_>,
 ) -> Result<(), Misfit>
     requires { ArePositions packages.packages.now packages.positions.now }
     ensures { OnOk result ((row : List LinkRecord) × (links.new.items ≡ links.old.items ++ row)
-        × AreLinksOf packages.entry.packages.now (data_of node.entry) row) }
+        × IsListOf (IsLink packages.entry.packages.now from.now) (value_view value.now) row) }
 {
-    let alloc = node.alloc;
-    let from = node.text("id")?;
-    for (index, item) in node.items("deps")?.iter().enumerate() {
+    let Value::Array(items) = value else {
+        return Err(Misfit::wrong_kind(alloc, "deps", Kind::List));
+    };
+    for (index, item) in items.iter().enumerate() {
         let dependency = Object::of_item(alloc, "deps", index, item)?;
         match link_of(packages, from, dependency) {
             Ok(link) => links.push(link)?,
@@ -472,22 +478,55 @@ fn add_links(
     Ok(())
 }
 
+// Adds the links that leave the package of a node.
+fn add_node(
+    links: &mut Vec<LinkRecord>,
+    packages: Packages<'_, '_>,
+    node: Object<'_, '_>,
+) -> Result<(), Misfit>
+    requires { ArePositions packages.packages.now packages.positions.now }
+    ensures { OnOk result ((row : List LinkRecord) × (links.new.items ≡ links.old.items ++ row)
+        × AreLinksOf packages.entry.packages.now (data_of node.entry) row) }
+{
+    let from = node.text("id")?;
+    add_links(links, node.alloc, packages, from, node.required("deps")?)
+}
+
+/// Adds the links that leave the package of the node that the item of the list `nodes` at this index is.
+pub(crate) fn add_node_at(
+    links: &mut Vec<LinkRecord>,
+    alloc: Global,
+    packages: Packages<'_, '_>,
+    index: usize,
+    item: &Value<'_>,
+) -> Result<(), Misfit>
+    requires { ArePositions packages.packages.now packages.positions.now }
+    ensures { OnOk result ((row : List LinkRecord) × (links.new.items ≡ links.old.items ++ row)
+        × AreLinksOf packages.entry.packages.now (value_view item.now) row) }
+{
+    let node = Object::of_item(alloc, "nodes", index, item)?;
+    match add_node(links, packages, node) {
+        Ok(()) => Ok(()),
+        Err(fault) => Err(fault.within_item(alloc, "nodes", index)),
+    }
+}
+
 /// The links of the nodes that the items of the list `nodes` are.
 pub(crate) fn links_of(
     alloc: Global,
     packages: Packages<'_, '_>,
-    items: &[Value],
+    value: &Value<'_>,
 ) -> Result<Vec<LinkRecord>, Misfit>
     requires { ArePositions packages.packages.now packages.positions.now }
     ensures { IfOk result
-        (λ links. AreLinksOfAll packages.entry.packages.now (map view items.now) links.items) }
+        (λ links. AreLinksOfList packages.entry.packages.now (value_view value.now) links.items) }
 {
+    let Value::Array(items) = value else {
+        return Err(Misfit::wrong_kind(alloc, "nodes", Kind::List));
+    };
     let mut links = Vec::new(alloc);
     for (index, item) in items.iter().enumerate() {
-        let node = Object::of_item(alloc, "nodes", index, item)?;
-        if let Err(fault) = add_links(&mut links, packages, node) {
-            return Err(fault.within_item(alloc, "nodes", index));
-        }
+        add_node_at(&mut links, alloc, packages, index, item)?;
     }
     Ok(links)
 }

@@ -3,43 +3,30 @@ ghost use Rattle.std.specs.Prelude.{◌≡◌, IfOk, Ok, map, option_map, string
 ghost use Rattle.std.specs.Option.{option_copied};
 ghost use Rattle.semver.specs.Identifiers.{parts_of, comparator_view};
 ghost use Rattle.semver.specs.Parse.{version_parts, req_of};
-ghost use Rattle.serde_json.specs.Data.{string, array};
-ghost use Rattle.serde_json.specs.View.{view, items_view};
-ghost use Rattle.guppy_metadata.specs.Members.{data_of};
+ghost use Rattle.json.specs.Json.{string};
+ghost use Rattle.json.specs.Value.{value_view};
+ghost use Rattle.guppy_metadata.specs.Members.{data_of, list_of};
 
 use crate::fault::{Kind, Misfit, TextFault};
+use crate::table::{TableFault, table_of};
+use json::Value;
 use semver::{Version, VersionReq};
-use serde_json::{Map, Value};
 use std::alloc::{AllocError, Global};
 
 /// A JSON object, and the allocator that what is read of it is taken from.
 #[derive(Clone, Copy)]
-pub(crate) struct Object<'a> {
+pub(crate) struct Object<'v, 'a> {
     pub(crate) alloc: Global,
-    pub(crate) value: &'a Value,
+    pub(crate) value: &'v Value<'a>,
 }
 
 // The text that the member of this name has.
-fn text_of<'a>(alloc: Global, name: &str, value: &'a Value) -> Result<&'a str, Misfit>
-    ensures { IfOk result (λ text. view value.now ≡ string text.now) }
+fn text_of<'a>(alloc: Global, name: &str, value: &Value<'a>) -> Result<&'a str, Misfit>
+    ensures { IfOk result (λ text. value_view value.now ≡ string text.now) }
 {
-    match value.as_str() {
-        Some(text) => Ok(text),
-        None => Err(Misfit::wrong_kind(alloc, name, Kind::Text)),
-    }
-}
-
-/// The items of the list that the member of this name has.
-pub(crate) fn items_of<'a>(
-    alloc: Global,
-    name: &str,
-    value: &'a Value,
-) -> Result<&'a [Value], Misfit>
-    ensures { IfOk result (λ items. view value.now ≡ array (items_view items.now)) }
-{
-    match value.as_array() {
-        Some(items) => Ok(items.as_slice()),
-        None => Err(Misfit::wrong_kind(alloc, name, Kind::List)),
+    match value {
+        Value::String(text) => Ok(*text),
+        _ => Err(Misfit::wrong_kind(alloc, name, Kind::Text)),
     }
 }
 
@@ -48,28 +35,31 @@ fn item_text<'a>(
     alloc: Global,
     name: &str,
     index: usize,
-    item: &'a Value,
+    item: &Value<'a>,
 ) -> Result<&'a str, Misfit>
-    ensures { IfOk result (λ text. view item.now ≡ string text.now) }
+    ensures { IfOk result (λ text. value_view item.now ≡ string text.now) }
 {
-    match item.as_str() {
-        Some(text) => Ok(text),
-        None => {
+    match item {
+        Value::String(text) => Ok(*text),
+        _ => {
             let fault = Misfit::wrong_kind(alloc, "", Kind::Text);
             Err(fault.within_item(alloc, name, index))
         }
     }
 }
 
-/// The texts of the list in the member of this name.
+/// The texts of the list that the member of this name has.
 pub(crate) fn texts_of<'a>(
     alloc: Global,
     name: &str,
-    items: &'a [Value],
+    value: &Value<'a>,
 ) -> Result<Vec<&'a str>, Misfit>
-    ensures { IfOk result (λ texts. map view items.now
-        ≡ map string (map (λ text. text.now) texts.items)) }
+    ensures { IfOk result
+        (λ texts. value_view value.now ≡ list_of (map (λ text. text.now) texts.items)) }
 {
+    let Value::Array(items) = value else {
+        return Err(Misfit::wrong_kind(alloc, name, Kind::List));
+    };
     let mut texts = Vec::with_capacity(alloc, items.len())?;
     for (index, item) in items.iter().enumerate() {
         let text = item_text(alloc, name, index, item)?;
@@ -100,9 +90,12 @@ pub(crate) fn optional_copy(alloc: Global, text: Option<&str>) -> Result<Option<
     }
 }
 
-// Whether an error says that memory was refused.
-fn is_memory(error: semver::Error) -> bool {
-    error == semver::Error::from(AllocError)
+// Why semver refuses a text.
+fn reason_of(alloc: Global, error: semver::Error) -> Result<String, Misfit> {
+    if error == semver::Error::from(AllocError) {
+        return Err(Misfit::OutOfMemory);
+    }
+    error.to_string(alloc).map_err(|_| Misfit::OutOfMemory)
 }
 
 /// The version that the text in the member of this name is.
@@ -111,9 +104,8 @@ pub(crate) fn version_of(alloc: Global, name: &str, text: &str) -> Result<Versio
 {
     match Version::parse(alloc, text) {
         Ok(version) => Ok(version),
-        Err(error) if is_memory(error) => Err(Misfit::OutOfMemory),
         Err(error) => {
-            let why = TextFault::NoVersion(error);
+            let why = TextFault::NoVersion(reason_of(alloc, error)?);
             Err(Misfit::bad_text(alloc, name, why))
         }
     }
@@ -125,30 +117,30 @@ pub(crate) fn requirement_of(alloc: Global, name: &str, text: &str) -> Result<Ve
 {
     match VersionReq::parse(alloc, text) {
         Ok(requirement) => Ok(requirement),
-        Err(error) if is_memory(error) => Err(Misfit::OutOfMemory),
         Err(error) => {
-            let why = TextFault::NoRequirement(error);
+            let why = TextFault::NoRequirement(reason_of(alloc, error)?);
             Err(Misfit::bad_text(alloc, name, why))
         }
     }
 }
 
-impl<'a> Object<'a> {
+impl<'v, 'a> Object<'v, 'a> {
     ghost use Rattle.std.specs.Prelude.{◌≡◌, IfOk, Some, map, option_map, unwrap_or, string_bytes};
     ghost use Rattle.std.specs.Option.{option_copied};
-    ghost use Rattle.serde_json.specs.Data.{null, string, array, object};
-    ghost use Rattle.serde_json.specs.Find.{get};
-    ghost use Rattle.serde_json.specs.View.{view, items_view, members_view};
-    ghost use Rattle.guppy_metadata.specs.Members.{data_of, present, IsText, IsTruth, AreItems, AreTexts};
+    ghost use Rattle.json.specs.Json.{null, string};
+    ghost use Rattle.json.specs.Find.{get};
+    ghost use Rattle.json.specs.Value.{value_view};
+    ghost use Rattle.serde_json.specs.View.{view};
+    ghost use Rattle.guppy_metadata.specs.Table.{IsTable};
+    ghost use Rattle.guppy_metadata.specs.Members.{data_of, present, IsText, IsTruth, AreTexts};
 
     /// The object that a value is.
-    pub(crate) fn new(alloc: Global, value: &'a Value) -> Result<Self, Misfit>
-        ensures { IfOk result (λ object. data_of object ≡ view value.now) }
+    pub(crate) fn new(alloc: Global, value: &'v Value<'a>) -> Result<Self, Misfit>
+        ensures { IfOk result (λ object. data_of object ≡ value_view value.now) }
     {
-        if value.is_object() {
-            Ok(Object { alloc, value })
-        } else {
-            Err(Misfit::wrong_kind(alloc, "", Kind::Object))
+        match value {
+            Value::Object(_) => Ok(Object { alloc, value }),
+            _ => Err(Misfit::wrong_kind(alloc, "", Kind::Object)),
         }
     }
 
@@ -157,9 +149,9 @@ impl<'a> Object<'a> {
         alloc: Global,
         name: &str,
         index: usize,
-        item: &'a Value,
+        item: &'v Value<'a>,
     ) -> Result<Self, Misfit>
-        ensures { IfOk result (λ object. data_of object ≡ view item.now) }
+        ensures { IfOk result (λ object. data_of object ≡ value_view item.now) }
     {
         match Object::new(alloc, item) {
             Ok(object) => Ok(object),
@@ -168,8 +160,8 @@ impl<'a> Object<'a> {
     }
 
     /// The member of this name, where there is one that isn't null.
-    pub(crate) fn optional(self, name: &str) -> Option<&'a Value>
-        ensures { option_map (λ value. view value.now) result ≡ present name.now (data_of self.entry) }
+    pub(crate) fn optional(self, name: &str) -> Option<&'v Value<'a>>
+        ensures { option_map (λ value. value_view value.now) result ≡ present name.now (data_of self.entry) }
     {
         match self.value.get(name) {
             None | Some(Value::Null) => None,
@@ -178,8 +170,8 @@ impl<'a> Object<'a> {
     }
 
     /// The member of this name.
-    pub(crate) fn required(self, name: &str) -> Result<&'a Value, Misfit>
-        ensures { IfOk result (λ value. get name.now (data_of self.entry) ≡ Some (view value.now)) }
+    pub(crate) fn required(self, name: &str) -> Result<&'v Value<'a>, Misfit>
+        ensures { IfOk result (λ value. get name.now (data_of self.entry) ≡ Some (value_view value.now)) }
     {
         match self.value.get(name) {
             None => Err(Misfit::missing(self.alloc, name)),
@@ -225,32 +217,15 @@ impl<'a> Object<'a> {
         Ok(optional_copy(self.alloc, text)?)
     }
 
-    /// The items of the list in the member of this name.
-    pub(crate) fn items(self, name: &str) -> Result<&'a [Value], Misfit>
-        ensures { IfOk result
-            (λ items. get name.now (data_of self.entry) ≡ Some (array (items_view items.now))) }
-    {
-        let value = self.required(name)?;
-        items_of(self.alloc, name, value)
-    }
-
-    /// The items of the list in the member of this name; none where there is no list.
-    pub(crate) fn optional_items(self, name: &str) -> Result<&'a [Value], Misfit>
-        ensures { IfOk result (λ items. AreItems name.now (data_of self.entry) (map view items.now)) }
-    {
-        match self.optional(name) {
-            Some(value) => items_of(self.alloc, name, value),
-            None => Ok(&[]),
-        }
-    }
-
     /// The texts of the list in the member of this name; none where there is no list.
     pub(crate) fn texts(self, name: &str) -> Result<Vec<&'a str>, Misfit>
         ensures { IfOk result
             (λ texts. AreTexts name.now (data_of self.entry) (map (λ text. text.now) texts.items)) }
     {
-        let items = self.optional_items(name)?;
-        texts_of(self.alloc, name, items)
+        match self.optional(name) {
+            Some(value) => texts_of(self.alloc, name, value),
+            None => Ok(Vec::new(self.alloc)),
+        }
     }
 
     /// Copies of the texts of the list in the member of this name; none where there is no list.
@@ -263,7 +238,7 @@ impl<'a> Object<'a> {
     }
 
     /// The object in the member of this name.
-    pub(crate) fn object(self, name: &str) -> Result<Object<'a>, Misfit>
+    pub(crate) fn object(self, name: &str) -> Result<Object<'v, 'a>, Misfit>
         ensures { IfOk result
             (λ object. get name.now (data_of self.entry) ≡ Some (data_of object)) }
     {
@@ -271,18 +246,6 @@ impl<'a> Object<'a> {
         match Object::new(self.alloc, value) {
             Ok(object) => Ok(object),
             Err(fault) => Err(fault.within(self.alloc, name)),
-        }
-    }
-
-    /// The members of the object in the member of this name.
-    pub(crate) fn members(self, name: &str) -> Result<&'a Map<String, Value>, Misfit>
-        ensures { IfOk result (λ members. get name.now (data_of self.entry)
-            ≡ Some (object (members_view members.now.entries))) }
-    {
-        let value = self.required(name)?;
-        match value.as_object() {
-            Some(members) => Ok(members),
-            None => Err(Misfit::wrong_kind(self.alloc, name, Kind::Object)),
         }
     }
 
@@ -299,14 +262,20 @@ impl<'a> Object<'a> {
         }
     }
 
-    /// A copy of the value in the member of this name, or null where there is none.
-    pub(crate) fn copied_value(self, name: &str) -> Result<Value, AllocError>
-        ensures { IfOk result
-            (λ value. view value ≡ unwrap_or (get name.now (data_of self.entry)) null) }
+    /// A copy of the value in the member of this name that owns its texts, or null where there is none.
+    pub(crate) fn table(self, name: &str) -> Result<serde_json::Value, Misfit>
+        ensures { IfOk result (λ table. IsTable (unwrap_or (get name.now (data_of self.entry)) null) (view table)) }
     {
-        match self.value.get(name) {
-            Some(value) => value.clone(),
-            None => Ok(Value::Null),
+        let Some(value) = self.value.get(name) else {
+            return Ok(serde_json::Value::Null);
+        };
+        match table_of(self.alloc, value) {
+            Ok(table) => Ok(table),
+            Err(TableFault::OutOfMemory) => Err(Misfit::OutOfMemory),
+            Err(TableFault::NumberOutOfRange) => {
+                let why = TextFault::NumberOutOfRange;
+                Err(Misfit::bad_text(self.alloc, name, why))
+            }
         }
     }
 }

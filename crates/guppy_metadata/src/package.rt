@@ -1,14 +1,16 @@
 //! Packages.
-ghost use Rattle.std.specs.Prelude.{◌≡◌, ℕ, Bool, List, IfOk, OnOk, map, string_bytes};
+ghost use Rattle.std.specs.Prelude.{◌≡◌, List, Option, IfOk, OnOk, map, string_bytes};
 ghost use Rattle.std.specs.List.{AllZip};
-ghost use Rattle.serde_json.specs.Data.{Data};
-ghost use Rattle.serde_json.specs.View.{view};
+ghost use Rattle.std.specs.Option.{option_copied};
+ghost use Rattle.json.specs.Json.{Json};
+ghost use Rattle.json.specs.Value.{value_view};
+ghost use Rattle.guppy_data.specs.Utf8Path.{path_text};
 ghost use Rattle.guppy_metadata.specs.Dependency.{NamesOptional};
-ghost use Rattle.guppy_metadata.specs.Members.{data_of, is_in, IsText};
-ghost use Rattle.guppy_metadata.specs.Package.{IsFrom, IsNamed, IsDescribed, IsFilled, IsPackage, IsPublishable, IsRustVersion, ArePositions, Declares, dots_in, zeros_behind, whole_version};
+ghost use Rattle.guppy_metadata.specs.Members.{data_of, is_in, IsListOf, IsText};
+ghost use Rattle.guppy_metadata.specs.Package.{IsFrom, IsNamed, IsDescribed, IsFilled, IsTold, IsRecordOf, IsPublishable, IsRustVersion, ArePositions, dots_in, zeros_behind, whole_version};
 
 use crate::declared::{Declared, declared_dependencies, optional_names};
-use crate::fault::Misfit;
+use crate::fault::{Kind, Misfit};
 use crate::feature::named_features;
 use crate::object::{Object, version_of};
 use crate::path::folder_from;
@@ -18,15 +20,19 @@ use guppy_data::{
     Utf8Path, Utf8PathBuf,
 };
 use indexmap::{IndexMap, IndexSet};
+use json::Value;
 use semver::Version;
-use serde_json::Value;
 use std::alloc::{AllocError, Global};
 
-/// A package, and the dependencies that it declares.
+/// A package as the JSON tells it.
 #[derive(Drop)]
 pub(crate) struct Package<'a> {
     pub(crate) id: &'a str,
+    /// Where it comes from, where that is told.
+    pub(crate) source: Option<&'a str>,
+    /// Its record, but for where it comes from.
     pub(crate) record: PackageRecord,
+    /// The dependencies that it declares.
     pub(crate) declared: Vec<Declared<'a>>,
 }
 
@@ -51,55 +57,24 @@ impl Package<'_> {
     }
 }
 
-// Where a package comes from.
-fn source_of(
-    json: Object<'_>,
-    is_member: bool,
-    root: Utf8Path<'_>,
-) -> Result<PackageSourceRecord, Misfit>
-    ensures { IfOk result (λ source. (known : List ℕ → Bool) (id : List ℕ)
-        → known id ≡ is_member → IsFrom known id (data_of json.entry) source) }
+// The record of the package with what each package has, but for where it comes from.
+fn bare_record(json: Object<'_, '_>) -> Result<PackageRecord, Misfit>
+    ensures { IfOk result (IsNamed (data_of json.entry)) }
 {
     let alloc = json.alloc;
-    let manifest_path = Utf8Path::new(json.text("manifest_path")?);
-    if is_member {
-        let folder = folder_from(alloc, manifest_path, root)?;
-        return Ok(PackageSourceRecord::Workspace(folder));
-    }
-    match json.optional_copied_text("source")? {
-        Some(source) => Ok(PackageSourceRecord::External(source)),
-        None => {
-            let folder = folder_from(alloc, manifest_path, root)?;
-            Ok(PackageSourceRecord::Path(folder))
-        }
-    }
-}
-
-// The record of the package with what each package has.
-fn bare_record(
-    json: Object<'_>,
-    members: &IndexSet<&str>,
-    root: Utf8Path<'_>,
-) -> Result<PackageRecord, Misfit>
-    ensures { IfOk result (IsNamed (is_in members.now) (data_of json.entry)) }
-{
-    let alloc = json.alloc;
-    let id = json.text("id")?;
-    let source = source_of(json, members.contains(id), root)?;
     let version = version_of(alloc, "version", json.text("version")?)?;
-    let manifest_path = Utf8PathBuf::new(json.copied_text("manifest_path")?);
     Ok(PackageRecord::new(
         alloc,
-        PackageId::new(String::from_str(alloc, id)?),
+        PackageId::new(json.copied_text("id")?),
         json.copied_text("name")?,
         version,
-        source,
-        manifest_path,
+        PackageSourceRecord::Path(Utf8PathBuf::new(String::new(alloc))),
+        Utf8PathBuf::new(json.copied_text("manifest_path")?),
         json.copied_text("edition")?,
     ))
 }
 
-fn optional_path(json: Object<'_>, name: &str) -> Result<Option<Utf8PathBuf>, Misfit>
+fn optional_path(json: Object<'_, '_>, name: &str) -> Result<Option<Utf8PathBuf>, Misfit>
     ensures { IfOk result (IsText name.now (data_of json.entry)) }
 {
     match json.optional_copied_text(name)? {
@@ -109,10 +84,9 @@ fn optional_path(json: Object<'_>, name: &str) -> Result<Option<Utf8PathBuf>, Mi
 }
 
 // Fills in what is told of a package for people.
-fn describe(made: &mut PackageRecord, json: Object<'_>) -> Result<(), Misfit>
+fn describe(made: &mut PackageRecord, json: Object<'_, '_>) -> Result<(), Misfit>
     ensures described { OnOk result (IsDescribed (data_of json.entry) made.new) }
-    ensures named { (known : List ℕ → Bool) (d : Data)
-        → IsNamed known d made.old → IsNamed known d made.new }
+    ensures named { (d : Json) → IsNamed d made.old → IsNamed d made.new }
 {
     made.authors = json.copied_texts("authors")?;
     made.description = json.optional_copied_text("description")?;
@@ -127,7 +101,7 @@ fn describe(made: &mut PackageRecord, json: Object<'_>) -> Result<(), Misfit>
     Ok(())
 }
 
-fn publish_of(json: Object<'_>) -> Result<PackagePublishRecord, Misfit>
+fn publish_of(json: Object<'_, '_>) -> Result<PackagePublishRecord, Misfit>
     ensures { IfOk result (IsPublishable (data_of json.entry)) }
 {
     match json.optional("publish") {
@@ -172,7 +146,7 @@ fn whole_version(alloc: Global, text: &str) -> Result<String, AllocError>
     Ok(whole)
 }
 
-fn rust_version(json: Object<'_>) -> Result<Option<Version>, Misfit>
+fn rust_version(json: Object<'_, '_>) -> Result<Option<Version>, Misfit>
     ensures { IfOk result (IsRustVersion (data_of json.entry)) }
 {
     let Some(text) = json.optional_text("rust_version")? else {
@@ -184,21 +158,24 @@ fn rust_version(json: Object<'_>) -> Result<Option<Version>, Misfit>
 }
 
 // Fills in what is told of a package for Cargo.
-fn fill(made: &mut PackageRecord, json: Object<'_>, declared: &[Declared<'_>]) -> Result<(), Misfit>
+fn fill(
+    made: &mut PackageRecord,
+    json: Object<'_, '_>,
+    declared: &[Declared<'_>],
+) -> Result<(), Misfit>
     ensures filled { OnOk result (IsFilled (data_of json.entry) made.new) }
     ensures optional { OnOk result (NamesOptional declared.now made.new.optional_deps) }
-    ensures named { (known : List ℕ → Bool) (d : Data)
-        → IsNamed known d made.old → IsNamed known d made.new }
-    ensures described { (d : Data) → IsDescribed d made.old → IsDescribed d made.new }
+    ensures named { (d : Json) → IsNamed d made.old → IsNamed d made.new }
+    ensures described { (d : Json) → IsDescribed d made.old → IsDescribed d made.new }
 {
     let alloc = json.alloc;
-    made.metadata_table = json.copied_value("metadata")?;
+    made.metadata_table = json.table("metadata")?;
     made.links = json.optional_copied_text("links")?;
     made.publish = publish_of(json)?;
     made.default_run = json.optional_copied_text("default_run")?;
     made.rust_version = rust_version(json)?;
-    made.build_targets = build_targets(alloc, json.items("targets")?)?;
-    match named_features(alloc, json.members("features")?) {
+    made.build_targets = build_targets(alloc, json.required("targets")?)?;
+    match named_features(alloc, json.required("features")?) {
         Ok(features) => made.named_features = features,
         Err(fault) => return Err(fault.within(alloc, "features")),
     }
@@ -206,47 +183,47 @@ fn fill(made: &mut PackageRecord, json: Object<'_>, declared: &[Declared<'_>]) -
     Ok(())
 }
 
-fn package_of<'a>(
-    json: Object<'a>,
-    members: &IndexSet<&str>,
-    root: Utf8Path<'_>,
-) -> Result<Package<'a>, Misfit>
-    ensures made { IfOk result
-        (λ made. IsPackage (is_in members.now) (data_of json.entry) made.record) }
-    ensures declares { IfOk result (Declares (data_of json.entry)) }
+fn package_of<'a>(json: Object<'_, 'a>) -> Result<Package<'a>, Misfit>
+    ensures { IfOk result (IsTold (data_of json.entry)) }
 {
     let alloc = json.alloc;
-    let id = json.text("id")?;
-    let declared = declared_dependencies(alloc, json.items("dependencies")?)?;
-    let mut record = bare_record(json, members, root)?;
+    let declared = declared_dependencies(alloc, json.required("dependencies")?)?;
+    let mut record = bare_record(json)?;
     describe(&mut record, json)?;
     fill(&mut record, json, declared.as_slice())?;
     Ok(Package {
-        id,
+        id: json.text("id")?,
+        source: json.optional_text("source")?,
         record,
         declared,
     })
 }
 
-/// The packages that the items of the list `packages` are.
-pub(crate) fn packages_of<'a>(
+/// The package that the item of the list `packages` at this index is.
+pub(crate) fn package_at<'a>(
     alloc: Global,
-    items: &'a [Value],
-    members: &IndexSet<&str>,
-    root: Utf8Path<'_>,
-) -> Result<Vec<Package<'a>>, Misfit>
-    ensures made { IfOk result (λ packages. AllZip (IsPackage (is_in members.now))
-        (map view items.now) (map (λ p. p.record) packages.items)) }
-    ensures declare { IfOk result
-        (λ packages. AllZip Declares (map view items.now) packages.items) }
+    index: usize,
+    item: &Value<'a>,
+) -> Result<Package<'a>, Misfit>
+    ensures { IfOk result (IsTold (value_view item.now)) }
 {
+    let json = Object::of_item(alloc, "packages", index, item)?;
+    match package_of(json) {
+        Ok(package) => Ok(package),
+        Err(fault) => Err(fault.within_item(alloc, "packages", index)),
+    }
+}
+
+/// The packages that the items of the list `packages` are.
+pub(crate) fn packages_of<'a>(alloc: Global, value: &Value<'a>) -> Result<Vec<Package<'a>>, Misfit>
+    ensures { IfOk result (λ packages. IsListOf IsTold (value_view value.now) packages.items) }
+{
+    let Value::Array(items) = value else {
+        return Err(Misfit::wrong_kind(alloc, "packages", Kind::List));
+    };
     let mut packages = Vec::with_capacity(alloc, items.len())?;
     for (index, item) in items.iter().enumerate() {
-        let json = Object::of_item(alloc, "packages", index, item)?;
-        match package_of(json, members, root) {
-            Ok(package) => packages.push(package)?,
-            Err(fault) => return Err(fault.within_item(alloc, "packages", index)),
-        }
+        packages.push(package_at(alloc, index, item)?)?;
     }
     Ok(packages)
 }
@@ -265,21 +242,68 @@ pub(crate) fn positions_of<'a>(
     Ok(positions)
 }
 
-/// The records of the packages.
+// Where a package comes from.
+fn source_of(
+    alloc: Global,
+    is_member: bool,
+    told: Option<&str>,
+    manifest_path: Utf8Path<'_>,
+    root: Utf8Path<'_>,
+) -> Result<PackageSourceRecord, AllocError>
+    ensures { IfOk result (IsFrom (path_text root.entry) (path_text manifest_path.entry) is_member (option_copied told.entry)) }
+{
+    if is_member {
+        let folder = folder_from(alloc, manifest_path, root)?;
+        return Ok(PackageSourceRecord::Workspace(folder));
+    }
+    match told {
+        Some(source) => Ok(PackageSourceRecord::External(String::from_str(alloc, source)?)),
+        None => {
+            let folder = folder_from(alloc, manifest_path, root)?;
+            Ok(PackageSourceRecord::Path(folder))
+        }
+    }
+}
+
+// The record of a package of a workspace with these members.
+fn record_of(
+    alloc: Global,
+    package: Package<'_>,
+    members: &IndexSet<&str>,
+    root: Utf8Path<'_>,
+) -> Result<PackageRecord, AllocError>
+    ensures { IfOk result (IsRecordOf (path_text root.entry) (is_in members.now) «package».entry) }
+{
+    let Package {
+        id,
+        source,
+        mut record,
+        declared: _,
+    } = package;
+    let is_member = members.contains(id);
+    record.source = source_of(
+        alloc,
+        is_member,
+        source,
+        record.manifest_path.as_path(),
+        root,
+    )?;
+    Ok(record)
+}
+
+/// The records of the packages of a workspace with these members at this root.
 pub(crate) fn package_records(
     alloc: Global,
     packages: Vec<Package<'_>>,
+    members: &IndexSet<&str>,
+    root: Utf8Path<'_>,
 ) -> Result<Vec<PackageRecord>, AllocError>
-    ensures { IfOk result (λ records. records.items ≡ map (λ p. p.record) packages.entry.items) }
+    ensures { IfOk result
+        (λ records. AllZip (IsRecordOf (path_text root.entry) (is_in members.now)) packages.entry.items records.items) }
 {
     let mut records = Vec::with_capacity(alloc, packages.len())?;
     for package in packages {
-        let Package {
-            id: _,
-            record,
-            declared: _,
-        } = package;
-        records.push(record)?;
+        records.push(record_of(alloc, package, members, root)?)?;
     }
     Ok(records)
 }

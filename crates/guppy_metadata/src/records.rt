@@ -1,12 +1,11 @@
 //! All records.
-ghost use Rattle.std.specs.Prelude.{◌≡◌, None, Some, IsSome, IsSomeAnd, IfOk, OnOk, IfErr, map, codes};
-ghost use Rattle.serde_json.specs.Find.{get};
-ghost use Rattle.serde_json.specs.Read.{read};
-ghost use Rattle.serde_json.specs.View.{view};
+ghost use Rattle.std.specs.Prelude.{◌≡◌, Some, IsSome, IsSomeAnd, IfOk, OnOk, IfErr, None, codes};
+ghost use Rattle.json.specs.Json.{document};
+ghost use Rattle.json.specs.Value.{value_view};
 ghost use Rattle.guppy_metadata.specs.Fault.{IsNotJson, IsNotResolved};
-ghost use Rattle.guppy_metadata.specs.Links.{AreLinks, AreLinksOfAll, AreNodes};
-ghost use Rattle.guppy_metadata.specs.Members.{data_of, present, IsListOf};
-ghost use Rattle.guppy_metadata.specs.Package.{ArePackages, ArePackagesOf, Declares};
+ghost use Rattle.guppy_metadata.specs.Links.{AreLinks, AreLinksOfList, nodes_in};
+ghost use Rattle.guppy_metadata.specs.Members.{data_of, present};
+ghost use Rattle.guppy_metadata.specs.Package.{ArePackages, AreTold};
 ghost use Rattle.guppy_metadata.specs.Workspace.{IsWorkspace};
 
 use crate::fault::{MetadataFault, Misfit};
@@ -14,29 +13,34 @@ use crate::link::{Packages, links_of};
 use crate::object::Object;
 use crate::package::{Package, package_records, packages_of, positions_of};
 use crate::workspace::{check_members, member_ids, set_of, workspace_record};
-use guppy_data::{LinkRecord, Records, Utf8Path};
-use serde_json::Value;
+use guppy_data::{LinkRecord, Records};
+use json::{Error, MAX_DEPTH, Reader, Scratch, Value};
 use std::alloc::Global;
 
 // The value that the JSON is.
-fn value_of(alloc: Global, json: &str) -> Result<Value, MetadataFault>
-    ensures json { IfOk result (λ value. read json.now ≡ Some (view value)) }
-    ensures no_json { IfErr result (λ fault. IsNotJson fault → read json.now ≡ None) }
+fn value_of<'a>(
+    alloc: Global,
+    json: &'a str,
+    scratch: &'a mut Scratch,
+) -> Result<Value<'a>, MetadataFault>
+    ensures json { IfOk result (λ value. document json.now ≡ Some (value_view value)) }
+    ensures no_json { IfErr result (λ fault. IsNotJson fault → document json.now ≡ None) }
     ensures resolved { IfErr result (λ fault. ¬ IsNotResolved fault) }
 {
-    match Value::from_str(alloc, json) {
-        Ok(value) => Ok(value),
-        Err(error) if error.is_memory() => Err(MetadataFault::OutOfMemory),
-        Err(error) => Err(MetadataFault::NotJson(error)),
+    let mut reader = Reader::new(json, scratch)?;
+    match Value::read(alloc, &mut reader, MAX_DEPTH) {
+        Ok(value) if reader.next().is_none() => Ok(value),
+        Err(Error::OutOfMemory) => Err(MetadataFault::OutOfMemory),
+        _ => Err(MetadataFault::no_json(json, reader.offset())),
     }
 }
 
 // The nodes of the resolved dependencies.
-fn nodes_of(metadata: Object<'_>) -> Result<&[Value], Misfit>
-    ensures { IfOk result (λ nodes. AreNodes (data_of metadata.entry) (map view nodes.now)) }
+fn nodes_of<'v, 'a>(metadata: Object<'v, 'a>) -> Result<&'v Value<'a>, Misfit>
+    ensures { IfOk result (λ nodes. nodes_in (data_of metadata.entry) ≡ Some (value_view nodes.now)) }
 {
     let resolve = metadata.object("resolve")?;
-    match resolve.items("nodes") {
+    match resolve.required("nodes") {
         Ok(nodes) => Ok(nodes),
         Err(fault) => Err(fault.within(metadata.alloc, "resolve")),
     }
@@ -47,9 +51,9 @@ fn links_between(
     alloc: Global,
     packages: &[Package<'_>],
     members: &[&str],
-    nodes: &[Value],
+    nodes: &Value<'_>,
 ) -> Result<Vec<LinkRecord>, Misfit>
-    ensures { IfOk result (λ links. AreLinksOfAll packages.now (map view nodes.now) links.items) }
+    ensures { IfOk result (λ links. AreLinksOfList packages.now (value_view nodes.now) links.items) }
 {
     let positions = positions_of(alloc, packages)?;
     check_members(alloc, members, &positions)?;
@@ -63,24 +67,14 @@ fn links_between(
     }
 }
 
-// The packages of the workspace with these members.
-fn packages_in<'a>(
-    metadata: Object<'a>,
-    members: &[&str],
-    root: Utf8Path<'_>,
-) -> Result<Vec<Package<'a>>, Misfit>
-    ensures made { IfOk result (λ packages. ArePackagesOf (map (λ id. id.now) members.now)
-        (data_of metadata.entry) (map (λ p. p.record) packages.items)) }
-    ensures declare { IfOk result (λ packages. IsSomeAnd
-        (get (codes "packages") (data_of metadata.entry)) (λ told. IsListOf Declares told packages.items)) }
+// The packages that the JSON tells.
+fn packages_in<'a>(metadata: Object<'_, 'a>) -> Result<Vec<Package<'a>>, Misfit>
+    ensures { IfOk result (λ packages. AreTold (data_of metadata.entry) packages.items) }
 {
-    let alloc = metadata.alloc;
-    let members = set_of(alloc, members)?;
-    let items = metadata.items("packages")?;
-    Ok(packages_of(alloc, items, &members, root)?)
+    packages_of(metadata.alloc, metadata.required("packages")?)
 }
 
-fn records_in(metadata: Object<'_>) -> Result<Records, Misfit>
+fn records_in(metadata: Object<'_, '_>) -> Result<Records, Misfit>
     ensures packages { IfOk result (λ r. ArePackages (data_of metadata.entry) r.packages.items) }
     ensures links { IfOk result (λ r. AreLinks (data_of metadata.entry) r.links.items) }
     ensures workspace { IfOk result (λ r. IsWorkspace (data_of metadata.entry) r.workspace) }
@@ -89,10 +83,12 @@ fn records_in(metadata: Object<'_>) -> Result<Records, Misfit>
     let nodes = nodes_of(metadata)?;
     let workspace = workspace_record(metadata)?;
     let members = member_ids(metadata)?;
-    let packages = packages_in(metadata, members.as_slice(), workspace.root.as_path())?;
+    let packages = packages_in(metadata)?;
     let links = links_between(alloc, packages.as_slice(), members.as_slice(), nodes)?;
+    let members = set_of(alloc, members.as_slice())?;
+    let packages = package_records(alloc, packages, &members, workspace.root.as_path())?;
     Ok(Records {
-        packages: package_records(alloc, packages)?,
+        packages,
         links,
         workspace,
     })
@@ -108,18 +104,19 @@ fn records_in(metadata: Object<'_>) -> Result<Records, Misfit>
 /// Time grows with the text, and of one package with its resolved times its declared dependencies. Takes
 /// memory for what the text says and for the records.
 pub fn records_of(alloc: Global, json: &str) -> Result<Records, MetadataFault>
-    ensures json { OnOk result (IsSome (read json.now)) }
+    ensures json { OnOk result (IsSome (document json.now)) }
     ensures packages { IfOk result
-        (λ r. IsSomeAnd (read json.now) (λ d. ArePackages d r.packages.items)) }
+        (λ r. IsSomeAnd (document json.now) (λ d. ArePackages d r.packages.items)) }
     ensures links { IfOk result
-        (λ r. IsSomeAnd (read json.now) (λ d. AreLinks d r.links.items)) }
+        (λ r. IsSomeAnd (document json.now) (λ d. AreLinks d r.links.items)) }
     ensures workspace { IfOk result
-        (λ r. IsSomeAnd (read json.now) (λ d. IsWorkspace d r.workspace)) }
-    ensures no_json { IfErr result (λ fault. IsNotJson fault → read json.now ≡ None) }
+        (λ r. IsSomeAnd (document json.now) (λ d. IsWorkspace d r.workspace)) }
+    ensures no_json { IfErr result (λ fault. IsNotJson fault → document json.now ≡ None) }
     ensures not_resolved { IfErr result (λ fault. IsNotResolved fault
-        → IsSomeAnd (read json.now) (λ d. present (codes "resolve") d ≡ None)) }
+        → IsSomeAnd (document json.now) (λ d. present (codes "resolve") d ≡ None)) }
 {
-    let value = value_of(alloc, json)?;
+    let mut scratch = Scratch::new(alloc);
+    let value = value_of(alloc, json, &mut scratch)?;
     let metadata = match Object::new(alloc, &value) {
         Ok(metadata) => metadata,
         Err(misfit) => return Err(misfit.within(alloc, "the JSON").into()),

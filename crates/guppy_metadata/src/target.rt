@@ -1,16 +1,15 @@
 //! Build targets.
 ghost use Rattle.std.specs.Prelude.{◌≡◌, ◌∷◌, ℕ, List, IfOk, map, option_map, string_bytes, codes};
-ghost use Rattle.serde_json.specs.View.{view};
-ghost use Rattle.std.specs.List.{AllZip};
-ghost use Rattle.guppy_metadata.specs.Members.{data_of, is_among, AreTexts};
+ghost use Rattle.json.specs.Value.{value_view};
+ghost use Rattle.guppy_metadata.specs.Members.{data_of, is_among, AreTexts, IsListOf};
 ghost use Rattle.guppy_metadata.specs.Target.{IsTargetId, IsLibraryOf, IsMadeOf, IsTarget};
 
-use crate::fault::Misfit;
+use crate::fault::{Kind, Misfit};
 use crate::object::Object;
 use guppy_data::{
     BuildTargetKindRecord, BuildTargetRecord, OwnedBuildTargetId, SortedSet, Utf8PathBuf,
 };
-use serde_json::Value;
+use json::Value;
 use std::alloc::Global;
 
 // What a target of this kind and name is, and its name where it is a library or build script.
@@ -64,7 +63,7 @@ fn kind_of(id: &OwnedBuildTargetId, crate_types: Vec<String>) -> BuildTargetKind
 }
 
 // The first of the target's kinds; a library has one for each of its crate types.
-fn first_kind(target: Object<'_>) -> Result<&str, Misfit>
+fn first_kind<'a>(target: Object<'_, 'a>) -> Result<&'a str, Misfit>
     ensures { IfOk result (λ kind. (others : List (List ℕ))
         × AreTexts (codes "kind") (data_of target.entry) (kind.now ∷ others)) }
 {
@@ -75,7 +74,7 @@ fn first_kind(target: Object<'_>) -> Result<&str, Misfit>
     }
 }
 
-fn build_target(target: Object<'_>) -> Result<BuildTargetRecord, Misfit>
+fn build_target(target: Object<'_, '_>) -> Result<BuildTargetRecord, Misfit>
     ensures { IfOk result (IsTarget (data_of target.entry)) }
 {
     let name = target.copied_text("name")?;
@@ -97,10 +96,13 @@ fn build_target(target: Object<'_>) -> Result<BuildTargetRecord, Misfit>
 /// The build targets that the items of the list `targets` are.
 pub(crate) fn build_targets(
     alloc: Global,
-    items: &[Value],
+    value: &Value<'_>,
 ) -> Result<Vec<BuildTargetRecord>, Misfit>
-    ensures { IfOk result (λ targets. AllZip IsTarget (map view items.now) targets.items) }
+    ensures { IfOk result (λ targets. IsListOf IsTarget (value_view value.now) targets.items) }
 {
+    let Value::Array(items) = value else {
+        return Err(Misfit::wrong_kind(alloc, "targets", Kind::List));
+    };
     let mut targets = Vec::with_capacity(alloc, items.len())?;
     for (index, item) in items.iter().enumerate() {
         let target = Object::of_item(alloc, "targets", index, item)?;

@@ -1,7 +1,7 @@
 //! The workspace and its members.
 ghost use Rattle.std.specs.Prelude.{◌≡◌, ℕ, List, IfOk, Some, map, codes};
-ghost use Rattle.serde_json.specs.Data.{string};
-ghost use Rattle.serde_json.specs.Find.{get};
+ghost use Rattle.json.specs.Json.{string};
+ghost use Rattle.json.specs.Find.{get};
 ghost use Rattle.guppy_metadata.specs.Members.{data_of, list_of, is_among, is_in};
 ghost use Rattle.guppy_metadata.specs.Workspace.{IsBuildDirectory, IsWorkspace};
 
@@ -23,7 +23,7 @@ fn ids_of(alloc: Global, texts: &[&str]) -> Result<Vec<PackageId>, AllocError>
 }
 
 // The path that Cargo builds on its way into, where it is another one than the target directory.
-fn build_directory(metadata: Object<'_>) -> Result<Option<Utf8PathBuf>, Misfit>
+fn build_directory(metadata: Object<'_, '_>) -> Result<Option<Utf8PathBuf>, Misfit>
     ensures { IfOk result (λ path. (target : List ℕ)
         → get (codes "target_directory") (data_of metadata.entry) ≡ Some (string target)
         → IsBuildDirectory (data_of metadata.entry) target path) }
@@ -39,7 +39,7 @@ fn build_directory(metadata: Object<'_>) -> Result<Option<Utf8PathBuf>, Misfit>
 }
 
 /// The record of the workspace.
-pub(crate) fn workspace_record(metadata: Object<'_>) -> Result<WorkspaceRecord, Misfit>
+pub(crate) fn workspace_record(metadata: Object<'_, '_>) -> Result<WorkspaceRecord, Misfit>
     ensures { IfOk result (IsWorkspace (data_of metadata.entry)) }
 {
     let alloc = metadata.alloc;
@@ -48,18 +48,18 @@ pub(crate) fn workspace_record(metadata: Object<'_>) -> Result<WorkspaceRecord, 
     let default_members = metadata.texts("workspace_default_members")?;
     let mut workspace = WorkspaceRecord::new(alloc, root, target_directory);
     workspace.build_directory = build_directory(metadata)?;
-    workspace.metadata_table = metadata.copied_value("metadata")?;
+    workspace.metadata_table = metadata.table("metadata")?;
     workspace.default_members = ids_of(alloc, default_members.as_slice())?;
     Ok(workspace)
 }
 
 /// The IDs of the workspace's members.
-pub(crate) fn member_ids(metadata: Object<'_>) -> Result<Vec<&str>, Misfit>
+pub(crate) fn member_ids<'a>(metadata: Object<'_, 'a>) -> Result<Vec<&'a str>, Misfit>
     ensures { IfOk result (λ ids. get (codes "workspace_members") (data_of metadata.entry)
         ≡ Some (list_of (map (λ id. id.now) ids.items))) }
 {
-    let items = metadata.items("workspace_members")?;
-    texts_of(metadata.alloc, "workspace_members", items)
+    let value = metadata.required("workspace_members")?;
+    texts_of(metadata.alloc, "workspace_members", value)
 }
 
 /// The set of these IDs.

@@ -1,30 +1,23 @@
-use Rattle.std.proofs.Common.{◌∙◌, ◌++◌, map, ap, sym, subst, append_assoc}
-use Rattle.std.proofs.lemmas.List.{append-nil, map_push}
-use Rattle.std.specs.List.Sorted.{IsStrictlySortedBy}
-use Rattle.std.specs.Map.{keys_of}
-use Rattle.std.specs.String.{string_cmp}
+use Rattle.std.proofs.Common.{◌∙◌, ap, sym, arith}
+use Rattle.std.proofs.lemmas.List.{take_all}
+use Rattle.json.specs.Json.{object}
+use Rattle.json.specs.Value.{value_view, members_view}
+use Rattle.json.proofs.Trees.{view-Object}
 use Rattle.guppy_metadata.specs.Feature.{IsNamedFeature}
-use Rattle.guppy_metadata.proofs.Features.{is_new}
-use Rattle.indexmap.proofs.SetLemmas.{AllZip-push}
+use Rattle.guppy_metadata.proofs.Features.{named_more}
 use Rattle.guppy_metadata.proofs.feature.named_features.Goals as goal
 
-pub put-requires : goal.put-requires
-put-requires c =
-    let parts = ap (λ left. map (λ m. (m.0.now, m.1.now)) c.loop-name.yielded ++ left) (sym c.in-Some.ensures.steps) ∙ c.loop-name.invariant.parts in
-    let sorted = subst (λ entries. IsStrictlySortedBy string_cmp (keys_of entries)) (sym parts) c.iter-name-items.ensures.ordered in
-    is_new _ _ c.next.new.self c.loop-name.named.entries c.in_ok-clone.field-0 sorted c.loop-name.invariant.fit c.in_ok-clone.ensures.cases
-
-pub loop-name-preserved : goal.loop-name-preserved
-loop-name-preserved c =
-    let parts = ap (λ left. map (λ m. (m.0.now, m.1.now)) c.loop-name.yielded ++ left) (sym c.in-Some.ensures.steps) ∙ c.loop-name.invariant.parts in
+pub loop-member-preserved : goal.loop-member-preserved
+loop-member-preserved c =
+    let m = c.member-item.result in
     let told = c.in_ok-features.ensures in
-    let this : IsNamedFeature (c.in-Some.name.now, c.in-Some.value.now) (c.in_ok-clone.field-0, c.in_ok-features.features) = record { name = c.in_ok-clone.ensures.cases; texts = told.0; texts_are = told.1; switches_on = told.2 } in
-    record {
-      parts = rw (map_push, append_assoc) parts;
-      fit = rw (c.in_ok-put.ensures, map_push) (AllZip-push IsNamedFeature _ _ _ _ c.loop-name.invariant.fit this);
-    }
+    let this : IsNamedFeature (m.0.now, value_view m.1) (c.in_ok-from_str.field-0, c.in_ok-features.features) = record { name = c.in_ok-from_str.ensures.ok; texts = told.0; texts_are = told.1; switches_on = told.2 } in
+    rw c.in_ok-insert.ensures.entries (named_more c.deref-member-items.result.now c.loop-member.member-index m _ c.loop-member.named.entries (c.in_ok-from_str.field-0, c.in_ok-features.features) c.loop-member-test.true c.member-item.is c.loop-member.invariant this)
 
 pub returns : goal.returns
 returns c =
-    let whole = ap (λ left. map (λ m. (m.0.now, m.1.now)) c.loop-name.yielded ++ left) (sym c.in-None.ensures.steps.0) ∙ c.loop-name.invariant.parts in
-    rw (sym whole, append-nil) c.loop-name.invariant.fit
+    let members = c.deref-member-items.result.now in (
+      members_view members,
+      ap value_view c.in-Object.is ∙ view-Object c.in-Object.members ∙ ap (λ ms. object (members_view ms)) (sym c.deref-member-items.ensures.value),
+      rw (take_all c.loop-member.member-index members (let past = c.loop-member-test.false in omega arith)) at c.loop-member.invariant,
+    )

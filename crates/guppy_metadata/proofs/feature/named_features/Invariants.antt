@@ -1,10 +1,8 @@
-use Rattle.std.proofs.Common.{◌≡◌, ◌++◌, map}
+use Rattle.std.proofs.Common.{take}
 use Rattle.std.specs.List.{AllZip}
-use Rattle.guppy_metadata.specs.Feature.{IsNamedFeature}
+use Rattle.json.specs.Value.{members_view}
+use Rattle.guppy_metadata.specs.Feature.{IsNamedFeature, each_once}
 use Rattle.guppy_metadata.proofs.feature.named_features.Given as goal
 
-abbrev pub invariant-loop-name : goal.invariant-loop-name
-invariant-loop-name l = record {
-  parts : map (λ m. (m.0.now, m.1.now)) l.yielded ++ l.name-iterator ≡ l.members.entries;
-  fit : AllZip IsNamedFeature (map (λ m. (m.0.now, m.1.now)) l.yielded) l.named.entries;
-}
+abbrev pub invariant-loop-member : goal.invariant-loop-member
+invariant-loop-member l = AllZip IsNamedFeature (each_once (members_view (take l.member-index l.member-items))) l.named.entries

@@ -1,6 +1,6 @@
-use Rattle.std.proofs.Common.{◌∙◌, ◌∷◌, ◌++◌, [], sym, ap, subst, map, arith}
-use Rattle.std.proofs.lemmas.List.{append_assoc, append-nil, take_all}
-use Rattle.serde_json.specs.View.{view}
+use Rattle.std.proofs.Common.{◌∙◌, ◌∷◌, ◌++◌, [], sym, ap, subst}
+use Rattle.std.proofs.lemmas.List.{append_assoc, append-nil}
+use Rattle.json.specs.Value.{value_view}
 use Rattle.guppy_metadata.specs.Links.{IsLink}
 use Rattle.guppy_metadata.proofs.Fitting.{next_fits}
 use Rattle.guppy_metadata.proofs.link.add_links.Goals as goal
@@ -10,25 +10,11 @@ loop-index-init c = ([], sym (append-nil c.args.links.now.items), tt)
 
 pub loop-index-preserved : goal.loop-index-preserved
 loop-index-preserved c =
-    let is_link = IsLink c.args.packages.packages.now c.in_ok-from.from.now in
+    let is_link = IsLink c.args.packages.packages.now c.args.from.now in
     let row = c.loop-index.invariant.0 in
     let link = c.in-Ok.link in
-    let is : is_link (view c.item-item.result) link = subst (λ d. is_link d link) c.in_ok-dependency.ensures c.in-Ok.ensures in (
+    let is : is_link (value_view c.item-item.result) link = subst (λ d. is_link d link) c.in_ok-dependency.ensures c.in-Ok.ensures in (
       row ++ link ∷ [],
       c.in_ok-push-in-Ok.ensures.items ∙ (ap (λ front. front ++ link ∷ []) c.loop-index.invariant.1 ∙ append_assoc c.args.links.now.items row (link ∷ [])),
-      next_fits is_link view c.in_ok-item-items.item-items.now c.loop-index.index _ _ row link c.loop-index-test.true c.item-item.is c.loop-index.invariant.2 is,
-    )
-
-pub returns : goal.returns
-returns c =
-    let items = c.in_ok-item-items.item-items.now in (
-      c.loop-index.invariant.0,
-      c.loop-index.invariant.1,
-      record {
-        id = c.in_ok-from.from.now;
-        id_is = c.in_ok-from.ensures;
-        deps = map view items;
-        deps_are = c.in_ok-item-items.ensures;
-        links_are = rw (take_all c.loop-index.index items (let past = c.loop-index-test.false in omega arith)) at c.loop-index.invariant.2;
-      },
+      next_fits is_link value_view c.deref-item-items.result.now c.loop-index.index _ _ row link c.loop-index-test.true c.item-item.is c.loop-index.invariant.2 is,
     )

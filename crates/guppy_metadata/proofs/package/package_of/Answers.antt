@@ -1,11 +1,15 @@
-use Rattle.std.proofs.Common.{map, refl, sym}
-use Rattle.serde_json.specs.View.{view}
+use Rattle.std.proofs.Common.{rules, sym}
 use Rattle.guppy_metadata.proofs.package.package_of.Goals as goal
 
-pub returns-clause-made : goal.returns-clause-made
-returns-clause-made c = record {
-  named = c.in_ok-fill.ensures.named _ _ (c.in_ok-describe.ensures.named _ _ c.in_ok-record.ensures);
-  described = c.in_ok-fill.ensures.described _ c.in_ok-describe.ensures.described;
-  filled = c.in_ok-fill.ensures.filled;
-  optional = rw c.in_ok-items.ensures (c.in_ok-declared.declared.items, (map view c.in_ok-items.field-0.now, refl, c.in_ok-declared.ensures), rw (sym c.as_slice.ensures.value) c.in_ok-fill.ensures.optional);
-}
+pub returns : goal.returns
+returns c =
+    let filled = c.in_ok-fill.ensures in
+    let described = c.in_ok-describe.ensures in record {
+      id = search rules;
+      source = search rules;
+      named = filled.named _ (described.named _ c.in_ok-record.ensures);
+      described = filled.described _ described.described;
+      filled = filled.filled;
+      declared = rw c.in_ok-required.ensures c.in_ok-declared.ensures;
+      optional = rw (sym c.as_slice.ensures.value) filled.optional;
+    }
