@@ -48,7 +48,7 @@ sort_words() {
 sort_option() {
     case $1 in
     --metadata | --since)
-        case $2 in '' | -?*) refuse "$1 needs a value" ;; esac
+        case $1,$2 in --since,-* | *,) refuse "$1 needs a value" ;; esac
         case $given in *"$1"*) refuse "$1 is given twice" ;; esac
         given="$given $1"
         echo "${1#--} $3"
