@@ -122,6 +122,8 @@ def try_unproved(world):
         ran = world.run(["guppy-run", "order"], given=large)
     yield "input that rt would cut is refused", *refusal(ran, 4, "67108863 bytes", "prove")
     ran = world.ask(environment={"TMPDIR": "/no such folder"})
+    yield "no temporary file", *refusal(ran, 3, "no temporary file can be made")
+    ran = world.run(["guppy-run", "order"], environment={"TMPDIR": "/no such folder"})
     yield "no temporary folder", *refusal(ran, 3, "no temporary folder can be made")
     folder = os.open(world.room, os.O_RDONLY)
     ran = world.run(["guppy-run", "order"], given=folder)
