@@ -167,6 +167,8 @@ def try_given(world):
         yield f"{way}: a pipe", ran[:2] == (0, "b\na\n"), ran
         ran = piped(world, f'cat "{file}" | "$@" --metadata /dev/fd/3 3<&0 < /dev/null', words)
         yield f"{way}: a pipe with a number", ran[:2] == (0, "b\na\n"), ran
+        ran = piped(world, 'printf "b/src/lib.rs\\0" | "$@" --paths-from /dev/fd/3 3<&0 < /dev/null', words[:2], where=top)
+        yield f"{way}: paths from a pipe", ran[:2] == (0, "b\na\n"), ran
         for asked in (words, ["guppy-cargo", "--help"], ["guppy-cargo", "no-such"]):
             status = 2 if asked[1] == "no-such" else 0
             with_pipe = with_open_pipe(world, asked, where=top)
@@ -175,8 +177,6 @@ def try_given(world):
             yield f"{way}: {asked} in a hook", with_hook == with_pipe, with_hook
             closed = piped(world, '"$@" <&-', asked, where=top)
             yield f"{way}: {asked} with no standard input", closed == with_pipe, closed
-    ran = piped(world, 'printf "b/src/lib.rs\\0" | "$@" --paths-from /dev/fd/3 3<&0 < /dev/null', words[:2], where=top)
-    yield "paths from a pipe", ran == (0, "b\na\n", ""), ran
     ran = piped(world, '"$@" --metadata - <&-', words)
     yield "metadata from none", is_told(ran, 2, "no metadata can be read: -: "), ran
     yield "no file is left", not world.left(), world.left()
