@@ -48,6 +48,9 @@ WRONG = [
     ("order --metadata x --locked", "--metadata can't be used with --locked"),
     ("--features=x order --metadata=x", "--metadata can't be used with --features"),
     ("--manifest-path x --metadata - order", "--metadata can't be used with --manifest-path"),
+    ("affected --paths-from", "--paths-from needs a value"),
+    ("affected --paths-from - --metadata -", "standard input can't be read for --paths-from and --metadata"),
+    ("affected --paths-from no/such", "no/such: the paths in it can't be read"),
     ("order --metadata no/such", "no metadata can be read: no/such: "),
     ("order --metadata .", "no metadata can be read: .: "),
     ("", "bad arguments"),
@@ -169,6 +172,9 @@ def try_given(world):
         yield f"{way}: a pipe with a number", ran[:2] == (0, "b\na\n"), ran
         ran = piped(world, 'printf "b/src/lib.rs\\0" | "$@" --paths-from /dev/fd/3 3<&0 < /dev/null', words[:2], where=top)
         yield f"{way}: paths from a pipe", ran[:2] == (0, "b\na\n"), ran
+        for name in ("-", "/dev/stdin"):
+            ran = piped(world, f'printf "b/src/lib.rs\\0" | "$@" --paths-from {name}', words[:2], where=top)
+            yield f"{way}: paths from {name}", ran[:2] == (0, "b\na\n"), ran
         for asked in (words, ["guppy-cargo", "--help"], ["guppy-cargo", "no-such"]):
             status = 2 if asked[1] == "no-such" else 0
             with_pipe = with_open_pipe(world, asked, where=top)

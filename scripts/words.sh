@@ -21,11 +21,13 @@ quote() {
 # Prints lines that sort the words: each says of what kind its words are, and has the second word as "${2}", for which
 # the shell puts that word. (A list that grows word by word would take minutes with some thousand paths.)
 sort_words() {
-    at=0 option= given= for_cargo=
+    at=0 option= given= for_cargo= input=
     for word do
         at=$((at + 1))
         case $option,$word in
-        ,--metadata | ,--since | ,--manifest-path | ,--filter-platform | ,--features | ,-F) option=$word ;;
+        ,--metadata | ,--since | ,--manifest-path | ,--filter-platform | ,--features | ,-F | ,--paths-from)
+            option=$word
+            ;;
         ,--metadata=* | ,--since=* | ,--manifest-path=* | ,--filter-platform=* | ,--features=* | ,-F=*)
             sort_option "${word%%=*}" "${word#*=}" "\"\${$at#*=}\""
             ;;
@@ -42,12 +44,24 @@ sort_words() {
     [ -z "$option" ] || refuse "$option needs a value"
     [ -z "$for_cargo" ] || [ "$given" = "${given#*--metadata}" ] ||
         refuse "--metadata can't be used with $for_cargo: cargo is not asked then"
+    case $input in ?*' '?*) refuse "standard input can't be read for $input" ;; esac
 }
 
 # Prints the line for one of the options. The second word is its value, and the third stands for that.
 sort_option() {
     case $1 in
+    --paths-from)
+        case $2 in
+        - | /dev/stdin)
+            input=${input:+$input and }$1
+            echo "left $1 /dev/fd/3"
+            ;;
+        *) echo "left $1 $3" ;;
+        esac
+        return
+        ;;
     --metadata | --since)
+        case $1,$2 in --metadata,-) input=${input:+$input and }$1 ;; esac
         case $1,$2 in --since,-* | *,) refuse "$1 needs a value" ;; esac
         case $given in *"$1"*) refuse "$1 is given twice" ;; esac
         given="$given $1"
@@ -77,11 +91,11 @@ asks_for_help() {
 }
 
 # Whether the proved program refuses the words, as it does before it reads its input. It reads paths from a file by then,
-# and those that a pipe has can't be read twice.
+# and those from a pipe or a terminal can't be read twice.
 refuses() {
     [ -n "$program" ] || return 1
     for word do
-        [ ! -p "$word" ] || return 1
+        [ ! -p "$word" ] && [ ! -c "$word" ] || return 1
     done
     "$program" "$@" < /dev/null > /dev/null 2>&1
     [ $? -eq 2 ]
@@ -96,6 +110,7 @@ answer() {
     others=$(eval "quote $(of_kind others)")
     eval "set -- $(of_kind left)"
     # Nothing else depends on what standard input is.
+    case $sorted in *"left --paths-from /dev/fd/3"*) exec 3<&0 ;; esac
     [ "$metadata" = - ] || exec < /dev/null
     ! asks_for_help "$@" || run "$@"
     root= changed=
