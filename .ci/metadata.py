@@ -1,4 +1,4 @@
-"""Tries where guppy-cargo takes metadata from: what it asks cargo, what it is given, and what it makes of standard input."""
+"""Tries where guppy-cargo takes metadata from: what it asks cargo, what it is given, and when it reads standard input."""
 
 import os
 import subprocess
@@ -135,7 +135,8 @@ def try_asked(world):
     ):
         got = ask(*words.split())
         yield words, sorted(got) == list(wanted), got
-    for where, path in ((world.room, top / "Cargo.toml"), (world.room, "a workspace/d/Cargo.toml"), (top / "b", "../Cargo.toml")):
+    places = (world.room, top / "Cargo.toml"), (world.room, "a workspace/d/Cargo.toml"), (top / "b", "../Cargo.toml")
+    for where, path in places:
         for words in (["--manifest-path", path, "affected", "b/x"], ["affected", "b/x", f"--manifest-path={path}"]):
             got = ask(*words, where=where)
             yield f"{words} in {where.name}", sorted(got) == ["a", "b"], got
@@ -162,7 +163,8 @@ def try_given(world):
             for asked in ([*option, *words[1:]], [*words[1:], *option]):
                 ran = world.run(["guppy-cargo", *asked], where=world.room)
                 yield f"{way}: {asked}", ran[:2] == (0, "b\na\n"), ran
-        for asked in ([*words, "--metadata", "-"], [words[0], "--metadata=-", *words[1:]]):
+        for option in (["--metadata", "-"], ["--metadata=-"], ["--metadata", "/dev/stdin"]):
+            asked = [words[0], *option, *words[1:]]
             with file.open("rb") as given:
                 ran = world.run(asked, where=world.room, given=given)
             yield f"{way}: {asked}", ran[:2] == (0, "b\na\n"), ran

@@ -247,7 +247,8 @@ def try_since_refused(world):
         yield refused(2, "--since needs a value", *words)
     yield refused(2, "--since is given twice", *since, "x", *since)
     ran = world.run(["guppy-cargo", "order", *since], where=home)
-    yield "order", ran[:2] == (2, "") and ran[2] == "guppy-cargo: --since belongs to affected, as in: guppy-cargo affected --since main\n", ran
+    told = "guppy-cargo: --since belongs to affected, as in: guppy-cargo affected --since main\n"
+    yield "order", ran == (2, "", told), ran
     metadata = str(world.top / "examples/metadata.json")
     yield refused(3, "metadata.json has no metadata of the workspace in", *since, "--metadata", metadata)
     with open(metadata, "rb") as given:
@@ -256,7 +257,7 @@ def try_since_refused(world):
     inner, odd = Changing(world.room / "a"), Changing(world.room / "a\nb")
     with metadata_file(inner).open("rb") as given:
         yield refused(3, "without --metadata cargo is asked", *since, "--metadata=-", where=odd.root, given=given)
-    yield refused(3, "name one by --manifest-path PATH", *since, where=world.room)
+    yield refused(3, "by --manifest-path PATH", *since, where=world.room)
     write(changing.top / ".gitignore", "*.ignored\nCargo.lock\nnone\n")
     (inner.top / ".git").rename(world.room / "taken away")
     tried, is_right, ran = refused(5, "git does not say what changed", *since, where=inner.root)

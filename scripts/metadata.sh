@@ -6,10 +6,11 @@ find_cargo() {
     command -v "$cargo" > /dev/null || fail "$1"
 }
 
-# Ends where cargo did not do what was asked, and has said why.
+# Ends where cargo did not do what was asked, and has said why: with the first word, or, where there is no workspace, with
+# what else to give than its path.
 give_up_cargo() {
     [ -n "$manifest" ] || "$cargo" locate-project < /dev/null > /dev/null 2>&1 ||
-        fail "no workspace is here: name one by --manifest-path PATH, or give metadata by --metadata FILE"
+        fail "no workspace is here: give the path of its Cargo.toml by --manifest-path PATH$2"
     fail "$1, and says above why"
 }
 
@@ -28,7 +29,7 @@ take_metadata() {
         find_cargo "cargo is not on the path: put it there, or give metadata by --metadata FILE"
         tell "asking cargo for the metadata of the workspace"
         eval "\"\$cargo\" metadata --format-version 1 $manifest $features $others" < /dev/null > "$copy" ||
-            give_up_cargo "cargo gives no metadata"
+            give_up_cargo "cargo gives no metadata" ", or metadata by --metadata FILE"
     fi
     exec < "$copy"
     trap - EXIT HUP INT TERM

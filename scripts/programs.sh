@@ -3,7 +3,7 @@
 
 # Ends with status 3: nothing was run.
 fail() {
-    echo "$name: $1" >&2
+    printf '%s\n' "$name: $1" >&2
     exit 3
 }
 

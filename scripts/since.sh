@@ -2,7 +2,7 @@
 
 # Ends with status 5: what changed is not known.
 give_no_changes() {
-    echo "$name: $1" >&2
+    printf '%s\n' "$name: $1" >&2
     exit 5
 }
 
@@ -17,7 +17,7 @@ are_few() {
 take_changed() {
     find_cargo "cargo is not on the path"
     root=$(eval "\"\$cargo\" locate-project --workspace --message-format plain $manifest" < /dev/null) ||
-        give_up_cargo "cargo finds no workspace"
+        give_up_cargo "cargo finds no workspace" ""
     root=${root%/*}
     root=${root:-/}
     tell "asking git what changed since $revision"

@@ -49,28 +49,26 @@ sort_words() {
 
 # Prints the line for one of the options. The second word is its value, and the third stands for that.
 sort_option() {
+    value=$3
+    case $1,$2 in
+    --metadata,- | --metadata,/dev/stdin) input=${input:+$input and }$1 value=- ;;
+    --paths-from,- | --paths-from,/dev/stdin) input=${input:+$input and }$1 value=/dev/fd/3 ;;
+    esac
     case $1 in
     --paths-from)
-        case $2 in
-        - | /dev/stdin)
-            input=${input:+$input and }$1
-            echo "left $1 /dev/fd/3"
-            ;;
-        *) echo "left $1 $3" ;;
-        esac
+        echo "left $1 $value"
         return
         ;;
     --metadata | --since)
-        case $1,$2 in --metadata,-) input=${input:+$input and }$1 ;; esac
         case $1,$2 in --since,-* | *,) refuse "$1 needs a value" ;; esac
         case $given in *"$1"*) refuse "$1 is given twice" ;; esac
         given="$given $1"
-        echo "${1#--} $3"
+        echo "${1#--} $value"
         return
         ;;
-    --manifest-path) echo "manifest $1=$3" ;;
-    --filter-platform) echo "others $1=$3" ;;
-    --features | -F) echo "features --features=$3" ;;
+    --manifest-path) echo "manifest $1=$value" ;;
+    --filter-platform) echo "others $1=$value" ;;
+    --features | -F) echo "features --features=$value" ;;
     --all-features | --no-default-features) echo "features $1" ;;
     *) echo "others $1" ;;
     esac
