@@ -1,7 +1,9 @@
 """Tries where guppy-cargo takes metadata from: what it asks cargo, what it is given, and when it reads standard input."""
 
 import os
+import signal
 import subprocess
+import time
 
 MANIFEST = '[package]\nname = "{}"\nversion = "0.1.0"\nedition = "2021"\n'
 # In the order of their names `a` comes before `b`, which it may need, and `d` behind `c`. In no order of unrelated members
@@ -186,8 +188,21 @@ def try_given(world):
             closed = piped(world, '"$@" <&-', asked, where=top)
             yield f"{way}: {asked} with no standard input", closed == with_pipe, closed
     ran = piped(world, '"$@" --metadata - <&-', words)
+    yield "an interrupt while it reads", *ended_while_reading(world, words)
     yield "metadata from none", is_told(ran, 2, "no metadata can be read: -: "), ran
     yield "no file is left", not world.left(), world.left()
+
+
+def ended_while_reading(world, words):
+    """Whether an interrupt ends a run that waits for metadata, with no file left."""
+    reading, writing = os.pipe()
+    with world.start([*words, "--metadata", "-"], given=reading, start_new_session=True) as started:
+        while not world.left() and started.poll() is None:
+            time.sleep(0.1)
+        os.killpg(started.pid, signal.SIGINT)
+    os.close(reading)
+    os.close(writing)
+    return started.returncode == 130 and not world.left(), (started.returncode, world.left())
 
 
 def is_fine(words, ran):

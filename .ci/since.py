@@ -6,6 +6,8 @@ import os
 import subprocess
 from pathlib import Path
 
+from metadata import HOOK, piped, with_open_pipe
+
 # Who commits, and settings with which git shows less than it could.
 SETTINGS = {
     "user.name": "x",
@@ -225,9 +227,14 @@ def try_since_answers(world):
         ("a package outside", lambda: write(changing.out / "src/lib.rs", "// changed"), "abc"),
     ):
         change()
-        for where in (root, root / "b/src"):
-            ran = world.run(["guppy-cargo", "affected", "--since", "HEAD"], where=where)
-            yield f"{what}, from {where.name}", ran[0] == 0 and sorted(ran[1].split()) == list(wanted), ran
+        words = ["guppy-cargo", "affected", "--since", "HEAD"]
+        for place, ran in (
+            ("from its root", world.run(words, where=root)),
+            ("from a folder", world.run(words, where=root / "b/src")),
+            ("in a hook", with_open_pipe(world, words, HOOK, where=root)),
+            ("with no standard input", piped(world, '"$@" <&-', words, where=root)),
+        ):
+            yield f"{what}, {place}", ran[0] == 0 and sorted(ran[1].split()) == list(wanted), ran
         changing.commit()
 
 
