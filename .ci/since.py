@@ -254,7 +254,7 @@ def try_since_refused(world):
         yield refused(2, "--since needs a value", *words)
     yield refused(2, "--since is given twice", *since, "x", *since)
     ran = world.run(["guppy-cargo", "order", *since], where=home)
-    told = "guppy-cargo: --since belongs to affected, as in: guppy-cargo affected --since main\n"
+    told = "guppy-cargo: --since goes with affected, as in: guppy-cargo affected --since main\n"
     yield "order", ran == (2, "", told), ran
     metadata = str(world.top / "examples/metadata.json")
     yield refused(3, "metadata.json has no metadata of the workspace in", *since, "--metadata", metadata)

@@ -10,7 +10,7 @@ find_cargo() {
 # what else to give than its path.
 give_up_cargo() {
     [ -n "$manifest" ] || "$cargo" locate-project < /dev/null > /dev/null 2>&1 ||
-        fail "no workspace is here: give the path of its Cargo.toml by --manifest-path PATH$2"
+        fail "there is no Cargo.toml here: give the path of one by --manifest-path PATH$2"
     fail "$1, and says above why"
 }
 

@@ -113,7 +113,7 @@ answer() {
     ! asks_for_help "$@" || run "$@"
     root= changed=
     if [ -n "$revision" ]; then
-        [ "${1-}" = affected ] || refuse "--since belongs to affected, as in: $name affected --since main"
+        [ "${1-}" = affected ] || refuse "--since goes with affected, as in: $name affected --since main"
         take_changed
         shift
         eval "set -- affected $changed \"\$@\""
