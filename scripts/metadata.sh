@@ -44,7 +44,7 @@ copy_given() {
         from="standard input"
         tell "reading the metadata of a workspace from $from"
     fi
-    told=$(cat -- "$metadata" 2>&1 > "$copy") || 
+    told=$(cat -- "$metadata" 2>&1 > "$copy") ||
         refuse "no metadata can be read: $(printf %s "$told" | sed 's/^cat: //; q')"
     text=$(printf %s "$root" | LC_ALL=C sed -z 's/["\\]/\\&/g; s/\n/\\n/g')
     [ -z "$root" ] || grep -qaF "\"workspace_root\":\"$text\"" "$copy" ||
