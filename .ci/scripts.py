@@ -16,6 +16,7 @@ import time
 from concurrent.futures import ThreadPoolExecutor
 from pathlib import Path
 
+from metadata import try_asked, try_given, try_metadata_refused
 from since import try_since, try_since_answers, try_since_refused
 
 HERE = Path(__file__).resolve().parent
@@ -60,14 +61,17 @@ class World:
 
     def run(self, words, **how):
         """Status, output and errors of a script of the clone."""
-        with self.start(words, **how) as started:
-            output, errors = started.communicate(timeout=SECONDS)
+        with self.start(words, start_new_session=True, **how) as started:
+            try:
+                output, errors = started.communicate(timeout=SECONDS)
+            except subprocess.TimeoutExpired:
+                os.killpg(started.pid, signal.SIGKILL)
+                return "too slow", *started.communicate()
         return started.returncode, output, errors
 
     def ask(self, words=("guppy-cargo", *AFFECTED), **how):
-        """The same of a program that is given the stored metadata."""
-        with open(self.top / "examples/metadata.json", "rb") as given:
-            return self.run(words, given=given, **how)
+        """The same of guppy-cargo with the stored metadata."""
+        return self.run([*words, "--metadata", str(self.top / "examples/metadata.json")], **how)
 
     def left(self):
         """What stands in the folder for temporary files."""
@@ -100,7 +104,8 @@ def is_refusal(ran, status, *words):
 def try_unproved(world):
     ran = world.ask()
     yield "a fresh clone answers", ran[:2] == (0, ANSWER) and is_one_line(ran[2], UNPROVED, "prove"), ran
-    ran = world.ask(["guppy-run", "order"])
+    with open(world.top / "examples/metadata.json", "rb") as given:
+        ran = world.run(["guppy-run", "order"], given=given)
     yield "so does guppy-run", ran[0] == 2 and ran[2].endswith("error: bad line 1\n"), ran
     ran = world.ask(["guppy-cargo", "reach", "forward", "no such"])
     is_told = ran[:2] == (1, "") and ran[2].splitlines()[1:] == ["error: unknown package ID: no such"]
@@ -109,7 +114,7 @@ def try_unproved(world):
         ran = world.ask(["guppy-cargo", *words])
         yield f"arguments {words} reach it", ran[0] == (0 if "affected" in words else 2), ran
     ran = world.run(["guppy-cargo", *AFFECTED], where=world.top / "examples/..")
-    yield "outside of a workspace cargo gives no metadata", is_refusal(ran, 3, "cargo gives no metadata"), ran
+    yield "outside of a workspace", *refusal(ran, 3, "--manifest-path PATH", "--metadata FILE")
     yield "a part of an answer is none", *refusal(world.ask(stand_in="too-much"), 4, "1048576 bytes", "prove")
     yield "neither is a fault", *refusal(world.ask(stand_in="fault"), 3, "index out of bounds")
     with tempfile.TemporaryFile(dir=world.room) as large:
@@ -117,6 +122,8 @@ def try_unproved(world):
         ran = world.run(["guppy-run", "order"], given=large)
     yield "input that rt would cut is refused", *refusal(ran, 4, "67108863 bytes", "prove")
     ran = world.ask(environment={"TMPDIR": "/no such folder"})
+    yield "no temporary file", *refusal(ran, 3, "no temporary file can be made")
+    ran = world.run(["guppy-run", "order"], environment={"TMPDIR": "/no such folder"})
     yield "no temporary folder", *refusal(ran, 3, "no temporary folder can be made")
     folder = os.open(world.room, os.O_RDONLY)
     ran = world.run(["guppy-run", "order"], given=folder)
@@ -133,13 +140,12 @@ def refusal(ran, status, *words):
 
 
 def try_interrupts(world):
-    metadata = world.top / "examples/metadata.json"
+    metadata = str(world.top / "examples/metadata.json")
     for number in (signal.SIGINT, signal.SIGTERM, signal.SIGHUP):
-        for words in (["guppy-cargo", *AFFECTED], ["prove"], ["quick-tests"]):
+        for words in (["guppy-cargo", *AFFECTED, "--metadata", metadata], ["prove"], ["quick-tests"]):
             file = world.room / f"{words[0]} {number.name}"
             how = {"environment": {"STARTED": str(file)}, "start_new_session": True}
-            with open(metadata, "rb") as given:
-                started = world.start(words, stand_in="slow", given=given, **how)
+            started = world.start(words, stand_in="slow", **how)
             wait_for(file)
             # As a terminal does, or kill.
             (os.killpg if number == signal.SIGINT else os.kill)(started.pid, number)
@@ -241,10 +247,10 @@ def try_installed(world):
     ran = world.run(["guppy-run", "order"], where=workspace, environment=path)
     yield "guppy-run too", ran == (0, "", ""), ran
     ran = world.run(["cargo", "guppy", "affected"], where=world.room, environment=path)
-    yield "no workspace", ran[0] == 3 and ran[2].endswith("cargo gives no metadata\n"), ran
+    yield "no workspace", ran[0] == 3 and ran[2].endswith("metadata by --metadata FILE\n"), ran
     left = sorted(str(it.relative_to(prefix)) for it in prefix.rglob("*") if it.is_file())
     wanted = ["bin/cargo-guppy", "bin/guppy-cargo", "bin/guppy-run", "libexec/guppy/guppy-cargo", "libexec/guppy/metadata.sh"]
-    wanted.append("libexec/guppy/since.sh")
+    wanted += ["libexec/guppy/since.sh", "libexec/guppy/words.sh"]
     yield "nothing else is there", left == wanted and not world.left(), (left, world.left())
 
 
@@ -284,8 +290,9 @@ def try_read_only(world):
 
 
 def try_without_rt(world):
-    for words in (["guppy-run", "order"], ["guppy-cargo", *AFFECTED], ["prove"], ["install", str(world.room / "p")]):
-        ran = world.ask(words)
+    metadata = ["--metadata", str(world.top / "examples/metadata.json")]
+    for words in (["guppy-run", "order"], ["guppy-cargo", *AFFECTED, *metadata], ["prove"], ["install", str(world.room / "p")]):
+        ran = world.run(words)
         yield f"{words[0]} without rt", *refusal(ran, 3, "rt is not on the path")
     ran = world.run(["quick-tests"])
     yield "quick-tests without rt", ran[0] == 1 and is_one_line(ran[2], "rt is not on the path"), ran
@@ -305,7 +312,7 @@ def try_with_rt(world):
     main = world.top / "crates/guppy_run/src/main.rt"
     text = main.read_text()
     main.write_text(text.replace("fn main", "fn other"))
-    yield "a source that does not compile", *refusal(world.ask(["guppy-run", "order"]), 3, "error", "src/main.rt:")
+    yield "a source that does not compile", *refusal(world.run(["guppy-run", "order"]), 3, "error", "src/main.rt:")
     main.write_text(text)
     ran = world.run(["quick-tests", "guppy_core_tests"])
     yield "the tests of a crate", ran[0] == 0 and ran[1].endswith(" passed, 0 failed\n"), ran
@@ -320,6 +327,9 @@ PARTS = {
     "changes": (try_since, []),
     "changes, answers": (try_since_answers, []),
     "changes, refusals": (try_since_refused, []),
+    "what cargo is asked": (try_asked, []),
+    "metadata": (try_given, []),
+    "metadata, refusals": (try_metadata_refused, []),
     "quick tests": (try_quick, []),
     "a read-only clone": (try_read_only, []),
     "without rt and cargo": (try_without_rt, ["rt", "cargo"]),

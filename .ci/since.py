@@ -6,6 +6,8 @@ import os
 import subprocess
 from pathlib import Path
 
+from metadata import HOOK, piped, with_open_pipe
+
 # Who commits, and settings with which git shows less than it could.
 SETTINGS = {
     "user.name": "x",
@@ -165,7 +167,8 @@ def noted(world, changing, words=("--since", "HEAD"), others=(), **how):
     ran = world.run(["guppy-cargo", "affected", *words], **how)
     # An untracked repository is given with a slash at its end.
     first, *got = [it.removesuffix(b"/") for it in note.read_bytes().split(b"\0")]
-    wanted = sorted([*changing.changed(), *others, b""])
+    changed = [b"./" + it if it.startswith(b"-") else it for it in changing.changed()]
+    wanted = sorted([*changed, *others, b""])
     is_right = ran[0] == 0 and first == b"affected" and sorted(got) == wanted
     return is_right, (ran, [it for it in got if it not in wanted], [it for it in wanted if it not in got])
 
@@ -195,9 +198,13 @@ def try_since(world):
         yield f"{place}: and other paths", *noted(world, changing, ["--since", "before", "x y", "*"], [b"x y", b"*"])
         metadata = metadata_file(changing)
         with metadata.open("rb") as given:
-            ran = noted(world, changing, ["--since=before"], given=given)
+            ran = noted(world, changing, ["--since=before", "--metadata", "-"], given=given)
         size = metadata.stat().st_size
         yield f"{place}: of the metadata on standard input", ran[0] and ran[1][0][1] == f"{size}\n", (ran, size)
+        ran = noted(world, changing, ["--metadata", str(metadata), "x", "--since", "before"], [b"x"])
+        yield f"{place}: of those in a file", ran[0] and ran[1][0][1] == f"{size}\n", (ran, size)
+        manifest = ["--manifest-path", str(changing.root / "b/Cargo.toml"), "--since=before"]
+        yield f"{place}: from elsewhere", *noted(world, changing, manifest, where=world.room)
         link = world.room / f"{place}, linked"
         link.symlink_to(changing.root)
         for where in (changing.root / "b/src", link):
@@ -220,9 +227,14 @@ def try_since_answers(world):
         ("a package outside", lambda: write(changing.out / "src/lib.rs", "// changed"), "abc"),
     ):
         change()
-        for where in (root, root / "b/src"):
-            ran = world.run(["guppy-cargo", "affected", "--since", "HEAD"], where=where)
-            yield f"{what}, from {where.name}", ran[0] == 0 and sorted(ran[1].split()) == list(wanted), ran
+        words = ["guppy-cargo", "affected", "--since", "HEAD"]
+        for place, ran in (
+            ("from its root", world.run(words, where=root)),
+            ("from a folder", world.run(words, where=root / "b/src")),
+            ("in a hook", with_open_pipe(world, words, HOOK, where=root)),
+            ("with no standard input", piped(world, '"$@" <&-', words, where=root)),
+        ):
+            yield f"{what}, {place}", ran[0] == 0 and sorted(ran[1].split()) == list(wanted), ran
         changing.commit()
 
 
@@ -238,15 +250,21 @@ def try_since_refused(world):
     for word in ("nosuch", "HEAD~1", "HEAD..HEAD", "^HEAD", "HEAD^{tree}", "x y", "HEAD:a"):
         yield refused(5, f"git does not say what changed since {word}", "--since", word)
     since = ["--since", "HEAD"]
-    for words in (["--since"], ["--since="], ["--since", "-x"], ["--since=--all"], ["a", *since], [*since, *since]):
-        yield refused(2, "usage: guppy-cargo affected --since REVISION", *words)
-    with open(world.top / "examples/metadata.json", "rb") as given:
-        yield refused(3, "standard input has no metadata of the workspace in", *since, given=given)
+    for words in (["--since"], ["--since="], ["--since", "-x"], ["--since=--all"]):
+        yield refused(2, "--since needs a value", *words)
+    yield refused(2, "--since is given twice", *since, "x", *since)
+    ran = world.run(["guppy-cargo", "order", *since], where=home)
+    told = "guppy-cargo: --since goes with affected, as in: guppy-cargo affected --since main\n"
+    yield "order", ran == (2, "", told), ran
+    metadata = str(world.top / "examples/metadata.json")
+    yield refused(3, "metadata.json has no metadata of the workspace in", *since, "--metadata", metadata)
+    with open(metadata, "rb") as given:
+        yield refused(3, "standard input has no metadata of the workspace in", *since, "--metadata", "-", given=given)
     # Whose path begins the other one's first line.
     inner, odd = Changing(world.room / "a"), Changing(world.room / "a\nb")
     with metadata_file(inner).open("rb") as given:
-        yield refused(3, "where it is /dev/null, cargo is asked", *since, where=odd.root, given=given)
-    yield refused(3, "cargo finds no workspace", *since, where=world.room)
+        yield refused(3, "without --metadata cargo is asked", *since, "--metadata=-", where=odd.root, given=given)
+    yield refused(3, "by --manifest-path PATH", *since, where=world.room)
     write(changing.top / ".gitignore", "*.ignored\nCargo.lock\nnone\n")
     (inner.top / ".git").rename(world.room / "taken away")
     tried, is_right, ran = refused(5, "git does not say what changed", *since, where=inner.root)

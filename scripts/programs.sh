@@ -3,7 +3,7 @@
 
 # Ends with status 3: nothing was run.
 fail() {
-    echo "$name: $1" >&2
+    printf '%s\n' "$name: $1" >&2
     exit 3
 }
 
@@ -64,7 +64,7 @@ try_program() {
     command -v rt > /dev/null ||
         fail "the program is not proved on this machine yet, and the toolchain's rt is not on the path"
     echo "$name: this answer takes a minute, and comes from a program that is not proved on this machine yet; '$here/prove' proves it" >&2
-    room= is_over= is_file=
+    room= is_over=
     clean() {
         if [ -n "$!" ] && [ -z "$is_over" ]; then
             kill "$!" 2> /dev/null
@@ -76,26 +76,31 @@ try_program() {
     room=$(mktemp -d) || fail "no temporary folder can be made"
     cat > "$room/input" 2> /dev/null || fail "standard input can't be read"
     [ "$(wc -c < "$room/input")" -le "$most_bytes" ] || give_up "the input has more than $most_bytes bytes"
-    # The program opens only what rt is told to hand it: each file behind --paths-from gets a name of its own.
-    files= number=0 left=$#
-    while [ "$left" -gt 0 ]; do
-        word=$1 left=$((left - 1))
-        shift
-        if [ -n "$is_file" ] && cp -- "$word" "$room/paths$((number + 1))" 2> /dev/null; then
-            number=$((number + 1)) word=paths$number
-            files="$files --data $word=\"\$room/$word\""
-        fi
-        is_file=
-        [ "$word" != --paths-from ] || is_file=1
-        set -- "$@" "$word"
-    done
+    words=$(hand_files "$@" | tr '\n' ' ')
+    files=$(ls "$room" | sed -n 's,^paths.*,--data &="$room/&",p' | tr '\n' ' ')
+    eval "set -- $files -- $words"
     cd "$here/crates/$top" || fail "there is no folder crates/$top"
-    eval "set -- $files -- \"\$@\""
     rt try --seconds "$most_seconds" "$@" < "$room/input" > "$room/answer" 2> "$room/told" &
     wait "$!"
     status=$?
     is_over=1
     tell_answer
+}
+
+# Prints each word in a line, the second as "${2}", for which the shell puts that word. The program opens only what rt is
+# told to hand it: each file behind --paths-from gets a copy, and its word is the name of that.
+hand_files() {
+    at=0 is_file=
+    for word do
+        at=$((at + 1))
+        if [ -n "$is_file" ] && cp -- "$word" "$room/paths$at" 2> /dev/null; then
+            echo "paths$at"
+        else
+            echo "\"\${$at}\""
+        fi
+        is_file=
+        [ "$word" != --paths-from ] || is_file=1
+    done
 }
 
 # Prints what the program printed, and ends with its status, or says why there is no answer. rt's status is the

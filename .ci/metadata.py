@@ -1,0 +1,251 @@
+"""Tries where guppy-cargo takes metadata from: what it asks cargo, what it is given, and when it reads standard input."""
+
+import os
+import signal
+import subprocess
+import time
+
+MANIFEST = '[package]\nname = "{}"\nversion = "0.1.0"\nedition = "2021"\n'
+# In the order of their names `a` comes before `b`, which it may need, and `d` behind `c`. In no order of unrelated members
+# by their names both pairs are right.
+MEMBERS = {
+    "a": '[dependencies]\nb = { path = "../b", optional = true }\n[features]\nextra = ["dep:b"]\n',
+    "b": "",
+    "c": '[target."cfg(windows)".dependencies]\ne.path = "../e"\n',
+    "d": '[dependencies]\nc = { path = "../c", optional = true }\n[features]\ndefault = ["more"]\nmore = []\nextra = ["c"]\n',
+    "e": "",
+}
+ALL = ["--all-features"]
+# Words for the script, and what cargo is to be asked of them.
+PASSED_ON = [
+    ("order", []),
+    ("affected x", ALL),
+    ("publish-order", ALL),
+    ("--locked publish-order", [*ALL, "--locked"]),
+    ("order --locked --offline", ["--locked", "--offline"]),
+    ("--frozen order", ["--frozen"]),
+    ("order --features a/extra", ["--features=a/extra"]),
+    ("order --features=a/extra,d/extra", ["--features=a/extra,d/extra"]),
+    ("publish-order -F a/extra -F d/extra", ["--features=a/extra", "--features=d/extra"]),
+    ("-Fa/extra order", ["--features=a/extra"]),
+    ("-F=a/extra order", ["--features=a/extra"]),
+    ("publish-order --no-default-features", ["--no-default-features"]),
+    ("order --all-features", ALL),
+    ("affected --all-features x --no-default-features", [*ALL, "--no-default-features"]),
+    ("affected --ignore y --filter-platform x86_64-pc-windows-msvc x", [*ALL, "--filter-platform=x86_64-pc-windows-msvc"]),
+    ("order --filter-platform=x86_64-pc-windows-msvc", ["--filter-platform=x86_64-pc-windows-msvc"]),
+    ("order --manifest-path a/Cargo.toml", ["--manifest-path=a/Cargo.toml"]),
+    ("--manifest-path=a/Cargo.toml order", ["--manifest-path=a/Cargo.toml"]),
+]
+# Words that are wrong, and what is told of them in one line; the others are told by the program.
+WRONG = [
+    ("order --metadata", "--metadata needs a value"),
+    ("order --metadata=", "--metadata needs a value"),
+    ("--metadata --locked order", "--metadata needs a value"),
+    ("order --manifest-path", "--manifest-path needs a value"),
+    ("order --features --locked", "--features needs a value"),
+    ("order -F", "-F needs a value"),
+    ("--filter-platform", "--filter-platform needs a value"),
+    ("order --metadata x --metadata=y", "--metadata is given twice"),
+    ("order --metadata x --locked", "--metadata can't be used with --locked"),
+    ("--features=x order --metadata=x", "--metadata can't be used with --features"),
+    ("--manifest-path x --metadata - order", "--metadata can't be used with --manifest-path"),
+    ("affected --paths-from", "--paths-from needs a value"),
+    ("affected --paths-from - --metadata -", "standard input can't be read for --paths-from and --metadata"),
+    ("affected --paths-from no/such", "no/such: the paths in it can't be read"),
+    ("order --metadata no/such", "no metadata can be read: no/such: "),
+    ("order --metadata .", "no metadata can be read: .: "),
+    ("", "bad arguments"),
+    ("--locked", "bad arguments"),
+    ("no-such --offline", "bad arguments"),
+    ("order --unknown", "bad arguments"),
+    ("no-such --metadata no/such", "bad arguments"),
+]
+HOOK = b"0000 1111 refs/heads/main\n"
+
+
+def make(top):
+    """A workspace of these members, with the file that locks it."""
+    for name, text in MEMBERS.items():
+        (top / name / "src").mkdir(parents=True)
+        (top / name / "src/lib.rs").touch()
+        (top / name / "Cargo.toml").write_text(MANIFEST.format(name) + text)
+    (top / "Cargo.toml").write_text('[workspace]\nmembers = ["a", "b", "c", "d", "e"]\nresolver = "2"\n')
+    subprocess.run(["cargo", "generate-lockfile", "--offline"], cwd=top, capture_output=True, check=True)
+
+
+def metadata_of(top, *words):
+    """What cargo says of a workspace."""
+    command = ["cargo", "metadata", "--format-version", "1", *words]
+    return subprocess.run(command, cwd=top, capture_output=True, check=True).stdout
+
+
+def script(path, text):
+    path.write_text(f"#!/bin/sh\n{text}")
+    path.chmod(0o755)
+    return str(path)
+
+
+def lines(ran):
+    return ran[1].split() if (ran[0], ran[2]) == (0, "") else ran
+
+
+def is_told(ran, status, told, before=0):
+    """Whether nothing was answered, and what is told stands in the last line, behind so many others."""
+    errors = ran[2].splitlines()
+    return ran[:2] == (status, "") and len(errors) == before + 1 and told in errors[-1]
+
+
+# Each yields what was tried, whether it went as it should, and what came.
+
+
+def try_asked(world):
+    """What cargo is asked, and what follows for the answer."""
+    top = world.room / "a workspace"
+    make(top)
+    world.build()
+    note = world.room / "note"
+    cargo = script(world.room / "noting", f'printf "%s\\n" "$@" > "{note}"\nexec cargo "$@"\n')
+    for words, wanted in PASSED_ON:
+        ran = world.run(["guppy-cargo", *words.split()], where=top, environment={"CARGO": cargo})
+        asked = note.read_text().splitlines()
+        is_right = asked[:3] == ["metadata", "--format-version", "1"] and sorted(asked[3:]) == sorted(wanted)
+        yield f"{words}, what cargo is asked", is_right and ran[0] == 0, (ran, asked)
+    for words in ("no-such", "order --unknown", "--locked", "order --help", "--locked --version"):
+        note.unlink(missing_ok=True)
+        ran = world.run(["guppy-cargo", *words.split()], where=top, environment={"CARGO": cargo})
+        is_judged = ran[0] == (0 if "--help" in words or "version" in words else 2)
+        yield f"{words}, for which cargo isn't asked", is_judged and not note.exists(), ran
+
+    def ask(*words, where=top):
+        return lines(world.run(["guppy-cargo", *words], where=where))
+
+    order, without = ask("publish-order"), ask("publish-order", "--no-default-features")
+    is_right = sorted(order) == sorted(without) == list("abcde")
+    is_right = is_right and all(order.index(a) < order.index(b) for a, b in ("ba", "cd", "ec"))
+    yield "the order with all features", is_right and order != without, (order, without)
+    for words, wanted in (
+        ("affected b/src/lib.rs", "ab"),
+        ("affected b/src/lib.rs --no-default-features", "b"),
+        ("affected b/src/lib.rs --features a/extra", "ab"),
+        ("affected c/x -Fd/more", "c"),
+        ("affected e/x", "cde"),
+        ("affected e/x --filter-platform x86_64-unknown-linux-gnu", "e"),
+        ("reach forward a", "a"),
+        ("reach forward a --all-features", "ab"),
+        ("--features=a/extra reach reverse b", "ab"),
+    ):
+        got = ask(*words.split())
+        yield words, sorted(got) == list(wanted), got
+    places = (world.room, top / "Cargo.toml"), (world.room, "a workspace/d/Cargo.toml"), (top / "b", "../Cargo.toml")
+    for where, path in places:
+        for words in (["--manifest-path", path, "affected", "b/x"], ["affected", "b/x", f"--manifest-path={path}"]):
+            got = ask(*words, where=where)
+            yield f"{words} in {where.name}", sorted(got) == ["a", "b"], got
+    (top / "Cargo.lock").unlink()
+    ran = world.run(["guppy-cargo", "order", "--locked"], where=top)
+    is_right = ran[:2] == (3, "") and "--locked" in ran[2] and "cargo gives no metadata" in ran[2].splitlines()[-1]
+    yield "cargo heeds --locked", is_right and not (top / "Cargo.lock").exists(), ran
+    yield "no file is left", not world.left(), world.left()
+
+
+def try_given(world):
+    """Metadata from a file and from standard input, and standard input that counts for nothing."""
+    top = world.room / "a workspace"
+    make(top)
+    file = world.room / "it's metadata.json"
+    file.write_bytes(metadata_of(top, "--all-features"))
+    (world.room / "-x").write_bytes(file.read_bytes())
+    words = ["guppy-cargo", "affected", "b/src/lib.rs"]
+    for way in ("unproved", "proved"):
+        if way == "proved":
+            world.build()
+        for given in ([str(file)], ["it's metadata.json"], ["./-x"], ["=-x"], [f"={file}"]):
+            option = [f"--metadata{given[0]}"] if given[0][0] == "=" else ["--metadata", *given]
+            for asked in ([*option, *words[1:]], [*words[1:], *option]):
+                ran = world.run(["guppy-cargo", *asked], where=world.room)
+                yield f"{way}: {asked}", ran[:2] == (0, "b\na\n"), ran
+        for option in (["--metadata", "-"], ["--metadata=-"], ["--metadata", "/dev/stdin"]):
+            asked = [words[0], *option, *words[1:]]
+            with file.open("rb") as given:
+                ran = world.run(asked, where=world.room, given=given)
+            yield f"{way}: {asked}", ran[:2] == (0, "b\na\n"), ran
+        ran = piped(world, f'cat "{file}" | "$@" --metadata -', words)
+        yield f"{way}: a pipe", ran[:2] == (0, "b\na\n"), ran
+        ran = piped(world, f'cat "{file}" | "$@" --metadata /dev/fd/3 3<&0 < /dev/null', words)
+        yield f"{way}: a pipe with a number", ran[:2] == (0, "b\na\n"), ran
+        ran = piped(world, 'printf "b/src/lib.rs\\0" | "$@" --paths-from /dev/fd/3 3<&0 < /dev/null', words[:2], where=top)
+        yield f"{way}: paths from a pipe", ran[:2] == (0, "b\na\n"), ran
+        for name in ("-", "/dev/stdin"):
+            ran = piped(world, f'printf "b/src/lib.rs\\0" | "$@" --paths-from {name}', words[:2], where=top)
+            yield f"{way}: paths from {name}", ran[:2] == (0, "b\na\n"), ran
+        for asked in (words, ["guppy-cargo", "--help"], ["guppy-cargo", "no-such"]):
+            status = 2 if asked[1] == "no-such" else 0
+            with_pipe = with_open_pipe(world, asked, where=top)
+            yield f"{way}: {asked} with an open pipe", with_pipe[0] == status and is_fine(asked, with_pipe), with_pipe
+            with_hook = with_open_pipe(world, asked, HOOK, where=top)
+            yield f"{way}: {asked} in a hook", with_hook == with_pipe, with_hook
+            closed = piped(world, '"$@" <&-', asked, where=top)
+            yield f"{way}: {asked} with no standard input", closed == with_pipe, closed
+    ran = piped(world, '"$@" --metadata - <&-', words)
+    yield "an interrupt while it reads", *ended_while_reading(world, words)
+    yield "metadata from none", is_told(ran, 2, "no metadata can be read: -: "), ran
+    yield "no file is left", not world.left(), world.left()
+
+
+def ended_while_reading(world, words):
+    """Whether an interrupt ends a run that waits for metadata, with no file left."""
+    reading, writing = os.pipe()
+    with world.start([*words, "--metadata", "-"], given=reading, start_new_session=True) as started:
+        while not world.left() and started.poll() is None:
+            time.sleep(0.1)
+        os.killpg(started.pid, signal.SIGINT)
+    os.close(reading)
+    os.close(writing)
+    return started.returncode == 130 and not world.left(), (started.returncode, world.left())
+
+
+def is_fine(words, ran):
+    return ran[1] == "b\na\n" if words[1] == "affected" else bool(ran[1]) == (words[1] == "--help")
+
+
+def piped(world, text, words, where=None):
+    """What a shell makes of the text, in which the words are a script of the clone and its own."""
+    return world.run(["sh", "-c", text, "sh", world.top / words[0], *words[1:]], where=where or world.room)
+
+
+def with_open_pipe(world, words, text=b"", **how):
+    """A run whose standard input has this text and never ends."""
+    reading, writing = os.pipe()
+    try:
+        os.write(writing, text)
+        return world.run(words, given=reading, **how)
+    finally:
+        os.close(reading)
+        os.close(writing)
+
+
+def try_metadata_refused(world):
+    """What is wrong, and what to do next."""
+    top = world.room / "a workspace"
+    make(top)
+    world.build()
+    for words, told in WRONG:
+        ran = world.run(["guppy-cargo", *words.split()], where=top)
+        yield words, is_told(ran, 2, told), ran
+    bare = world.room / "bare"
+    bare.write_bytes(metadata_of(top, "--no-deps"))
+    ran = world.run(["guppy-cargo", "order", "--metadata", str(bare)], where=top)
+    is_hinted = "--no-deps" in ran[2].splitlines()[0] and ran[2].endswith("error: resolve: no dependencies are resolved\n")
+    yield "no dependencies", ran[:2] == (1, "") and is_hinted and ran[2].count("\n") == 2, ran
+    for words in (["order"], ["affected", "--since", "HEAD"]):
+        ran = world.run(["guppy-cargo", *words], where=world.room)
+        yield f"{words} with no workspace", is_told(ran, 3, "--manifest-path PATH", 1) and "Cargo.toml" in ran[2], ran
+        ran = world.run(["guppy-cargo", *words, "--manifest-path", "no/such"], where=world.room)
+        yield f"{words} with a wrong path", ran[:2] == (3, "") and "says above why" in ran[2].splitlines()[-1], ran
+        old = script(world.room / "old", 'echo "error: unexpected argument" >&2; exit 1\n')
+        ran = world.run(["guppy-cargo", *words, "--manifest-path=a/Cargo.toml"], where=top, environment={"CARGO": old})
+        yield f"{words} with an old cargo", is_told(ran, 3, "says above why", 1) and "unexpected" in ran[2], ran
+    ran = world.run(["guppy-cargo", "order"], where=top, environment={"CARGO": "/no/such"})
+    yield "no cargo", is_told(ran, 3, "cargo is not on the path: put it there, or give metadata by --metadata FILE"), ran
+    yield "no file is left", not world.left(), world.left()

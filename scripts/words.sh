@@ -1,0 +1,127 @@
+# Read by guppy-cargo, and by cargo-guppy where it is installed: takes the scripts' own options out of the words, and has
+# the program answer the others. Before it is read, name is what stands before each message, and fail ends with one;
+# program is the proved program, where there is one, and run ends as the program does with the words.
+
+# Ends with status 2: the words are wrong.
+refuse() {
+    printf '%s\n' "$name: $1" >&2
+    exit 2
+}
+
+# Tells a terminal what is done.
+tell() {
+    [ ! -t 2 ] || echo "$name: $1" >&2
+}
+
+# Prints the words, each in quotes for the shell and followed by a space.
+quote() {
+    [ $# -eq 0 ] || printf '%s\0' "$@" | LC_ALL=C sed -z "s/'/'\\\\''/g; s/.*/'&'/" | tr '\0' ' '
+}
+
+# Prints lines that sort the words: each says of what kind its words are, and has the second word as "${2}", for which
+# the shell puts that word. (A list that grows word by word would take minutes with some thousand paths.)
+sort_words() {
+    at=0 option= given= for_cargo= input=
+    for word do
+        at=$((at + 1))
+        case $option,$word in
+        ,--metadata | ,--since | ,--manifest-path | ,--filter-platform | ,--features | ,-F | ,--paths-from)
+            option=$word
+            ;;
+        ,--metadata=* | ,--since=* | ,--manifest-path=* | ,--filter-platform=* | ,--features=* | ,-F=*)
+            sort_option "${word%%=*}" "${word#*=}" "\"\${$at#*=}\""
+            ;;
+        ,-F?*) sort_option -F "${word#-F}" "\"\${$at#-F}\"" ;;
+        ,--locked | ,--offline | ,--frozen | ,--all-features | ,--no-default-features) sort_option "$word" ;;
+        ,*) echo "left \"\${$at}\"" ;;
+        *,-?*) break ;;
+        *)
+            sort_option "$option" "$word" "\"\${$at}\""
+            option=
+            ;;
+        esac
+    done
+    [ -z "$option" ] || refuse "$option needs a value"
+    [ -z "$for_cargo" ] || [ "$given" = "${given#*--metadata}" ] ||
+        refuse "--metadata can't be used with $for_cargo: cargo is not asked then"
+    case $input in ?*' '?*) refuse "standard input can't be read for $input" ;; esac
+}
+
+# Prints the line for one of the options. The second word is its value, and the third stands for that.
+sort_option() {
+    value=$3
+    case $1,$2 in
+    --metadata,- | --metadata,/dev/stdin) input=${input:+$input and }$1 value=- ;;
+    --paths-from,- | --paths-from,/dev/stdin) input=${input:+$input and }$1 value=/dev/fd/3 ;;
+    esac
+    case $1 in
+    --paths-from)
+        echo "left $1 $value"
+        return
+        ;;
+    --metadata | --since)
+        case $1,$2 in --since,-* | *,) refuse "$1 needs a value" ;; esac
+        case $given in *"$1"*) refuse "$1 is given twice" ;; esac
+        given="$given $1"
+        echo "${1#--} $value"
+        return
+        ;;
+    --manifest-path) echo "manifest $1=$value" ;;
+    --filter-platform) echo "others $1=$value" ;;
+    --features | -F) echo "features --features=$value" ;;
+    --all-features | --no-default-features) echo "features $1" ;;
+    *) echo "others $1" ;;
+    esac
+    for_cargo=${for_cargo:-$1}
+}
+
+# The words of this kind, in sorted.
+of_kind() {
+    echo "$sorted" | sed -n "s/^$1 //p" | tr '\n' ' '
+}
+
+# Whether the words ask what the program says of itself, for which no metadata is needed.
+asks_for_help() {
+    case ${1-} in --help | -h | help | --version | -V) return 0 ;; esac
+    [ $# -eq 2 ] || return 1
+    case $2 in --help | -h) return 0 ;; esac
+    return 1
+}
+
+# Whether the proved program refuses the words, as it does before it reads its input. It reads paths from a file by then,
+# and those from a pipe or a terminal can't be read twice.
+refuses() {
+    [ -n "$program" ] || return 1
+    for word do
+        [ ! -p "$word" ] && [ ! -c "$word" ] || return 1
+    done
+    "$program" "$@" < /dev/null > /dev/null 2>&1
+    [ $? -eq 2 ]
+}
+
+# Ends as the program does with the words, on the metadata that they want.
+answer() {
+    sorted=$(sort_words "$@") || exit
+    eval "metadata=$(of_kind metadata) revision=$(of_kind since)"
+    manifest=$(eval "quote $(of_kind manifest)")
+    features=$(eval "quote $(of_kind features)")
+    others=$(eval "quote $(of_kind others)")
+    eval "set -- $(of_kind left)"
+    # Nothing else depends on what standard input is.
+    case $sorted in *"left --paths-from /dev/fd/3"*) exec 3<&0 ;; esac
+    [ "$metadata" = - ] || exec < /dev/null
+    ! asks_for_help "$@" || run "$@"
+    root= changed=
+    if [ -n "$revision" ]; then
+        [ "${1-}" = affected ] || refuse "--since goes with affected, as in: $name affected --since main"
+        take_changed
+        shift
+        eval "set -- affected $changed \"\$@\""
+        are_few "$@"
+    fi
+    ! refuses "$@" || run "$@"
+    # Which members a change affects, and in which order they can be published, depends on optional dependencies too.
+    case ${1-} in affected | publish-order) features=${features:---all-features} ;; esac
+    take_metadata
+    run "$@"
+}
