@@ -1,5 +1,5 @@
 ghost use Rattle.std.specs.Prelude.{List, IfOk, IsSomeAnd};
-ghost use Rattle.serde_json.specs.Read.{read};
+ghost use Rattle.json.specs.Json.{document};
 ghost use Rattle.guppy.specs.DataTypes.records.LinkRecord.{LinkRecord};
 ghost use Rattle.guppy.specs.Links.{AreLinksOf};
 ghost use Rattle.guppy_metadata.specs.Links.{AreLinks};
@@ -21,10 +21,10 @@ pub enum LoadError {
 
 /// The graph that the output of `cargo metadata --format-version 1` describes.
 pub fn load(alloc: Global, json: &str) -> Result<PackageGraph, LoadError>
-    ensures packages { IfOk result (λ g. IsSomeAnd (read json.now) (λ d. ArePackages d g.packages)) }
-    ensures links { IfOk result (λ g. IsSomeAnd (read json.now) (λ d. (records : List LinkRecord)
+    ensures packages { IfOk result (λ g. IsSomeAnd (document json.now) (λ d. ArePackages d g.packages)) }
+    ensures links { IfOk result (λ g. IsSomeAnd (document json.now) (λ d. (records : List LinkRecord)
         × AreLinks d records × AreLinksOf g.packages records g.links)) }
-    ensures workspace { IfOk result (λ g. IsSomeAnd (read json.now) (λ d. IsWorkspace d g.workspace)) }
+    ensures workspace { IfOk result (λ g. IsSomeAnd (document json.now) (λ d. IsWorkspace d g.workspace)) }
 {
     let records = records_of(alloc, json).map_err(LoadError::Metadata)?;
     let graph = records.into_graph().map_err(LoadError::Graph)?;

@@ -1,7 +1,8 @@
 -- Faults: why there is no answer, what they print, and the status that the program ends with.
-use Rattle.std.specs.Prelude.{ℕ, List, ◌++◌, Option, Some, None, codes, string_bytes}
+use Rattle.std.specs.Prelude.{ℕ, List, ◌++◌, codes, string_bytes}
 use Rattle.guppy_data.specs.declared.texts.error.Error.TheVariants.{OutOfMemory}
 use Rattle.guppy_data.specs.Texts.{error_text}
+use Rattle.guppy_metadata.specs.Fault.{fault_text as metadata_text}
 use Rattle.guppy_metadata.specs.declared.fault.MetadataFault.{MetadataFault}
 use Rattle.guppy_metadata.specs.declared.fault.MetadataFault.TheVariants.{OutOfMemory as MetadataMemory}
 use Rattle.guppy_program.specs.Cause.{Cause, bad_arguments, ambiguous, bad_input}
@@ -24,17 +25,16 @@ status_of (Program fault) = 2
 status_of (PathsFailed file) = 2
 status_of _ = 1
 
--- the text, where it is known: of a fault of the JSON it isn't
-abbrev pub fault_text : CargoFault → Option (List ℕ)
-fault_text (Program (Library error)) = Some (error_text error)
-fault_text (Program BadArguments) = Some (codes "bad arguments: give `reach forward|reverse PACKAGE..`, `depends PACKAGE PACKAGE`, `order`, `roots forward|reverse`, `links forward|reverse`, `cycles`, `verify`, `publish-order` or `affected [--ignore FOLDER].. [--paths-from FILE] PATH..`")
+abbrev pub fault_text : CargoFault → List ℕ
+fault_text (Program (Library error)) = error_text error
+fault_text (Program BadArguments) = codes "bad arguments: give `reach forward|reverse PACKAGE..`, `depends PACKAGE PACKAGE`, `order`, `roots forward|reverse`, `links forward|reverse`, `cycles`, `verify`, `publish-order` or `affected [--ignore FOLDER].. [--paths-from FILE] PATH..`"
 fault_text (Ambiguous word choices) =
-    Some (codes "ambiguous package " ++ string_bytes word ++ codes ": give " ++ string_bytes choices)
-fault_text (Metadata fault) = None
-fault_text NoText = Some (codes "the input is no UTF-8")
-fault_text (PathsFailed file) = Some (string_bytes file ++ codes ": the paths in it can't be read")
-fault_text (Program InputFailed) = Some (codes "input failed")
-fault_text (Program OutputFailed) = Some (codes "output failed")
+    codes "ambiguous package " ++ string_bytes word ++ codes ": give " ++ string_bytes choices
+fault_text (Metadata fault) = metadata_text fault
+fault_text NoText = codes "the input is no UTF-8"
+fault_text (PathsFailed file) = string_bytes file ++ codes ": the paths in it can't be read"
+fault_text (Program InputFailed) = codes "input failed"
+fault_text (Program OutputFailed) = codes "output failed"
 
 -- a fault of the JSON, or want of memory
 abbrev pub of_metadata : MetadataFault → CargoFault

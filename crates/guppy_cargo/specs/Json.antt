@@ -1,8 +1,7 @@
 -- What `guppy-cargo` reads, and what it calls packages.
 use Rattle.std.specs.Prelude.{◌≡◌, ℕ, List, None, IsSomeAnd, codes}
 use Rattle.std.specs.Str.{IsUtf8}
-use Rattle.serde_json.specs.Data.{Data}
-use Rattle.serde_json.specs.Read.{read}
+use Rattle.json.specs.Json.{Json, document}
 use Rattle.guppy_data.specs.declared.records.PackageRecord.{PackageRecord}
 use Rattle.guppy_data.specs.declared.records.LinkRecord.{LinkRecord}
 use Rattle.guppy_data.specs.declared.records.WorkspaceRecord.{WorkspaceRecord}
@@ -19,7 +18,7 @@ use Rattle.guppy_cargo.specs.Command.{command_of}
 use Rattle.guppy_cargo.specs.Names.{text, meant}
 
 -- the JSON says these packages, these links and this workspace
-pub record DataSays (d : Data) (packages : List PackageRecord) (links : List LinkRecord)
+pub record DataSays (d : Json) (packages : List PackageRecord) (links : List LinkRecord)
     (workspace : WorkspaceRecord) : Type 0 where
   pub packages_are : ArePackages d packages
   pub links_are : AreLinks d links
@@ -28,14 +27,14 @@ pub record DataSays (d : Data) (packages : List PackageRecord) (links : List Lin
 -- the input is JSON that says these records
 abbrev pub SaysRecords : List ℕ → List PackageRecord → List LinkRecord → WorkspaceRecord → Type 0
 SaysRecords input packages links workspace =
-    IsSomeAnd (read input) (λ d. DataSays d packages links workspace)
+    IsSomeAnd (document input) (λ d. DataSays d packages links workspace)
 
 -- the fault of the JSON is told where it may be: that it is none where it is none, and that no
 -- dependencies are resolved where none are
 pub record IsMisread (input : List ℕ) (fault : MetadataFault) : Type 0 where
-  pub no_json : IsNotJson fault → read input ≡ None
+  pub no_json : IsNotJson fault → document input ≡ None
   pub not_resolved : IsNotResolved fault
-      → IsSomeAnd (read input) (λ d. present (codes "resolve") d ≡ None)
+      → IsSomeAnd (document input) (λ d. present (codes "resolve") d ≡ None)
 
 -- the input is no UTF-8, or the JSON has the fault
 abbrev pub IsInputFault : List ℕ → CargoFault → Type 0

@@ -26,9 +26,10 @@ pub enum CargoFault {
 }
 
 impl fmt::Display for CargoFault {
+    ghost use Rattle.std.specs.Prelude.{Some};
     ghost use Rattle.guppy_cargo.specs.Fault.{fault_text};
 
-    ghost output = { fault_text };
+    ghost output = { λ fault. Some (fault_text fault) };
 
     fn fmt<W: fmt::Write>(&self, f: &mut fmt::Formatter<W>) -> fmt::Result {
         match self {

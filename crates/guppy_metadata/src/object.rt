@@ -217,6 +217,17 @@ impl<'v, 'a> Object<'v, 'a> {
         Ok(optional_copy(self.alloc, text)?)
     }
 
+    /// The list in the member of this name.
+    pub(crate) fn list(self, name: &str) -> Result<&'v Value<'a>, Misfit>
+        ensures { IfOk result (λ value. get name.now (data_of self.entry) ≡ Some (value_view value.now)) }
+    {
+        let value = self.required(name)?;
+        match value {
+            Value::Array(_) => Ok(value),
+            _ => Err(Misfit::wrong_kind(self.alloc, name, Kind::List)),
+        }
+    }
+
     /// The texts of the list in the member of this name; none where there is no list.
     pub(crate) fn texts(self, name: &str) -> Result<Vec<&'a str>, Misfit>
         ensures { IfOk result

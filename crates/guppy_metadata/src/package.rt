@@ -186,13 +186,13 @@ fn fill(
 fn package_of<'a>(json: Object<'_, 'a>) -> Result<Package<'a>, Misfit>
     ensures { IfOk result (IsTold (data_of json.entry)) }
 {
-    let alloc = json.alloc;
-    let declared = declared_dependencies(alloc, json.required("dependencies")?)?;
+    let id = json.text("id")?;
+    let declared = declared_dependencies(json.alloc, json.required("dependencies")?)?;
     let mut record = bare_record(json)?;
     describe(&mut record, json)?;
     fill(&mut record, json, declared.as_slice())?;
     Ok(Package {
-        id: json.text("id")?,
+        id,
         source: json.optional_text("source")?,
         record,
         declared,

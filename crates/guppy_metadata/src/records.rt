@@ -40,7 +40,7 @@ fn nodes_of<'v, 'a>(metadata: Object<'v, 'a>) -> Result<&'v Value<'a>, Misfit>
     ensures { IfOk result (λ nodes. nodes_in (data_of metadata.entry) ≡ Some (value_view nodes.now)) }
 {
     let resolve = metadata.object("resolve")?;
-    match resolve.required("nodes") {
+    match resolve.list("nodes") {
         Ok(nodes) => Ok(nodes),
         Err(fault) => Err(fault.within(metadata.alloc, "resolve")),
     }

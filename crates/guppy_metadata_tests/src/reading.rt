@@ -312,7 +312,7 @@ fn is_told(rt: &impl Abort, alloc: Global, json: &str, wanted: &str) {
 }
 
 const WHOLE: &[(&str, &str)] = &[
-    ("", "no JSON: EOF while parsing at line 1 column 0"),
+    ("", "no JSON at line 1 column 1"),
     ("[]", "the JSON: no object"),
     ("{}", "resolve: no dependencies are resolved"),
     (
