@@ -1,0 +1,18 @@
+//! Answers about graphs that the caller holds as slices, for callers that keep their own: a position is
+//! a number below the node count, a link is its two ends, a set has a mark for each position, and what
+//! is answered is written into a slice of the caller's.
+//!
+//! Each call makes the graph of the slices anew and keeps nothing. The modules:
+//!
+//! - `flat`: links as slices, and the graph of them;
+//! - `marks`: sets as slices;
+//! - `search`: what positions lead to.
+#![tactic(auto)]
+
+pub mod flat;
+pub mod marks;
+pub mod search;
+
+pub use flat::{Ends, Flat};
+pub use guppy_core::{DependencyDirection, GraphFault};
+pub use search::reach;
