@@ -6,13 +6,16 @@
 //!
 //! - `flat`: links as slices, and the graph of them;
 //! - `marks`: sets as slices;
-//! - `search`: what positions lead to.
+//! - `search`: what positions lead to;
+//! - `ordering`: orders and components.
 #![tactic(auto)]
 
 pub mod flat;
 pub mod marks;
+pub mod ordering;
 pub mod search;
 
 pub use flat::{Ends, Flat};
 pub use guppy_core::{DependencyDirection, GraphFault};
+pub use ordering::order;
 pub use search::reach;

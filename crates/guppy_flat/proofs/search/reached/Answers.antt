@@ -22,9 +22,9 @@ returns-clause-reached c =
       link_of = λ a b s. (s.number, s.link, s.found, s.near, s.far, s.kept);
     } in
     let answers : AnswersBy (λ (l : Link Bool). l.edge ≡ true) links judged.0 = λ n answer l h found.
-        let same = All-contains Answers judged.0 (n, answer)
-            (each_answer _ Answers (λ (v : Flagged). v.graph.now.links ≡ links)
-            (λ v e t i k. (λ l f. k.1 l (rw i f), ap (λ (r : Flagged). r.graph.now.links) k.0 ∙ i))
-            judged.0 _ _ refl judged.2) h l found in
-        (λ e. sym same ∙ e, λ e. same ∙ e) in
+    let same = All-contains Answers judged.0 (n, answer)
+    (each_answer _ Answers (λ (v : Flagged). v.graph.now.links ≡ links)
+    (λ v e t i k. (λ l f. k.1 l (rw i f), ap (λ (r : Flagged). r.graph.now.links) k.0 ∙ i))
+    judged.0 _ _ refl judged.2) h l found in
+    (λ e. sym same ∙ e, λ e. same ∙ e) in
     judged_reached d _ links _ steps c.args.starts.now judged.0 _ judged.1 answers

@@ -1,0 +1,69 @@
+ghost use Rattle.std.specs.Prelude.{◌≡◌, ◌≤◌, length, map, take, IfOk, IfErr, OnOk, OnErr};
+ghost use Rattle.std.specs.List.{concat};
+ghost use Rattle.guppy_search.specs.Fault.{IsFault};
+ghost use Rattle.guppy_core.specs.Sccs.{listed};
+ghost use Rattle.guppy_flat.specs.Flat.{flagged};
+ghost use Rattle.guppy_flat.specs.Ordering.{AreOrdered, IsOrdered};
+
+use crate::flat::{Ends, Flat, graph_of};
+use guppy_core::{
+    CountedGraph, DependencyDirection, Graph, GraphFault, IndexType, PackageIx, Sccs,
+    TopoWithCycles,
+};
+use std::alloc::{AllocError, Global};
+
+/// The components of the graph, dependents first, each in an order by the flagged links.
+///
+/// Looks at each link at most four times. Takes memory for some numbers a node and a byte a link, and
+/// fails only where there is none.
+pub fn components_of(graph: &Graph<Flat>) -> Result<Sccs<PackageIx>, AllocError>
+    ensures { IfOk result (AreOrdered graph.now.links (length graph.now.nodes)) }
+{
+    let mut counted = CountedGraph::new(graph);
+    let topo = TopoWithCycles::new(&mut counted, |flag: &bool| *flag)?;
+    let sccs = Sccs::new(&mut counted, &topo)?;
+    Ok(sccs)
+}
+
+// The positions of the components, end to end.
+fn positions_of<Ix: IndexType>(alloc: Global, sccs: &Sccs<Ix>) -> Result<Vec<Ix>, AllocError>
+    ensures { IfOk result (λ list. map Ix.index_of list.items ≡ concat sccs.now) }
+{
+    sccs.node_iter(DependencyDirection::Forward).collect(alloc)
+}
+
+/// Writes the positions to the front of the list, which has room for them, as numbers.
+pub fn write<Ix: IndexType>(positions: &[Ix], list: &mut [u32])
+    requires { length positions.now ≤ length list.old }
+    ensures { take (length positions.now) list.new ≡ map Ix.index_of positions.now }
+{
+    for place in 0..positions.len() {
+        list[place] = positions[place].index() as u32;
+    }
+}
+
+/// Writes all positions, each once: components together, and of a link between two components the
+/// position that it leaves first. Where the flagged links have no cycle but self-links, of each of these
+/// too. There is a flag for each link, and as many positions as places in the list.
+///
+/// Otherwise the first fault of the links, as `Graph::from_parts` has it, or `OutOfMemory` where a
+/// growth was refused; then the list is unchanged. Time grows with positions and links. Takes memory for
+/// 42 bytes a link and some numbers a position.
+pub fn order(
+    alloc: Global,
+    links: &[Ends],
+    flags: &[bool],
+    list: &mut [u32],
+) -> Result<(), GraphFault>
+    requires { length flags.now ≡ length links.now }
+    ensures order { OnOk result
+        (IsOrdered (flagged links.now flags.now) (length list.old) list.new) }
+    ensures fault { IfErr result (IsFault (length list.old) (flagged links.now flags.now)) }
+    ensures unchanged { OnErr result (list.new ≡ list.old) }
+{
+    let graph = graph_of(alloc, list.len(), links, flags)?;
+    let components = components_of(&graph)?;
+    let positions = positions_of(alloc, &components)?;
+    write(positions.as_slice(), list);
+    Ok(())
+}
