@@ -7,15 +7,18 @@
 //! - `flat`: links as slices, and the graph of them;
 //! - `marks`: sets as slices;
 //! - `search`: what positions lead to;
-//! - `ordering`: orders and components.
+//! - `ordering`: orders and components;
+//! - `sets`: the roots of a set.
 #![tactic(auto)]
 
 pub mod flat;
 pub mod marks;
 pub mod ordering;
 pub mod search;
+pub mod sets;
 
 pub use flat::{Ends, Flat};
 pub use guppy_core::{DependencyDirection, GraphFault};
 pub use ordering::order;
 pub use search::reach;
+pub use sets::roots;

@@ -1,4 +1,3 @@
-use Rattle.std.proofs.Common.{refl}
 use Rattle.guppy_flat.proofs.search.reach.Goals as goal
 
 pub returns-clause-reached : goal.returns-clause-reached

@@ -1,0 +1,59 @@
+ghost use Rattle.std.specs.Prelude.{◌≡◌, ◌↔◌, ℕ, ◌<◌, length, map, All, IfOk, IfErr, OnOk, OnErr};
+ghost use Rattle.guppy_search.specs.Fault.{IsFault};
+ghost use Rattle.guppy_search.specs.IxSet.{IsIn};
+ghost use Rattle.guppy_core.specs.Listing.{Stands};
+ghost use Rattle.guppy_flat.specs.Flat.{plain};
+ghost use Rattle.guppy_flat.specs.Sets.{MarksRoots};
+
+use crate::flat::{Ends, Flat, graph_of};
+use crate::marks::{mark, set_of};
+use crate::ordering::components_of;
+use guppy_core::{DependencyDirection, Graph, GraphFault, IndexType, ResolveCore, Sccs};
+use std::alloc::{AllocError, Global};
+
+// The graph of these links, none of them flagged.
+fn plain_graph_of(alloc: Global, count: usize, links: &[Ends]) -> Result<Graph<Flat>, GraphFault>
+    ensures nodes { IfOk result (λ g. length g.nodes ≡ count) }
+    ensures links { IfOk result (λ g. g.links ≡ plain links.now) }
+    ensures fault { IfErr result (IsFault count (plain links.now)) }
+{
+    let flags = vec![in alloc; false; links.len()]?;
+    graph_of(alloc, count, links, flags.as_slice())
+}
+
+// Marks the positions, and no other.
+fn mark_each<Ix: IndexType>(positions: &[Ix], marks: &mut [bool])
+    requires { All (λ ix. Ix.index_of ix < length marks.old) positions.now }
+    ensures { (p : ℕ) → IsIn marks.new p ↔ Stands (map Ix.index_of positions.now) p }
+{
+    marks.fill(false);
+    for position in positions {
+        marks[position.index()] = true;
+    }
+}
+
+/// Marks the roots of the marked set in the direction, and no other position: those whose component no
+/// link inside the set enters from another one. There is a mark for each of the set's positions.
+///
+/// Otherwise the first fault of the links, as `Graph::from_parts` has it, or `OutOfMemory` where a
+/// growth was refused; then no mark is changed. Time grows with positions and links. Takes memory for 43
+/// bytes a link and some numbers a position.
+pub fn roots(
+    alloc: Global,
+    links: &[Ends],
+    set: &[bool],
+    direction: DependencyDirection,
+    marks: &mut [bool],
+) -> Result<(), GraphFault>
+    requires { length marks.old ≡ length set.now }
+    ensures roots { OnOk result (MarksRoots direction (plain links.now) set.now marks.new) }
+    ensures fault { IfErr result (IsFault (length set.now) (plain links.now)) }
+    ensures unchanged { OnErr result (marks.new ≡ marks.old) }
+{
+    let graph = plain_graph_of(alloc, set.len(), links)?;
+    let components = components_of(&graph)?;
+    let included = ResolveCore::from_included(set_of(alloc, set)?);
+    let roots = included.roots(&graph, &components, direction)?;
+    mark_each(roots.as_slice(), marks);
+    Ok(())
+}
