@@ -1,0 +1,128 @@
+ghost use Rattle.std.specs.Prelude.{◌≡◌, ◌≢◌, ◌≤◌, ◌↔◌, ◌⊎◌, ℕ, List, Bool, length};
+ghost use Rattle.guppy_search.specs.Fault.{IsFault};
+ghost use Rattle.guppy_search.specs.declared.graph_core.link.Link.{Link};
+ghost use Rattle.guppy_flat.specs.Flat.{flagged, plain};
+ghost use Rattle.guppy_flat.specs.Ordering.{IsOrdered};
+ghost use Rattle.guppy_flat.specs.Search.{IsReached};
+ghost use Rattle.guppy_flat.specs.Sets.{MarksRoots};
+ghost use Rattle.guppy_c.specs.Flat.{direction_of, TellsFault};
+
+use guppy_flat::{DependencyDirection, Ends, GraphFault};
+use std::alloc::Global;
+
+/// How a call ended.
+#[repr(C)]
+#[derive(Clone, Copy, Debug, PartialEq, Eq)]
+pub struct Outcome {
+    /// 0: answered. 1: the lengths of the slices don't fit. 2: there are too many positions. 3: there are
+    /// too many links. 4: an end of a link is no position. 5: a link has the ends of an earlier one. 6: there
+    /// was no memory.
+    pub status: u32,
+    /// At 4 and 5 the number of the first such link, else 0.
+    pub link: usize,
+}
+
+// The direction from dependents to dependencies, or the other one.
+fn direction(forward: bool) -> DependencyDirection
+    ensures { result ≡ direction_of forward }
+{
+    if forward {
+        DependencyDirection::Forward
+    } else {
+        DependencyDirection::Reverse
+    }
+}
+
+// How a call ends that found the fault.
+fn told(fault: GraphFault) -> Outcome
+    ensures tells { (count : ℕ) (links : List (Link Bool)) → IsFault count links fault
+        → TellsFault count links result }
+    ensures status { 2 ≤ result.status }
+{
+    match fault {
+        GraphFault::TooManyNodes => Outcome { status: 2, link: 0 },
+        GraphFault::TooManyLinks => Outcome { status: 3, link: 0 },
+        GraphFault::UnknownEnd(link) => Outcome { status: 4, link },
+        GraphFault::RepeatedLink(link) => Outcome { status: 5, link },
+        GraphFault::OutOfMemory => Outcome { status: 6, link: 0 },
+    }
+}
+
+/// Marks the positions that flagged links lead to from the marked starts, the starts among them, and no
+/// other; from dependents to dependencies where `forward` says so, else the other way. There is a flag for
+/// each link, and a mark for each of the starts' positions.
+#[unsafe(no_mangle)]
+pub extern "C" fn guppy_reach(
+    alloc: Global,
+    links: &[Ends],
+    flags: &[bool],
+    starts: &[bool],
+    forward: bool,
+    marks: &mut [bool],
+) -> Outcome
+    ensures reached { result.status ≡ 0 → IsReached (direction_of forward)
+        (flagged links.now flags.now) starts.now marks.new }
+    ensures lengths { (result.status ≡ 1)
+        ↔ ((length flags.now ≢ length links.now) ⊎ (length marks.old ≢ length starts.now)) }
+    ensures fault { TellsFault (length starts.now) (flagged links.now flags.now) result }
+    ensures unchanged { result.status ≢ 0 → marks.new ≡ marks.old }
+{
+    if flags.len() != links.len() || marks.len() != starts.len() {
+        return Outcome { status: 1, link: 0 };
+    }
+    match guppy_flat::reach(alloc, links, flags, starts, direction(forward), marks) {
+        Ok(()) => Outcome { status: 0, link: 0 },
+        Err(fault) => told(fault),
+    }
+}
+
+/// Writes all positions, each once: components together, and of a link between two components the
+/// position that it leaves first. Where the flagged links have no cycle but self-links, of each of these
+/// too. There is a flag for each link, and as many positions as places in the list.
+#[unsafe(no_mangle)]
+pub extern "C" fn guppy_order(
+    alloc: Global,
+    links: &[Ends],
+    flags: &[bool],
+    list: &mut [u32],
+) -> Outcome
+    ensures order { result.status ≡ 0
+        → IsOrdered (flagged links.now flags.now) (length list.old) list.new }
+    ensures lengths { (result.status ≡ 1) ↔ (length flags.now ≢ length links.now) }
+    ensures fault { TellsFault (length list.old) (flagged links.now flags.now) result }
+    ensures unchanged { result.status ≢ 0 → list.new ≡ list.old }
+{
+    if flags.len() != links.len() {
+        return Outcome { status: 1, link: 0 };
+    }
+    match guppy_flat::order(alloc, links, flags, list) {
+        Ok(()) => Outcome { status: 0, link: 0 },
+        Err(fault) => told(fault),
+    }
+}
+
+/// Marks the roots of the marked set, and no other position: those whose component no link inside the
+/// set enters from another one; a link enters what it leads to where `forward` says so, else what it
+/// leaves. There is a mark for each of the set's positions.
+#[unsafe(no_mangle)]
+pub extern "C" fn guppy_roots(
+    alloc: Global,
+    links: &[Ends],
+    set: &[bool],
+    forward: bool,
+    marks: &mut [bool],
+) -> Outcome
+    ensures roots { result.status ≡ 0
+        → MarksRoots (direction_of forward) (plain links.now) set.now marks.new }
+    ensures lengths { (result.status ≡ 1) ↔ (length marks.old ≢ length set.now) }
+    ensures fault { TellsFault (length set.now) (plain links.now) result }
+    ensures unchanged { result.status ≢ 0 → marks.new ≡ marks.old }
+{
+    if marks.len() != set.len() {
+        return Outcome { status: 1, link: 0 };
+    }
+    match guppy_flat::roots(alloc, links, set, direction(forward), marks) {
+        Ok(()) => Outcome { status: 0, link: 0 },
+        Err(fault) => told(fault),
+    }
+}
