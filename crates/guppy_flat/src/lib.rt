@@ -8,15 +8,18 @@
 //! - `marks`: sets as slices;
 //! - `search`: what positions lead to;
 //! - `ordering`: orders and components;
-//! - `sets`: the roots of a set.
+//! - `sets`: the roots of a set;
+//! - `cycles`: a cycle.
 #![tactic(auto)]
 
+pub mod cycles;
 pub mod flat;
 pub mod marks;
 pub mod ordering;
 pub mod search;
 pub mod sets;
 
+pub use cycles::cycle;
 pub use flat::{Ends, Flat};
 pub use guppy_core::{DependencyDirection, GraphFault};
 pub use ordering::order;
