@@ -1,1 +1,2 @@
 pub mod Cycling
+pub mod Places

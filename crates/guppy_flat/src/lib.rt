@@ -22,6 +22,6 @@ pub mod sets;
 pub use cycles::cycle;
 pub use flat::{Ends, Flat};
 pub use guppy_core::{DependencyDirection, GraphFault};
-pub use ordering::order;
+pub use ordering::{components, order};
 pub use search::reach;
 pub use sets::roots;

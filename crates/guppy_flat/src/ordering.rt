@@ -1,9 +1,10 @@
-ghost use Rattle.std.specs.Prelude.{◌≡◌, ◌≤◌, length, map, take, IfOk, IfErr, OnOk, OnErr};
+ghost use Rattle.std.specs.Prelude.{◌≡◌, ◌↔◌, ℕ, ◌<◌, ◌≤◌, false, length, map, take, All, IfOk, IfErr, OnOk, OnErr};
 ghost use Rattle.std.specs.List.{concat};
 ghost use Rattle.guppy_search.specs.Fault.{IsFault};
-ghost use Rattle.guppy_core.specs.Sccs.{listed};
+ghost use Rattle.guppy_search.specs.IxSet.{has};
+ghost use Rattle.guppy_core.specs.Sccs.{InOneBlock};
 ghost use Rattle.guppy_flat.specs.Flat.{flagged};
-ghost use Rattle.guppy_flat.specs.Ordering.{AreOrdered, IsOrdered};
+ghost use Rattle.guppy_flat.specs.Ordering.{AreOrdered, IsOrdered, IsWithPrevious, MarksFirsts};
 
 use crate::flat::{Ends, Flat, graph_of};
 use guppy_core::{
@@ -65,5 +66,56 @@ pub fn order(
     let components = components_of(&graph)?;
     let positions = positions_of(alloc, &components)?;
     write(positions.as_slice(), list);
+    Ok(())
+}
+
+// Whether a component begins at the place.
+fn begins<Ix: IndexType>(sccs: &Sccs<Ix>, positions: &[Ix], place: usize) -> bool
+    requires place { place < length positions.now }
+    requires below { All (λ ix. Ix.index_of ix < length (concat sccs.now)) positions.now }
+    ensures { (result ≡ false)
+        ↔ IsWithPrevious (InOneBlock sccs.now) (map Ix.index_of positions.now) place }
+{
+    place == 0 || !sccs.is_same_scc(positions[place - 1], positions[place])
+}
+
+// Marks the places at which a component begins.
+fn mark_firsts<Ix: IndexType>(sccs: &Sccs<Ix>, positions: &[Ix], firsts: &mut [bool])
+    requires room { length positions.now ≤ length firsts.old }
+    requires below { All (λ ix. Ix.index_of ix < length (concat sccs.now)) positions.now }
+    ensures { (place : ℕ) → place < length positions.now → (has firsts.new place ≡ false)
+        ↔ IsWithPrevious (InOneBlock sccs.now) (map Ix.index_of positions.now) place }
+{
+    for place in 0..positions.len() {
+        firsts[place] = begins(sccs, positions, place);
+    }
+}
+
+/// Writes all positions as [`order`] does, and marks the places at which a component begins. There is a
+/// flag for each link, and a mark for each place of the list.
+///
+/// Otherwise as `order`; then no mark is changed either.
+pub fn components(
+    alloc: Global,
+    links: &[Ends],
+    flags: &[bool],
+    list: &mut [u32],
+    firsts: &mut [bool],
+) -> Result<(), GraphFault>
+    requires flags { length flags.now ≡ length links.now }
+    requires firsts { length firsts.old ≡ length list.old }
+    ensures order { OnOk result
+        (IsOrdered (flagged links.now flags.now) (length list.old) list.new) }
+    ensures firsts { OnOk result
+        (MarksFirsts (flagged links.now flags.now) list.new firsts.new) }
+    ensures fault { IfErr result (IsFault (length list.old) (flagged links.now flags.now)) }
+    ensures unchanged { OnErr result (list.new ≡ list.old) }
+    ensures unmarked { OnErr result (firsts.new ≡ firsts.old) }
+{
+    let graph = graph_of(alloc, list.len(), links, flags)?;
+    let components = components_of(&graph)?;
+    let positions = positions_of(alloc, &components)?;
+    write(positions.as_slice(), list);
+    mark_firsts(&components, positions.as_slice(), firsts);
     Ok(())
 }

@@ -1,11 +1,8 @@
-use Rattle.std.proofs.Common.{◌≡◌, ◌∙◌, ℕ, List, length, take, refl, sym, ap, arith}
+use Rattle.std.proofs.Common.{◌∙◌, length, refl, sym, ap, arith}
 use Rattle.std.specs.List.{concat}
-use Rattle.std.proofs.lemmas.List.{take_all, length-map}
+use Rattle.std.proofs.lemmas.List.{length-map}
+use Rattle.guppy_flat.proofs.Places.{all_written}
 use Rattle.guppy_flat.proofs.ordering.order.Goals as goal
-
--- what stands at the front is all, where the list is no longer
-all_written : (n : ℕ) (xs ys : List ℕ) → take n xs ≡ ys → length xs ≡ n → xs ≡ ys
-all_written n xs ys front long = sym (take_all n xs (omega arith)) ∙ front
 
 pub returns-clause-order : goal.returns-clause-order
 returns-clause-order c =
