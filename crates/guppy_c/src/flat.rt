@@ -1,9 +1,11 @@
-ghost use Rattle.std.specs.Prelude.{◌≡◌, ◌≢◌, ◌≤◌, ◌↔◌, ◌⊎◌, ℕ, List, Bool, length};
+ghost use Rattle.std.specs.Prelude.{◌≡◌, ◌≢◌, ◌≤◌, ◌↔◌, ◌⊎◌, ℕ, List, Bool, length, take};
 ghost use Rattle.guppy_search.specs.Fault.{IsFault};
 ghost use Rattle.guppy_search.specs.declared.graph_core.link.Link.{Link};
+ghost use Rattle.guppy_search.specs.declared.ix.direction.DependencyDirection.TheVariants.{Forward};
+ghost use Rattle.guppy_core.specs.Cycle.{IsAcyclic, IsCycle};
 ghost use Rattle.guppy_flat.specs.Flat.{flagged, plain};
-ghost use Rattle.guppy_flat.specs.Ordering.{IsOrdered};
-ghost use Rattle.guppy_flat.specs.Search.{IsReached};
+ghost use Rattle.guppy_flat.specs.Ordering.{IsOrdered, MarksFirsts};
+ghost use Rattle.guppy_flat.specs.Search.{FlaggedStep, IsReached};
 ghost use Rattle.guppy_flat.specs.Sets.{MarksRoots};
 ghost use Rattle.guppy_c.specs.Flat.{direction_of, TellsFault};
 
@@ -101,6 +103,35 @@ pub extern "C" fn guppy_order(
     }
 }
 
+/// Writes all positions as `guppy_order` does, and marks the places of the list at which a component
+/// begins. There is a flag for each link, and a mark for each place of the list.
+#[unsafe(no_mangle)]
+pub extern "C" fn guppy_components(
+    alloc: Global,
+    links: &[Ends],
+    flags: &[bool],
+    list: &mut [u32],
+    firsts: &mut [bool],
+) -> Outcome
+    ensures order { result.status ≡ 0
+        → IsOrdered (flagged links.now flags.now) (length list.old) list.new }
+    ensures firsts { result.status ≡ 0
+        → MarksFirsts (flagged links.now flags.now) list.new firsts.new }
+    ensures lengths { (result.status ≡ 1)
+        ↔ ((length flags.now ≢ length links.now) ⊎ (length firsts.old ≢ length list.old)) }
+    ensures fault { TellsFault (length list.old) (flagged links.now flags.now) result }
+    ensures unchanged { result.status ≢ 0 → list.new ≡ list.old }
+    ensures unmarked { result.status ≢ 0 → firsts.new ≡ firsts.old }
+{
+    if flags.len() != links.len() || firsts.len() != list.len() {
+        return Outcome { status: 1, link: 0 };
+    }
+    match guppy_flat::components(alloc, links, flags, list, firsts) {
+        Ok(()) => Outcome { status: 0, link: 0 },
+        Err(fault) => told(fault),
+    }
+}
+
 /// Marks the roots of the marked set, and no other position: those whose component no link inside the
 /// set enters from another one; a link enters what it leads to where `forward` says so, else what it
 /// leaves. There is a mark for each of the set's positions.
@@ -124,5 +155,51 @@ pub extern "C" fn guppy_roots(
     match guppy_flat::roots(alloc, links, set, direction(forward), marks) {
         Ok(()) => Outcome { status: 0, link: 0 },
         Err(fault) => told(fault),
+    }
+}
+
+/// How a search for a cycle ended.
+#[repr(C)]
+#[derive(Clone, Copy, Debug, PartialEq, Eq)]
+pub struct Cycle {
+    /// How the call ended.
+    pub outcome: Outcome,
+    /// How many positions the cycle has, 0 where there is none.
+    pub len: usize,
+}
+
+/// Writes a cycle over flagged links to the front of the list: two or more positions, each once, each with
+/// a flagged link to the next, and the last with one to the first. There is a flag for each link, and as many
+/// positions as places in the list.
+#[unsafe(no_mangle)]
+pub extern "C" fn guppy_cycle(
+    alloc: Global,
+    links: &[Ends],
+    flags: &[bool],
+    list: &mut [u32],
+) -> Cycle
+    ensures none { result.outcome.status ≡ 0 → result.len ≡ 0
+        → IsAcyclic (FlaggedStep Forward (flagged links.now flags.now)) }
+    ensures cycle { result.outcome.status ≡ 0 → result.len ≢ 0
+        → IsCycle (FlaggedStep Forward (flagged links.now flags.now)) (take result.len list.new) }
+    ensures room { result.len ≤ length list.new }
+    ensures lengths { (result.outcome.status ≡ 1) ↔ (length flags.now ≢ length links.now) }
+    ensures fault { TellsFault (length list.old) (flagged links.now flags.now) result.outcome }
+{
+    if flags.len() != links.len() {
+        return Cycle {
+            outcome: Outcome { status: 1, link: 0 },
+            len: 0,
+        };
+    }
+    match guppy_flat::cycle(alloc, links, flags, list) {
+        Ok(found) => Cycle {
+            outcome: Outcome { status: 0, link: 0 },
+            len: found.unwrap_or(0),
+        },
+        Err(fault) => Cycle {
+            outcome: told(fault),
+            len: 0,
+        },
     }
 }
