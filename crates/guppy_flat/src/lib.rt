@@ -8,7 +8,7 @@
 //! - `marks`: sets as slices;
 //! - `search`: what positions lead to;
 //! - `ordering`: orders and components;
-//! - `sets`: the roots of a set;
+//! - `sets`: the roots and the links of a set;
 //! - `cycles`: a cycle.
 #![tactic(auto)]
 
@@ -24,4 +24,4 @@ pub use flat::{Ends, Flat};
 pub use guppy_core::{DependencyDirection, GraphFault};
 pub use ordering::{components, order};
 pub use search::reach;
-pub use sets::roots;
+pub use sets::{links, roots};
