@@ -16,11 +16,11 @@ struct guppy_outcome {
     size_t link;
 };
 
-// How a search for a cycle ended.
-struct guppy_cycle {
-    // How the call ended.
+// How a call ended that writes a list of its own length.
+struct guppy_listed {
+    // How the call ended. Its status 7: there are too few places for the list.
     struct guppy_outcome outcome;
-    // How many positions the cycle has, 0 where there is none.
+    // How long the list is, at 0 and 7, else 0.
     size_t len;
 };
 
@@ -38,8 +38,13 @@ struct guppy_outcome guppy_components(const struct guppy_ends *links, size_t lin
 
 // Writes a cycle over flagged links to the front of the list: two or more positions, each once, each with
 // a flagged link to the next, and the last with one to the first. There is a flag for each link, and as many
-// positions as places in the list.
-struct guppy_cycle guppy_cycle(const struct guppy_ends *links, size_t links_len, const bool *flags, size_t flags_len, uint32_t *list, size_t list_len);
+// positions as places in the list. None is a list of no positions.
+struct guppy_listed guppy_cycle(const struct guppy_ends *links, size_t links_len, const bool *flags, size_t flags_len, uint32_t *list, size_t list_len);
+
+// Writes the numbers of the links inside the marked set that are walked from its roots to the front of
+// `numbers`, each once: one whose leaving end is no root after a link that leads to that end. Where the set
+// holds each component that it touches, these are all links inside. A place for each link always does.
+struct guppy_listed guppy_links(const struct guppy_ends *links, size_t links_len, const bool *set, size_t set_len, bool forward, size_t *numbers, size_t numbers_len);
 
 // Writes all positions, each once: components together, and of a link between two components the
 // position that it leaves first. Where the flagged links have no cycle but self-links, of each of these

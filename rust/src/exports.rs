@@ -11,13 +11,13 @@ pub(crate) struct Outcome {
     pub(crate) link: usize,
 }
 
-/// How a search for a cycle ended.
+/// How a call ended that writes a list of its own length.
 #[repr(C)]
 #[derive(Clone, Copy, Debug, PartialEq, Eq)]
-pub(crate) struct Cycle {
-    /// How the call ended.
+pub(crate) struct Listed {
+    /// How the call ended. Its status 7: there are too few places for the list.
     pub(crate) outcome: Outcome,
-    /// How many positions the cycle has, 0 where there is none.
+    /// How long the list is, at 0 and 7, else 0.
     pub(crate) len: usize,
 }
 
@@ -47,7 +47,7 @@ extern "C" {
     ) -> Outcome;
     /// Writes a cycle over flagged links to the front of the list: two or more positions, each once, each with
     /// a flagged link to the next, and the last with one to the first. There is a flag for each link, and as many
-    /// positions as places in the list.
+    /// positions as places in the list. None is a list of no positions.
     fn guppy_cycle(
         links: *const Ends,
         links_len: usize,
@@ -55,7 +55,19 @@ extern "C" {
         flags_len: usize,
         list: *mut u32,
         list_len: usize,
-    ) -> Cycle;
+    ) -> Listed;
+    /// Writes the numbers of the links inside the marked set that are walked from its roots to the front of
+    /// `numbers`, each once: one whose leaving end is no root after a link that leads to that end. Where the set
+    /// holds each component that it touches, these are all links inside. A place for each link always does.
+    fn guppy_links(
+        links: *const Ends,
+        links_len: usize,
+        set: *const bool,
+        set_len: usize,
+        forward: bool,
+        numbers: *mut usize,
+        numbers_len: usize,
+    ) -> Listed;
     /// Writes all positions, each once: components together, and of a link between two components the
     /// position that it leaves first. Where the flagged links have no cycle but self-links, of each of these
     /// too. There is a flag for each link, and as many positions as places in the list.

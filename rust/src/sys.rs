@@ -152,6 +152,26 @@ pub(crate) fn roots(links: &[Ends], set: &[bool], forward: bool) -> Vec<bool> {
     marks
 }
 
+/// The numbers of the links inside the set, in the order of a walk from its roots.
+pub(crate) fn links(links: &[Ends], set: &[bool], forward: bool) -> Vec<usize> {
+    let mut numbers = vec![0; links.len()];
+    // SAFETY: as above, and no slice overlaps `numbers`.
+    let listed = unsafe {
+        guppy_links(
+            links.as_ptr(),
+            links.len(),
+            set.as_ptr(),
+            set.len(),
+            forward,
+            numbers.as_mut_ptr(),
+            numbers.len(),
+        )
+    };
+    accepted(listed.outcome, links);
+    numbers.truncate(listed.len);
+    numbers
+}
+
 /// The memory that the library takes: the C library's, whose blocks fit each alignment that is asked for.
 mod memory {
     extern "C" {

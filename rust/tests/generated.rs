@@ -139,6 +139,32 @@ fn answers_are_those_of_plain_search() {
                 .filter(|package| !is_entered(*package))
                 .collect();
             assert_eq!(roots, wanted, "{} {chosen:?} {direction:?}", told());
+            let links: Vec<_> = set
+                .links(direction)
+                .map(|link| (number(link.from()), number(link.to())))
+                .collect();
+            let is_inside =
+                |link: &(usize, usize)| chosen.contains(&link.0) && chosen.contains(&link.1);
+            for (place, link) in links.iter().enumerate() {
+                let turned = |it: &(usize, usize)| match direction {
+                    Forward => *it,
+                    Reverse => (it.1, it.0),
+                };
+                let (near, before) = (turned(link).0, &links[..place]);
+                let is_led_to = before.iter().any(|it| turned(it).1 == near);
+                assert!(
+                    ends.contains(link) && is_inside(link),
+                    "{} {links:?}",
+                    told()
+                );
+                assert!(!before.contains(link), "{} {links:?}", told());
+                assert!(wanted.contains(&near) || is_led_to, "{} {links:?}", told());
+            }
+            let is_whole = chosen.iter().all(|one| {
+                (0..count).all(|it| chosen.contains(&it) || !all[*one][it] || !all[it][*one])
+            });
+            let inside = ends.iter().filter(|link| is_inside(link)).count();
+            assert!(!is_whole || inside == links.len(), "{} {links:?}", told());
         }
         let mut cyclic = vec![false; count];
         for cycle in graph.cycles().all_cycles() {

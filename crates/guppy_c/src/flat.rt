@@ -1,4 +1,4 @@
-ghost use Rattle.std.specs.Prelude.{◌≡◌, ◌≢◌, ◌≤◌, ◌↔◌, ◌⊎◌, ℕ, List, Bool, length, take};
+ghost use Rattle.std.specs.Prelude.{◌≡◌, ◌≢◌, ◌<◌, ◌≤◌, ◌↔◌, ◌⊎◌, ℕ, List, Bool, length, take};
 ghost use Rattle.guppy_search.specs.Fault.{IsFault};
 ghost use Rattle.guppy_search.specs.declared.graph_core.link.Link.{Link};
 ghost use Rattle.guppy_search.specs.declared.ix.direction.DependencyDirection.TheVariants.{Forward};
@@ -6,7 +6,7 @@ ghost use Rattle.guppy_core.specs.Cycle.{IsAcyclic, IsCycle};
 ghost use Rattle.guppy_flat.specs.Flat.{flagged, plain};
 ghost use Rattle.guppy_flat.specs.Ordering.{IsOrdered, MarksFirsts};
 ghost use Rattle.guppy_flat.specs.Search.{FlaggedStep, IsReached};
-ghost use Rattle.guppy_flat.specs.Sets.{MarksRoots};
+ghost use Rattle.guppy_flat.specs.Sets.{AreSetLinks, MarksRoots};
 ghost use Rattle.guppy_c.specs.Flat.{direction_of, TellsFault};
 
 use guppy_flat::{DependencyDirection, Ends, GraphFault};
@@ -39,7 +39,8 @@ fn direction(forward: bool) -> DependencyDirection
 fn told(fault: GraphFault) -> Outcome
     ensures tells { (count : ℕ) (links : List (Link Bool)) → IsFault count links fault
         → TellsFault count links result }
-    ensures status { 2 ≤ result.status }
+    ensures at_least { 2 ≤ result.status }
+    ensures at_most { result.status ≤ 6 }
 {
     match fault {
         GraphFault::TooManyNodes => Outcome { status: 2, link: 0 },
@@ -158,26 +159,26 @@ pub extern "C" fn guppy_roots(
     }
 }
 
-/// How a search for a cycle ended.
+/// How a call ended that writes a list of its own length.
 #[repr(C)]
 #[derive(Clone, Copy, Debug, PartialEq, Eq)]
-pub struct Cycle {
-    /// How the call ended.
+pub struct Listed {
+    /// How the call ended. Its status 7: there are too few places for the list.
     pub outcome: Outcome,
-    /// How many positions the cycle has, 0 where there is none.
+    /// How long the list is, at 0 and 7, else 0.
     pub len: usize,
 }
 
 /// Writes a cycle over flagged links to the front of the list: two or more positions, each once, each with
 /// a flagged link to the next, and the last with one to the first. There is a flag for each link, and as many
-/// positions as places in the list.
+/// positions as places in the list. None is a list of no positions.
 #[unsafe(no_mangle)]
 pub extern "C" fn guppy_cycle(
     alloc: Global,
     links: &[Ends],
     flags: &[bool],
     list: &mut [u32],
-) -> Cycle
+) -> Listed
     ensures none { result.outcome.status ≡ 0 → result.len ≡ 0
         → IsAcyclic (FlaggedStep Forward (flagged links.now flags.now)) }
     ensures cycle { result.outcome.status ≡ 0 → result.len ≢ 0
@@ -187,17 +188,65 @@ pub extern "C" fn guppy_cycle(
     ensures fault { TellsFault (length list.old) (flagged links.now flags.now) result.outcome }
 {
     if flags.len() != links.len() {
-        return Cycle {
+        return Listed {
             outcome: Outcome { status: 1, link: 0 },
             len: 0,
         };
     }
     match guppy_flat::cycle(alloc, links, flags, list) {
-        Ok(found) => Cycle {
+        Ok(found) => Listed {
             outcome: Outcome { status: 0, link: 0 },
             len: found.unwrap_or(0),
         },
-        Err(fault) => Cycle {
+        Err(fault) => Listed {
+            outcome: told(fault),
+            len: 0,
+        },
+    }
+}
+
+// Puts the numbers to the front of the list, where there is room.
+fn put(found: &[usize], numbers: &mut [usize]) -> Listed
+    ensures written { result.outcome.status ≡ 0
+        → (result.len ≡ length found.now) × (take result.len numbers.new ≡ found.now) }
+    ensures status { (result.outcome.status ≡ 0) ⊎ (result.outcome.status ≡ 7) }
+    ensures room { result.outcome.status ≡ 7 → length numbers.old < result.len }
+    ensures unchanged { result.outcome.status ≢ 0 → numbers.new ≡ numbers.old }
+{
+    let len = found.len();
+    if len > numbers.len() {
+        return Listed {
+            outcome: Outcome { status: 7, link: 0 },
+            len,
+        };
+    }
+    numbers[..len].copy_from_slice(found);
+    Listed {
+        outcome: Outcome { status: 0, link: 0 },
+        len,
+    }
+}
+
+/// Writes the numbers of the links inside the marked set that are walked from its roots to the front of
+/// `numbers`, each once: one whose leaving end is no root after a link that leads to that end. Where the set
+/// holds each component that it touches, these are all links inside. A place for each link always does.
+#[unsafe(no_mangle)]
+pub extern "C" fn guppy_links(
+    alloc: Global,
+    links: &[Ends],
+    set: &[bool],
+    forward: bool,
+    numbers: &mut [usize],
+) -> Listed
+    ensures links { result.outcome.status ≡ 0 → AreSetLinks (direction_of forward)
+        (plain links.now) set.now (take result.len numbers.new) }
+    ensures room { result.outcome.status ≡ 7 → length numbers.old < result.len }
+    ensures fault { TellsFault (length set.now) (plain links.now) result.outcome }
+    ensures unchanged { result.outcome.status ≢ 0 → numbers.new ≡ numbers.old }
+{
+    match guppy_flat::links(alloc, links, set, direction(forward)) {
+        Ok(found) => put(found.as_slice(), numbers),
+        Err(fault) => Listed {
             outcome: told(fault),
             len: 0,
         },

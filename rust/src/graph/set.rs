@@ -141,17 +141,16 @@ impl<'g> PackageSet<'g> {
         self.root_packages(direction).map(|package| package.id())
     }
 
-    /// The links inside the set, by the packages that they leave in the direction.
+    /// The links inside the set that a walk over such links comes to from its roots, in the direction: each
+    /// once, and one that leaves no root after a link that leads to the package that it leaves. Where the
+    /// set holds each cycle that it touches, these are all links inside. Proved.
     pub fn links(
         &self,
         direction: DependencyDirection,
-    ) -> impl Iterator<Item = PackageLink<'g>> + '_ {
-        let (graph, packages) = (self.graph, self.packages(direction));
-        let links = packages.flat_map(move |package| package.direct_links_directed(direction));
-        links.filter(move |link| {
-            let ends = graph.decoded.ends[link.number];
-            self.included[ends.from as usize] && self.included[ends.to as usize]
-        })
+    ) -> impl ExactSizeIterator<Item = PackageLink<'g>> {
+        let graph = self.graph;
+        let numbers = sys::links(&graph.decoded.ends, &self.included, direction.is_forward());
+        numbers.into_iter().map(move |number| graph.link(number))
     }
 }
 
