@@ -174,6 +174,8 @@ pub(crate) fn links(links: &[Ends], set: &[bool], forward: bool) -> Vec<usize> {
 
 /// The memory that the library takes: the C library's, whose blocks fit each alignment that is asked for.
 mod memory {
+    use std::ptr::NonNull;
+
     extern "C" {
         fn malloc(bytes: usize) -> *mut u8;
         fn realloc(block: *mut u8, bytes: usize) -> *mut u8;
@@ -188,13 +190,13 @@ mod memory {
     }
 
     fn tried(block: *mut u8) -> Tried {
-        match block.is_null() {
-            true => Tried {
-                found: false,
-                block: std::ptr::NonNull::dangling().as_ptr(),
-            },
-            false => Tried { found: true, block },
-        }
+        let found = !block.is_null();
+        let block = if found {
+            block
+        } else {
+            NonNull::dangling().as_ptr()
+        };
+        Tried { found, block }
     }
 
     // A block of no bytes is one of as many as its alignment, so that it has an address of its own.
@@ -208,7 +210,14 @@ mod memory {
 
     #[no_mangle]
     unsafe extern "C" fn rattle_alloc(bytes: usize, alignment: usize) -> Tried {
-        tried(unsafe { malloc(some(bytes, alignment)) })
+        #[cfg(test)]
+        if super::tests::is_refused() {
+            return tried(std::ptr::null_mut());
+        }
+        let tried = tried(unsafe { malloc(some(bytes, alignment)) });
+        #[cfg(test)]
+        super::tests::count(tried.found.into());
+        tried
     }
 
     #[no_mangle]
@@ -218,11 +227,158 @@ mod memory {
         bytes: usize,
         alignment: usize,
     ) -> Tried {
+        #[cfg(test)]
+        if super::tests::is_refused() {
+            return tried(std::ptr::null_mut());
+        }
         tried(unsafe { realloc(block, some(bytes, alignment)) })
     }
 
     #[no_mangle]
     unsafe extern "C" fn rattle_dealloc(block: *mut u8) {
+        #[cfg(test)]
+        super::tests::count(-1);
         unsafe { free(block) }
+    }
+}
+
+#[cfg(test)]
+mod tests {
+    use super::*;
+    use std::cell::Cell;
+
+    thread_local! {
+        // How many requests for memory are granted before one is refused, and how many blocks there are.
+        static GRANTED: Cell<usize> = const { Cell::new(usize::MAX) };
+        static BLOCKS: Cell<isize> = const { Cell::new(0) };
+    }
+
+    pub(super) fn is_refused() -> bool {
+        let granted = GRANTED.get();
+        GRANTED.set(granted.wrapping_sub(1));
+        granted == 0
+    }
+
+    pub(super) fn count(blocks: isize) {
+        BLOCKS.set(BLOCKS.get() + blocks);
+    }
+
+    const LINKS: [Ends; 4] = [
+        Ends { from: 2, to: 0 },
+        Ends { from: 0, to: 1 },
+        Ends { from: 1, to: 0 },
+        Ends { from: 1, to: 1 },
+    ];
+
+    // Each call on three positions, with these links and so many flags and places: its status, its number,
+    // and what it wrote.
+    fn called(links: &[Ends], flags: usize, places: usize) -> Vec<(u32, usize, String)> {
+        let (flags, set) = (vec![true; flags], [true; 3]);
+        let mut told = Vec::new();
+        let (p, n) = (links.as_ptr(), links.len());
+        let (f, fs) = (flags.as_ptr(), flags.len());
+        let mut marks = vec![true; places];
+        let (m, ms) = (marks.as_mut_ptr(), marks.len());
+        // SAFETY: each pointer and length are those of one slice, and none that is written overlaps another.
+        let outcome = unsafe { guppy_reach(p, n, f, fs, set.as_ptr(), 3, true, m, ms) };
+        told.push((outcome.status, outcome.link, format!("{marks:?}")));
+        let mut marks = vec![true; places];
+        let (m, ms) = (marks.as_mut_ptr(), marks.len());
+        // SAFETY: as above.
+        let outcome = unsafe { guppy_roots(p, n, set.as_ptr(), 3, true, m, ms) };
+        told.push((outcome.status, outcome.link, format!("{marks:?}")));
+        let (mut list, mut firsts) = (vec![9; 3], vec![true; places]);
+        let (l, m, ms) = (list.as_mut_ptr(), firsts.as_mut_ptr(), firsts.len());
+        // SAFETY: as above.
+        let outcome = unsafe { guppy_components(p, n, f, fs, l, 3, m, ms) };
+        told.push((outcome.status, outcome.link, format!("{list:?} {firsts:?}")));
+        let mut list = vec![9; 3];
+        // SAFETY: as above.
+        let outcome = unsafe { guppy_order(p, n, f, fs, list.as_mut_ptr(), 3) };
+        told.push((outcome.status, outcome.link, format!("{list:?}")));
+        let mut list = vec![9; 3];
+        // SAFETY: as above.
+        let listed = unsafe { guppy_cycle(p, n, f, fs, list.as_mut_ptr(), 3) };
+        let outcome = listed.outcome;
+        told.push((
+            outcome.status,
+            outcome.link,
+            format!("{} {list:?}", listed.len),
+        ));
+        let mut numbers = vec![9; places];
+        let (m, ms) = (numbers.as_mut_ptr(), numbers.len());
+        // SAFETY: as above.
+        let listed = unsafe { guppy_links(p, n, set.as_ptr(), 3, true, m, ms) };
+        let outcome = listed.outcome;
+        told.push((
+            outcome.status,
+            outcome.link,
+            format!("{} {numbers:?}", listed.len),
+        ));
+        assert_eq!(BLOCKS.get(), 0, "all memory is given back");
+        told
+    }
+
+    fn statuses(told: &[(u32, usize, String)]) -> Vec<u32> {
+        told.iter().map(|it| it.0).collect()
+    }
+
+    const UNCHANGED: [&str; 6] = [
+        "[true, true, true]",
+        "[true, true, true]",
+        "[9, 9, 9] [true, true, true]",
+        "[9, 9, 9]",
+        "0 [9, 9, 9]",
+        "0 [9, 9, 9]",
+    ];
+
+    #[test]
+    fn each_call_answers() {
+        let told = called(&LINKS, 4, 3);
+        assert_eq!(statuses(&told), [0, 0, 0, 0, 0, 7]);
+        assert_eq!(told[0].2, "[true, true, true]");
+        assert_eq!(told[1].2, "[false, false, true]");
+        assert!(told[2].2.starts_with("[2, ") && told[2].2.ends_with("] [true, true, false]"));
+        assert!(told[3].2.starts_with("[2, "));
+        assert!(told[4].2.starts_with("2 "));
+        assert_eq!(told[5].2, "4 [9, 9, 9]");
+        let none: Vec<_> = called(&[], 0, 3).into_iter().map(|it| it.2).collect();
+        assert_eq!(none[1], "[true, true, true]");
+        assert_eq!(none[4..], ["0 [9, 9, 9]", "0 [9, 9, 9]"]);
+    }
+
+    #[test]
+    fn what_does_not_fit_is_told_and_nothing_written() {
+        let wrong = called(&LINKS, 3, 2);
+        assert_eq!(statuses(&wrong), [1, 1, 1, 1, 1, 7]);
+        let links = [LINKS[0], Ends { from: 3, to: 0 }, Ends { from: 0, to: 4 }];
+        for (number, told) in called(&links, 3, 3).into_iter().enumerate() {
+            assert_eq!(told, (4, 1, UNCHANGED[number].to_owned()));
+        }
+        let links = [LINKS[0], LINKS[1], LINKS[0]];
+        for (number, told) in called(&links, 3, 3).into_iter().enumerate() {
+            assert_eq!(told, (5, 2, UNCHANGED[number].to_owned()));
+        }
+    }
+
+    #[test]
+    fn a_refused_request_for_memory_is_told_or_done_without() {
+        let whole = called(&LINKS, 4, 3);
+        let mut refusals = 0;
+        for granted in 0.. {
+            GRANTED.set(granted);
+            let told = called(&LINKS, 4, 3);
+            let is_past_the_last = GRANTED.replace(usize::MAX) < usize::MAX / 2;
+            let refused: Vec<_> = (0..6).filter(|it| told[*it] != whole[*it]).collect();
+            for number in &refused {
+                assert_eq!(told[*number], (6, 0, UNCHANGED[*number].to_owned()));
+            }
+            refusals += refused.len();
+            if is_past_the_last {
+                break;
+            }
+            assert!(refused.len() <= 1);
+        }
+        assert!(refusals > 100, "{refusals} refusals");
     }
 }
