@@ -16,7 +16,10 @@ DOCS = r"((?:^ *///[^\n]*\n)*)"
 STRUCT = re.compile(DOCS + r"#\[repr\(C\)\]\n#\[derive\([^\n]*\)\]\npub struct (\w+) \{\n(.*?)^\}", re.M | re.S)
 FIELD = re.compile(DOCS + r" *pub (\w+): (\w+),\n", re.M)
 EXPORT = re.compile(DOCS + r'#\[unsafe\(no_mangle\)\]\npub extern "C" fn (\w+)\(([^)]*)\) -> (\w+)', re.M)
-HEAD = "{} Made by scripts/exports.py of crates/guppy_c; not to be edited.\n"
+HEAD = """// Made by scripts/exports.py of crates/guppy_c; not to be edited.
+//
+// A slice is a pointer, which is not null, and how many elements lie there. One that is written overlaps no other.
+"""
 
 
 def words_of(docs):
@@ -41,7 +44,7 @@ def read():
 
 
 def rust_of(structs, exports):
-    lines = [HEAD.format("//")]
+    lines = [HEAD]
     for name, docs, fields in structs:
         lines += [f"/// {it}\n" for it in docs]
         lines += ["#[repr(C)]\n", "#[derive(Clone, Copy, Debug, PartialEq, Eq)]\n", f"pub(crate) struct {name} {{\n"]
@@ -64,7 +67,7 @@ def rust_of(structs, exports):
 
 def header_of(structs, exports):
     names = {name: f"struct guppy_{name.lower()}" for name, _, _ in structs} | C_TYPES
-    lines = [HEAD.format("//"), "#ifndef GUPPY_H\n#define GUPPY_H\n\n#include <stdbool.h>\n#include <stddef.h>\n#include <stdint.h>\n\n"]
+    lines = [HEAD, "#ifndef GUPPY_H\n#define GUPPY_H\n\n#include <stdbool.h>\n#include <stddef.h>\n#include <stdint.h>\n\n"]
     for name, docs, fields in structs:
         lines += [f"// {it}\n" for it in docs] + [f"{names[name]} {{\n"]
         for told, field, type in fields:

@@ -1,4 +1,6 @@
 // Made by scripts/exports.py of crates/guppy_c; not to be edited.
+//
+// A slice is a pointer, which is not null, and how many elements lie there. One that is written overlaps no other.
 /// How a call ended.
 #[repr(C)]
 #[derive(Clone, Copy, Debug, PartialEq, Eq)]

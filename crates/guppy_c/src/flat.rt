@@ -1,3 +1,5 @@
+//! Answers about a graph that the caller holds as slices: those of `guppy_flat`, where time and memory are
+//! said, with a status in place of each error. Lengths are tested first.
 ghost use Rattle.std.specs.Prelude.{◌≡◌, ◌≢◌, ◌<◌, ◌≤◌, ◌↔◌, ◌⊎◌, ℕ, List, Bool, length, take};
 ghost use Rattle.guppy_search.specs.Fault.{IsFault};
 ghost use Rattle.guppy_search.specs.declared.graph_core.link.Link.{Link};
