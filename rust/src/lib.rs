@@ -16,11 +16,13 @@
 //! README.md says which of it is proved, and what this crate does itself.
 #![deny(unsafe_code, missing_docs)]
 
+mod command;
 mod error;
 pub mod graph;
 mod json;
 mod sys;
 
+pub use command::{CargoMetadata, MetadataCommand};
 pub use error::Error;
 
 /// The ID that Cargo gives a package.
