@@ -1,10 +1,10 @@
 //! A breadth-first search over the links of a graph.
-ghost use Rattle.std.specs.Prelude.{◌≡◌, ℕ, ◌<◌, List, ◌∷◌, length, map, All, IfOk, IfSome, OnOk, IfNone, Some, slice_get};
+ghost use Rattle.std.specs.Prelude.{◌≡◌, ℕ, ◌+◌, ◌<◌, List, ◌∷◌, length, map, All, IfOk, IfSome, OnOk, IfNone, Some, slice_get};
 ghost use Rattle.guppy.specs.Ids.{ix_position};
 ghost use Rattle.guppy.specs.Views.{graph_of, package_position, link_graph, link_number};
 ghost use Rattle.guppy_why.specs.Walk.{IsWalk, NoWalk};
 ghost use Rattle.guppy_why.specs.Nodes.{Node, AreKept};
-ghost use Rattle.guppy_why.specs.Searches.{nodes_of, links_of, IsUnderWay, IsFollowing, IsPlaceOf};
+ghost use Rattle.guppy_why.specs.Searches.{nodes_of, links_beside, IsUnderWay, IsFollowing, IsPlaceOf};
 
 use guppy::graph::PackageIx;
 use guppy::positions::IxSet;
@@ -14,7 +14,7 @@ use std::alloc::AllocError;
 /// A package that was found, with a shortest walk to it.
 #[derive(Clone, Copy)]
 pub(crate) struct Found<'g> {
-    package: PackageMetadata<'g>,
+    metadata: PackageMetadata<'g>,
     // How many links the walk has.
     distance: usize,
     // The last of them, and the place of the package that it leaves. None at the start.
@@ -40,7 +40,7 @@ impl<'g> Search<'g> {
         seen.insert(start.package_ix());
         let mut found = Vec::new(graph.alloc());
         found.push(Found {
-            package: start,
+            metadata: start,
             distance: 0,
             last: None,
         })?;
@@ -58,11 +58,11 @@ impl<'g> Search<'g> {
             → IsFollowing self.old place (link_number link.entry ∷ left)
             → IsFollowing self.new place left) }
     {
-        let package = link.to();
-        if self.seen.insert(package.package_ix()) {
+        let metadata = link.to();
+        if self.seen.insert(metadata.package_ix()) {
             let distance = self.found[place].distance + 1;
             self.found.push(Found {
-                package,
+                metadata,
                 distance,
                 last: Some((link, place)),
             })?;
@@ -78,8 +78,8 @@ impl<'g> Search<'g> {
         ensures kept { OnOk result (AreKept (nodes_of self.old) (nodes_of self.new)) }
         ensures under_way { OnOk result (IsUnderWay self.new (place + 1)) }
     {
-        let package = self.found[place].package;
-        'links: for link in package.direct_links() {
+        let metadata = self.found[place].metadata;
+        'links: for link in metadata.direct_links() {
             self.follow(link, place)?;
         }
         Ok(())
@@ -91,12 +91,12 @@ impl<'g> Search<'g> {
         ensures start { self.new.start ≡ self.old.start }
         ensures place { IfOk result
             (λ place. IfSome place (IsPlaceOf self.new (ix_position position))) }
-        ensures none { IfOk result (λ place. IfNone place (NoWalk (links_of self.old)
+        ensures none { IfOk result (λ place. IfNone place (NoWalk (links_beside self.old.start)
             (package_position self.old.start) (ix_position position))) }
     {
         let mut place = 0;
         'places: while place < self.found.len() {
-            if self.found[place].package.package_ix() == position {
+            if self.found[place].metadata.package_ix() == position {
                 return Ok(Some(place));
             }
             self.follow_links(place)?;
@@ -113,7 +113,7 @@ impl<'g> Search<'g> {
             (λ walk. All (λ l. link_graph l ≡ graph_of self.now.start) walk.items) }
         ensures walk { IfOk result (λ walk. (n : Node)
             × (slice_get (nodes_of self.now) place ≡ Some n) × (length walk.items ≡ n.distance)
-            × IsWalk (links_of self.now) (package_position self.now.start) n.position
+            × IsWalk (links_beside self.now.start) (package_position self.now.start) n.position
             (map link_number walk.items)) }
     {
         let mut walk = Vec::with_capacity(self.start.graph().alloc(), self.found[place].distance)?;
