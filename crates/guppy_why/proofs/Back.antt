@@ -1,7 +1,7 @@
 -- The way back from a package to the start.
-use Rattle.std.proofs.Common.{◌≡◌, ℕ, ◌+◌, ◌<◌, Bool, List, [], ◌∷◌, ◌++◌, length, map, reverse, refl, sym, ap, subst, ◌∙◌, arith, Some, None, length-append, length-map}
+use Rattle.std.proofs.Common.{◌≡◌, ℕ, ◌+◌, ◌<◌, Bool, List, [], ◌∷◌, ◌++◌, length, map, reverse, refl, sym, ap, subst, ◌∙◌, arith, Some, None, length-append}
 use Rattle.std.specs.Prelude.{slice_get, All}
-use Rattle.std.proofs.lemmas.List.{map-append, reverse-append, length-reverse}
+use Rattle.std.proofs.lemmas.List.{map-append, length-map, reverse-append, length-reverse}
 use Rattle.std.proofs.lemmas.List.Elements.{All-push}
 use Rattle.std.proofs.lemmas.Option.{slice_get_within}
 use Rattle.guppy.specs.declared.link.PackageLink.{PackageLink}
@@ -47,7 +47,7 @@ module _ (start : PackageMetadata) (found : List Found) where
   pub back_within : (place at : ℕ) (links : List PackageLink) → IsBack place at links → at < length found
   back_within place at links now =
       let within = slice_get_within (map node_of found) at now.here now.here_at in
-      let same = length-map node_of found in
+      let same = length-map found node_of in
       omega arith
 
   module _ (seen : List Bool) (done : ℕ) (under : UnderWay start found seen done) (place at : ℕ) (links : List PackageLink) (now : IsBack place at links) (f : Found) (there : slice_get found at ≡ Some f) where

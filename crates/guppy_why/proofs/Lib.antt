@@ -5,3 +5,4 @@ pub mod Reach
 pub mod Packages
 pub mod Leaving
 pub mod Back
+pub mod Answers

@@ -1,9 +1,9 @@
 -- The steps of a search of packages.
-use Rattle.std.proofs.Common.{◌≡◌, ◌≢◌, ⊎_elim, ℕ, zero, suc, ◌+◌, ◌<◌, ◌≤◌, Bool, true, false, List, [], ◌∷◌, ◌++◌, length, map, replicate, refl, sym, ap, subst, ◌∙◌, arith, Some, None, Option, length-map}
+use Rattle.std.proofs.Common.{◌≡◌, ◌≢◌, ⊎_elim, ℕ, zero, suc, ◌+◌, ◌<◌, ◌≤◌, Bool, true, false, List, [], ◌∷◌, ◌++◌, length, map, replicate, refl, sym, ap, subst, ◌∙◌, arith, Some, None, Option}
 use Rattle.std.specs.Prelude.{slice_get, All, MatchOption, IfSome}
 use Rattle.std.specs.Option.{option_map}
 use Rattle.std.specs.Borrow.{Bor}
-use Rattle.std.proofs.lemmas.List.{map-append}
+use Rattle.std.proofs.lemmas.List.{map-append, length-map}
 use Rattle.std.proofs.lemmas.List.Elements.{All-push}
 use Rattle.std.proofs.lemmas.Bool.{cases_lt}
 use Rattle.std.proofs.lemmas.Option.{slice_get-map, slice_get_within, get_or_from_slice_get}
@@ -109,7 +109,7 @@ module _ (start : PackageMetadata) (found : List Found) (seen : List Bool) (done
   pub room : (k : ℕ) → k < length found → k < length seen
   room k within =
       let few = now.searched.few in
-      let same = length-map node_of found in
+      let same = length-map found node_of in
       let le = member_count-le-length seen in
       omega arith
 
@@ -152,7 +152,7 @@ module _ (start : PackageMetadata) (found : List Found) (seen : List Bool) (done
   -- no walk leads to a position at which no package was found, once all links were followed
   pub none_at : (b : ℕ) → length found ≤ done → AreElsewhere (map node_of found) done b → NoWalk (links_beside start) (package_position start) b
   none_at b all elsewhere =
-      let same = length-map node_of found in
+      let same = length-map found node_of in
       no_walk (links_beside start) (package_position start) (map node_of found) seen done now.searched b (omega arith) elsewhere
 
 -- all links of the package were followed
@@ -168,7 +168,7 @@ partly_done start found seen place left none now =
 pub partly_within : (start : PackageMetadata) (found : List Found) (seen : List Bool) (place : ℕ) (left : List ℕ) → PartlyFollowed start found seen place left → place < length found
 partly_within start found seen place left now =
     let within = slice_get_within (map node_of found) place now.node now.at in
-    let same = length-map node_of found in
+    let same = length-map found node_of in
     omega arith
 
 -- where the nodes so far stay in their places, and none up to a place is at the position

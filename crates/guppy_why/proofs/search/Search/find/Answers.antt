@@ -1,5 +1,6 @@
-use Rattle.std.proofs.Common.{◌≡◌, ◌≢◌, ◌<◌, ◌≤◌, ◌+◌, ◌-◌, ◌∙◌, refl, sym, ap, subst, ℕ, length, arith, Some}
+use Rattle.std.proofs.Common.{◌≡◌, ◌≢◌, ◌<◌, ◌≤◌, ◌+◌, ◌-◌, ◌∙◌, refl, sym, ap, subst, ℕ, length, arith, Some, true, false}
 use Rattle.std.specs.Prelude.{slice_get}
+use Rattle.std.proofs.lemmas.Bool.{eq-eqb}
 use Rattle.std.proofs.lemmas.Option.{slice_get_read}
 use Rattle.guppy.specs.Ids.{ix_position}
 use Rattle.guppy.specs.Views.{package_position, graph_packages}
@@ -33,7 +34,7 @@ places-preserved c =
     let len = c.len.ensures in
     let within : c.places.place < length s.found.items = omega arith in
     let at = slice_get_read s.found.items (length s.found.items) c.places.place found refl within c.index.ensures in
-    let other : package_position found.metadata ≢ ix_position c.args.position = let h = c.eq.ensures in let k = c.if-eq.false in ? in
+    let other : package_position found.metadata ≢ ix_position c.args.position = λ e. absurd (let f : true ≡ false = sym (eq-eqb c.package_ix.result.0 c.args.position.0 (c.package_ix.ensures ∙ e)) ∙ (sym c.eq.ensures ∙ c.if-eq.false) in cc) in
     record {
       start = c.follow_links.ensures.start ∙ c.places.invariant.start;
       under_way = c.in_ok-follow_links.ensures.under_way;

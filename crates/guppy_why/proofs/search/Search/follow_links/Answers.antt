@@ -19,7 +19,7 @@ links-init c =
     let graph = graph_at s.start s.found.items s.seen c.args.place c.requires.under_way c.args.place found at in
     record {
       left = links_at Forward (links_beside s.start) (package_position found.metadata);
-      left_is = ?;
+      left_is = rw c.into_iter-link-iterator.ensures.into_iter_gives (leaving s.start found.metadata (links_left c.direct_links-link-items.result) graph c.direct_links-link-items.ensures);
       start = refl;
       kept = λ k n there. there;
       following = partly_first s.start s.found.items s.seen c.args.place c.requires.under_way c.args.place found at refl;

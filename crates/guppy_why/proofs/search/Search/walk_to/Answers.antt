@@ -17,7 +17,7 @@ back-smaller c =
     let found = c.index-in-back.result.now in
     let within = back_within s.start s.found.items c.args.place c.back.at c.back.walk.items c.back.invariant in
     let at = slice_get_read s.found.items (length s.found.items) c.back.at found refl within c.index-in-back.ensures in
-    back_smaller s.start s.found.items s.seen c.requires.under_way.0 c.requires.under_way.1 c.args.place c.back.at c.back.walk.items c.back.invariant found at c.in-Some.link c.in-Some.before (let h = c.in-Some.is in let i = c.in-Some.link-is in let j = c.in-Some.before-is in ?)
+    back_smaller s.start s.found.items s.seen c.requires.under_way.0 c.requires.under_way.1 c.args.place c.back.at c.back.walk.items c.back.invariant found at c.in-Some.link c.in-Some.before c.in-Some.is
 
 pub back-preserved : goal.back-preserved
 back-preserved c =
@@ -25,7 +25,7 @@ back-preserved c =
     let found = c.index-in-back.result.now in
     let within = back_within s.start s.found.items c.args.place c.back.at c.back.walk.items c.back.invariant in
     let at = slice_get_read s.found.items (length s.found.items) c.back.at found refl within c.index-in-back.ensures in
-    back_step s.start s.found.items s.seen c.requires.under_way.0 c.requires.under_way.1 c.args.place c.back.at c.back.walk.items c.back.invariant found at c.in-Some.link c.in-Some.before c.push.new.self.items (let h = c.in-Some.is in ?) c.in_ok-push.ensures.items
+    back_step s.start s.found.items s.seen c.requires.under_way.0 c.requires.under_way.1 c.args.place c.back.at c.back.walk.items c.back.invariant found at c.in-Some.link c.in-Some.before c.push.new.self.items c.in-Some.is c.in_ok-push.ensures.items
 
 pub returns-clause-walk : goal.returns-clause-walk
 returns-clause-walk c =
@@ -33,4 +33,4 @@ returns-clause-walk c =
     let found = c.index-in-back.result.now in
     let within = back_within s.start s.found.items c.args.place c.back.at c.back.walk.items c.back.invariant in
     let at = slice_get_read s.found.items (length s.found.items) c.back.at found refl within c.index-in-back.ensures in
-    back_done s.start s.found.items s.seen c.requires.under_way.0 c.requires.under_way.1 c.args.place c.back.at c.back.walk.items c.back.invariant found at c.reverse.new.self.items (let h = c.in_default.is in let i = c.in_default.not-Some in ?) c.reverse.ensures.items
+    back_done s.start s.found.items s.seen c.requires.under_way.0 c.requires.under_way.1 c.args.place c.back.at c.back.walk.items c.back.invariant found at c.reverse.new.self.items c.in_default.is c.reverse.ensures.items
