@@ -76,7 +76,7 @@ impl Format for Json {
             several => {
                 let choices = choices_of(alloc, names, several)?;
                 let word = String::from_str(alloc, word)?;
-                Err(CargoFault::Ambiguous(word, choices))
+                Err(CargoFault::Ambiguous { word, choices })
             }
         }
     }

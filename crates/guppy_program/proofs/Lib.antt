@@ -3,7 +3,6 @@ pub mod InputLines
 pub mod Adding
 pub mod Writing
 pub mod Known
-pub mod Reading
 pub mod Included
 pub mod Reached
 pub mod Refusals

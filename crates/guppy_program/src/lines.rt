@@ -14,7 +14,7 @@ use crate::format::{Format, has_package};
 use crate::lines::fault::RunFault;
 use crate::lines::input::records_of;
 use crate::lines::records::id_of;
-use crate::program::run_with;
+use crate::program::run_of;
 use guppy::{Error, PackageGraph, PackageId};
 use guppy_data::{PackageRecord, Records};
 use std::alloc::{AllocError, Global};
@@ -64,7 +64,7 @@ impl Format for Lines {
 }
 
 /// Reads the whole input, lines of text, and writes what the command that `args` give prints of its package
-/// graph: see [`run_with`], which this is.
+/// graph: see [`crate::run_with`], which this is.
 ///
 /// `BadLine` has the number of the first bad line, and `Library` the first fault of the records, the first
 /// unknown ID of the command, or what `verify` refuses. The statuses are those of [`RunFault::status`].
@@ -79,5 +79,5 @@ pub fn run<R: Source, W: Sink>(
     ensures { IsRun lines_format cause_of R.left R.has_failed W.written W.has_failed
         (map string_bytes args.now) reader.old reader.new writer.old writer.new result }
 {
-    run_with::<Lines, R, W>(alloc, args, reader, writer)
+    run_of::<Lines, R, W>(alloc, args, reader, writer)
 }

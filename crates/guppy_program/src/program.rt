@@ -6,7 +6,7 @@ ghost use Rattle.guppy_program.specs.Loaded.{IsLoaded, IsLoadFault};
 ghost use Rattle.guppy_program.specs.Answer.{IsAnswer, IsCommandFault};
 ghost use Rattle.guppy_program.specs.Printed.{IsPrinted};
 ghost use Rattle.guppy_program.specs.Shown.{command_shown};
-ghost use Rattle.guppy_program.specs.Run.{IsAnswerTo, IsAnswerOf, IsFaultOf, IsSourceFault, IsAnswered, IsBegun, IsRunFault, OfWholeInput, WritesNothing};
+ghost use Rattle.guppy_program.specs.Run.{IsAnswerTo, IsAnswerOf, IsFaultOf, IsSourceFault, IsAnswered, IsBegun, IsRun, IsRunFault, OfWholeInput, WritesNothing};
 
 use crate::answer::answer_of;
 use crate::command::Command;
@@ -162,4 +162,19 @@ pub fn run_with<F: Format, R: Source, W: Sink>(
     };
     let text = answer_source::<F, R>(alloc, &command, reader)?;
     write_text::<W, F::Fault>(writer, text.as_str())
+}
+
+// `run_with`, and what it says as one fact.
+pub(crate) fn run_of<F: Format, R: Source, W: Sink>(
+    alloc: Global,
+    args: &[String],
+    reader: &mut R,
+    writer: &mut W,
+) -> Result<(), F::Fault>
+    requires input_works { R.has_failed reader.old ≡ false }
+    requires output_works { W.has_failed writer.old ≡ false }
+    ensures { IsRun F.format F.Fault.cause R.left R.has_failed W.written W.has_failed
+        (map string_bytes args.now) reader.old reader.new writer.old writer.new result }
+{
+    run_with::<F, R, W>(alloc, args, reader, writer)
 }
