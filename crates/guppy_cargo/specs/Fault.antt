@@ -27,7 +27,7 @@ status_of _ = 1
 -- the text, where it is known: of a fault of the JSON it isn't
 abbrev pub fault_text : CargoFault → Option (List ℕ)
 fault_text (Program (Library error)) = Some (error_text error)
-fault_text (Program BadArguments) = Some (codes "bad arguments: give `reach forward|reverse PACKAGE..`, `depends PACKAGE PACKAGE`, `order`, `roots forward|reverse`, `links forward|reverse`, `cycles`, `verify`, `publish-order` or `affected [--ignore FOLDER].. [--paths-from FILE] PATH..`")
+fault_text (Program BadArguments) = Some (codes "bad arguments: give `reach forward|reverse PACKAGE..`, `depends PACKAGE PACKAGE`, `order`, `roots forward|reverse`, `links forward|reverse`, `cycles`, `verify`, `publish-order` or `affected [--ignore FOLDER].. [--paths-from FILE] PATH..`, and with each `--kinds normal,build,dev`, `--workspace` or `--ids`")
 fault_text (Ambiguous word choices) =
     Some (codes "ambiguous package " ++ string_bytes word ++ codes ": give " ++ string_bytes choices)
 fault_text (Metadata fault) = None

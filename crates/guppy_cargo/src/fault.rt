@@ -41,7 +41,8 @@ impl fmt::Display for CargoFault {
             CargoFault::Program(Fault::BadArguments) => f.write_str(
                 "bad arguments: give `reach forward|reverse PACKAGE..`, `depends PACKAGE PACKAGE`, `order`, \
                  `roots forward|reverse`, `links forward|reverse`, `cycles`, `verify`, `publish-order` \
-                 or `affected [--ignore FOLDER].. [--paths-from FILE] PATH..`",
+                 or `affected [--ignore FOLDER].. [--paths-from FILE] PATH..`, and with each \
+                 `--kinds normal,build,dev`, `--workspace` or `--ids`",
             ),
             CargoFault::Ambiguous { word, choices } => {
                 write!(f, "ambiguous package {word}: give {choices}")

@@ -8,12 +8,13 @@ pub mod input;
 pub mod records;
 pub mod statements;
 
-use crate::command::{Command, command_of};
+use crate::command::{Asked, command_of};
 use crate::device::{Sink, Source};
 use crate::format::{Format, has_package};
 use crate::lines::fault::RunFault;
 use crate::lines::input::records_of;
 use crate::lines::records::id_of;
+use crate::options::options_of;
 use crate::program::run_of;
 use guppy::{Error, PackageGraph, PackageId};
 use guppy_data::{PackageRecord, Records};
@@ -32,8 +33,10 @@ impl Format for Lines {
 
     ghost are_names = { λ names packages. Unit {0} };
 
-    fn command_of(args: &[String]) -> Option<Command<'_>> {
-        command_of(args)
+    fn asked_of(args: &[String]) -> Option<Asked<'_>> {
+        let (options, words) = options_of(args);
+        let command = command_of(words)?;
+        Some(Asked { options, command })
     }
 
     fn records_of(alloc: Global, input: &[u8]) -> Result<Records, RunFault> {
