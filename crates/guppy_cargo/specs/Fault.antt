@@ -27,7 +27,7 @@ status_of _ = 1
 
 abbrev pub fault_text : CargoFault → List ℕ
 fault_text (Program (Library error)) = error_text error
-fault_text (Program BadArguments) = codes "bad arguments: give `reach forward|reverse PACKAGE..`, `depends PACKAGE PACKAGE`, `order`, `roots forward|reverse`, `links forward|reverse`, `cycles`, `verify`, `publish-order` or `affected [--ignore FOLDER].. [--paths-from FILE] PATH..`"
+fault_text (Program BadArguments) = codes "bad arguments: give `reach forward|reverse PACKAGE..`, `depends PACKAGE PACKAGE`, `order`, `roots forward|reverse`, `links forward|reverse`, `cycles`, `verify`, `publish-order` or `affected [--ignore FOLDER].. [--paths-from FILE] PATH..`, and with each `--kinds normal,build,dev`, `--workspace` or `--ids`"
 fault_text (Ambiguous word choices) =
     codes "ambiguous package " ++ string_bytes word ++ codes ": give " ++ string_bytes choices
 fault_text (Metadata fault) = metadata_text fault

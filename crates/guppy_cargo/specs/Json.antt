@@ -14,7 +14,7 @@ use Rattle.guppy_metadata.specs.Workspace.{IsWorkspace}
 use Rattle.guppy_program.specs.Format.{Format}
 use Rattle.guppy_cargo.specs.declared.fault.CargoFault.{CargoFault}
 use Rattle.guppy_cargo.specs.declared.fault.CargoFault.TheVariants.{Metadata, NoText}
-use Rattle.guppy_cargo.specs.Command.{command_of}
+use Rattle.guppy_cargo.specs.Command.{asked_of}
 use Rattle.guppy_cargo.specs.Names.{text, meant}
 
 -- the JSON says these packages, these links and this workspace
@@ -47,7 +47,7 @@ abbrev pub json_format : Format CargoFault
 json_format = record {
   says = SaysRecords;
   refuses = IsInputFault;
-  asks = command_of;
+  asks = asked_of;
   text = text;
   meant = meant;
 }

@@ -1,4 +1,5 @@
 pub mod Fault
+pub mod Options
 pub mod Command
 pub mod Names
 pub mod Json

@@ -15,8 +15,13 @@ use std::fmt;
 pub enum CargoFault {
     /// One that every program has.
     Program(Fault),
-    /// The first text may mean several packages, of which each is called by one of the others, parted by ` or `.
-    Ambiguous(String, String),
+    /// The word may mean several packages: those that the choices name, parted by ` or `.
+    Ambiguous {
+        /// The word, as it was given.
+        word: String,
+        /// What to give in its place.
+        choices: String,
+    },
     /// The input is not what `cargo metadata` prints.
     Metadata(MetadataFault),
     /// The input is no UTF-8.
@@ -37,9 +42,10 @@ impl fmt::Display for CargoFault {
             CargoFault::Program(Fault::BadArguments) => f.write_str(
                 "bad arguments: give `reach forward|reverse PACKAGE..`, `depends PACKAGE PACKAGE`, `order`, \
                  `roots forward|reverse`, `links forward|reverse`, `cycles`, `verify`, `publish-order` \
-                 or `affected [--ignore FOLDER].. [--paths-from FILE] PATH..`",
+                 or `affected [--ignore FOLDER].. [--paths-from FILE] PATH..`, and with each \
+                 `--kinds normal,build,dev`, `--workspace` or `--ids`",
             ),
-            CargoFault::Ambiguous(word, choices) => {
+            CargoFault::Ambiguous { word, choices } => {
                 write!(f, "ambiguous package {word}: give {choices}")
             }
             CargoFault::Metadata(fault) => write!(f, "{fault}"),

@@ -5,7 +5,7 @@ Answers questions on the packages of a Cargo workspace, of which it reads what
 `cargo metadata --format-version 1` prints. Where nothing is given on standard
 input, the scripts guppy-cargo and cargo guppy ask cargo.
 
-Usage: guppy-cargo COMMAND
+Usage: guppy-cargo [OPTION].. COMMAND
 
   affected PATH..           the members to test when these files changed
   publish-order             the members, each after those that it needs
@@ -18,8 +18,14 @@ Usage: guppy-cargo COMMAND
   cycles                    the packages that need each other, a cycle a line
   verify                    ok, where no cycle is over links that aren't dev-only
 
-A PACKAGE is named by its name, by name@version, or by its ID.
-guppy-cargo help affected says what else affected takes.
+  --kinds KINDS             of links with a section of these kinds alone: some of
+                            normal,build,dev, parted by commas
+  --workspace               prints members of the workspace alone
+  --ids                     prints packages by their IDs
+
+An option may stand before the command or anywhere behind it. A PACKAGE is named
+by its name, by name@version, or by its ID. guppy-cargo help affected says what
+else affected takes.
 ";
 
 const AFFECTED: &str = "\
@@ -34,6 +40,7 @@ Usage: guppy-cargo affected [--since REVISION] [--ignore FOLDER].. [--paths-from
   --ignore FOLDER   leaves out what lies in this folder
   --paths-from FILE adds the paths in this file, each ended by a NUL, as git writes
                     them with -z
+  --kinds, --ids    as for each command, see guppy-cargo help
 ";
 
 const VERSION: &str = "guppy-cargo of guppy 0.19.1, proved\n";

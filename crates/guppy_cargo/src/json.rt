@@ -5,14 +5,14 @@ ghost use Rattle.guppy_cargo.specs.Json.{json_format};
 ghost use Rattle.guppy_cargo.specs.Names.{AreNames, text};
 ghost use Rattle.guppy_data.specs.declared.records.PackageRecord.{PackageRecord as PackageData};
 
-use crate::command::command_of;
+use crate::command::asked_of;
 use crate::fault::CargoFault;
 use crate::names::Names;
 use guppy::{Error, PackageGraph, PackageId};
 use guppy_data::{PackageRecord, Records};
 use guppy_metadata::records_of;
 use guppy_program::format::has_package;
-use guppy_program::{Command, Fault, Format};
+use guppy_program::{Asked, Fault, Format};
 use std::alloc::{AllocError, Global};
 use std::str;
 
@@ -41,8 +41,8 @@ impl Format for Json {
 
     ghost are_names = { AreNames };
 
-    fn command_of(args: &[String]) -> Option<Command<'_>> {
-        command_of(args)
+    fn asked_of(args: &[String]) -> Option<Asked<'_>> {
+        asked_of(args)
     }
 
     fn records_of(alloc: Global, input: &[u8]) -> Result<Records, CargoFault> {
@@ -76,7 +76,7 @@ impl Format for Json {
             several => {
                 let choices = choices_of(alloc, names, several)?;
                 let word = String::from_str(alloc, word)?;
-                Err(CargoFault::Ambiguous(word, choices))
+                Err(CargoFault::Ambiguous { word, choices })
             }
         }
     }

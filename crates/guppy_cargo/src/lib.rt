@@ -4,6 +4,7 @@
 //! The modules, from the bottom up:
 //!
 //! - `fault`: why there is no answer;
+//! - `options`: options wherever they stand among the arguments;
 //! - `command`: what the arguments ask;
 //! - `names`: what packages are called;
 //! - `json`: how the program reads its input;
@@ -18,11 +19,13 @@ mod help;
 mod json;
 pub mod laws;
 mod names;
+mod options;
 mod paths;
 
-pub use command::command_of;
+pub use command::asked_of;
 pub use fault::CargoFault;
 pub use help::help_of;
 pub use json::Json;
 pub use names::Names;
+pub use options::options_first;
 pub use paths::with_paths;

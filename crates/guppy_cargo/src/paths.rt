@@ -8,6 +8,7 @@ ghost use Rattle.guppy_cargo.specs.Paths.{paths_of};
 use crate::fault::CargoFault;
 use guppy::Error;
 use guppy_program::Fault;
+use guppy_program::options::options_of;
 use std::alloc::Global;
 use std::rt::Files;
 use std::{fs, io, str};
@@ -41,6 +42,14 @@ fn read_file<R: Files + AllocGlobal>(rt: &R, file: String) -> Result<Vec<u8>, Ca
     }
 }
 
+// Whether `affected` is the first word behind the options.
+fn is_affected(args: &[String]) -> bool {
+    let (_, words) = options_of(args);
+    words
+        .first()
+        .is_some_and(|word| word.as_str() == "affected")
+}
+
 /// The arguments with, for each `--paths-from FILE` behind `affected`, the paths in this file in their place:
 /// UTF-8, and each ended by a NUL. Takes memory for them all, and for the largest file; none for another command.
 ///
@@ -49,7 +58,7 @@ pub fn with_paths<R: Files + AllocGlobal>(
     rt: &R,
     args: Vec<String>,
 ) -> Result<Vec<String>, CargoFault> {
-    if !args.first().is_some_and(|word| word.as_str() == "affected") {
+    if !is_affected(args.as_slice()) {
         return Ok(args);
     }
     let mut all = Vec::new(rt.alloc());

@@ -1,9 +1,10 @@
 pub mod Cuts
 pub mod InputLines
 pub mod Adding
+pub mod Asking
 pub mod Writing
 pub mod Known
-pub mod Reading
+pub mod Membership
 pub mod Included
 pub mod Reached
 pub mod Refusals

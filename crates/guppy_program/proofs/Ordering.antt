@@ -1,10 +1,9 @@
--- The list of all packages, and lines of texts.
+-- The list of all packages, and texts that are joined.
 use Rattle.std.proofs.Common.{◌≡◌, ◌∙◌, sym, ap, ℕ, ◌<◌, true, List, [], ◌∷◌, length, replicate, refl, arith, All}
 use Rattle.std.specs.Prelude.{◌++◌, map}
 use Rattle.std.specs.List.{concat, filter, flat_map, join_by}
 use denote.Ref.{Bor}
-use Rattle.std.proofs.lemmas.Grind.{flat_map-append}
-use Rattle.std.proofs.lemmas.List.{append-nil, get_or-replicate, map_push}
+use Rattle.std.proofs.lemmas.List.{get_or-replicate, map_push}
 use Rattle.std.proofs.lemmas.List.Elements.{All-tail}
 use Rattle.std.proofs.lemmas.Option.{slice_get-get_or}
 use Rattle.guppy_core.specs.IxSet.{has}
@@ -13,7 +12,6 @@ use Rattle.guppy_search.specs.declared.ix.direction.DependencyDirection.TheVaria
 use Rattle.guppy.specs.Graph.{GraphData}
 use Rattle.guppy.specs.Listed.{ids_at, positions_listed}
 use Rattle.guppy.specs.Query.{SetData}
-use Rattle.guppy_program.specs.Printed.{line_of, lines_of}
 
 -- the set of all positions keeps each one
 kept_by_all : (n : ℕ) (order : List ℕ) → All (λ p. p < n) order → filter (has (replicate n true)) order ≡ order
@@ -27,13 +25,6 @@ pub all_listed : (g : GraphData) (s : SetData) → s.graph ≡ g → s.included 
     → ids_at s.graph.packages (positions_listed Forward s) ≡ ids_at g.packages (concat g.components)
 all_listed g s same all listing = rw (same, all) (ap (ids_at g.packages) (kept_by_all (length g.packages) (concat g.components)
     (λ k d within. listing.below k _ (slice_get-get_or (concat g.components) k d within))))
-
--- one more line, the text of what is seen
-pub lines-push : {X Y : Type 0} (text : Y → List ℕ) (seen : X → Y) (xs : List X) (x : X) → lines_of (map text (map seen (xs ++ x ∷ []))) ≡ lines_of (map text (map seen xs)) ++ line_of (text (seen x))
-lines-push text seen xs x =
-    ap lines_of (ap (map text) (map_push seen xs x) ∙ map_push text (map seen xs) (seen x))
-    ∙ flat_map-append line_of (map text (map seen xs)) (text (seen x) ∷ [])
-    ∙ ap (λ line. lines_of (map text (map seen xs)) ++ line) (append-nil (line_of (text (seen x))))
 
 behind : (sep : List ℕ) (texts : List (Bor (List ℕ))) → flat_map (λ t. sep ++ t.now) texts ≡ flat_map (λ t. sep ++ t) (map (λ t. t.now) texts)
 behind sep [] = refl

@@ -1,17 +1,12 @@
 -- Why a command is refused.
 use Rattle.std.proofs.Common.{◌≡◌, ◌∙◌, sym, subst, ℕ, zero, suc, ◌<◌, List, [], ◌∷◌, ◌++◌, length, get_or, arith, Ok, Err}
-use Rattle.std.specs.Prelude.{Result, IfOk, IfErr, All}
+use Rattle.std.specs.Prelude.{Result, IfOk, All}
 use Rattle.std.specs.List.{AllZip}
 use Rattle.guppy_data.specs.declared.records.PackageRecord.{PackageRecord}
-use Rattle.guppy_data.specs.declared.texts.error.Error.{Error}
 use Rattle.guppy_data.specs.declared.texts.error.Error.TheVariants.{PackageGraphConstructError, UnknownPackageId, UnknownFeatureId, UnknownWorkspacePath, UnknownWorkspaceName, PackageGraphInternalError, FeatureGraphInternalError, OutOfMemory}
-use Rattle.guppy_data.specs.declared.texts.fault.VerifyFault.{VerifyFault}
-use Rattle.guppy.specs.Graph.{GraphData}
-use Rattle.guppy.specs.Verified.{TellsVerifyFault}
 use Rattle.guppy_program.specs.Cause.{Cause, library, bad_arguments, ambiguous, bad_input, input_failed, output_failed}
-use Rattle.guppy_program.specs.Command.{Command}
 use Rattle.guppy_program.specs.Format.{Format, IsUnclear}
-use Rattle.guppy_program.specs.Answer.{Means, IsClear, IsWordFault, IsVerifyFault, IsCommandFault, words_of}
+use Rattle.guppy_program.specs.Answer.{Means, IsClear, IsWordFault}
 
 clear_at : (meant : List ℕ → List (List ℕ)) (words ids : List (List ℕ)) → AllZip (Means meant) words ids → (k : ℕ) (d : List ℕ) → k < length words → IsClear meant (get_or words k d)
 clear_at meant [] ids means k d within = absurd (omega arith)
@@ -63,41 +58,6 @@ module _ {Fault : Type 0} (format : Format Fault) where
     unclear_word bad_input is = absurd is
     unclear_word input_failed is = absurd is
     unclear_word output_failed is = absurd is
-
-  -- a fault of a word is one of a command that has these words
-  pub word_command : (command : Command) (g : GraphData) (cause : Cause) → IsWordFault format g.packages (words_of command) cause → IsCommandFault format command g cause
-  word_command command g (library (PackageGraphConstructError f)) is = absurd is
-  word_command command g (library (UnknownPackageId id)) is = is
-  word_command command g (library (UnknownFeatureId id feature)) is = absurd is
-  word_command command g (library (UnknownWorkspacePath path)) is = absurd is
-  word_command command g (library (UnknownWorkspaceName name)) is = absurd is
-  word_command command g (library (PackageGraphInternalError f)) is = absurd is
-  word_command command g (library (FeatureGraphInternalError text)) is = absurd is
-  word_command command g (library OutOfMemory) is = tt
-  word_command command g bad_arguments is = absurd is
-  word_command command g (ambiguous word choices) is = is
-  word_command command g bad_input is = absurd is
-  word_command command g input_failed is = absurd is
-  word_command command g output_failed is = absurd is
-
-  -- what `verify` refuses is a fault of a command that asks for it
-  pub verify_command : (command : Command) (g : GraphData) (P : VerifyFault → Type 0) → ((fault : VerifyFault) → P fault → IsVerifyFault command g fault)
-      → (error : Error) → TellsVerifyFault P error → IsCommandFault format command g (library error)
-  verify_command command g P asks (PackageGraphConstructError f) is = absurd is
-  verify_command command g P asks (UnknownPackageId id) is = absurd is
-  verify_command command g P asks (UnknownFeatureId id feature) is = absurd is
-  verify_command command g P asks (UnknownWorkspacePath path) is = absurd is
-  verify_command command g P asks (UnknownWorkspaceName name) is = absurd is
-  verify_command command g P asks (PackageGraphInternalError fault) is = asks fault is
-  verify_command command g P asks (FeatureGraphInternalError text) is = absurd is
-  verify_command command g P asks OutOfMemory is = tt
-
-  module _ (cause : Fault → Cause) where
-    -- what holds of the library's errors holds of the faults that they are passed on as
-    pub passed_along : {T : Type 0} (given : Result T Error) (result : Result T Fault) (P : Error → Type 0) (Q : Cause → Type 0) → ((error : Error) → P error → Q (library error))
-        → IfErr given P → IfErr result (λ fault. (error : Error) × (given ≡ Err error) × (cause fault ≡ library error)) → IfErr result (λ fault. Q (cause fault))
-    passed_along given (Ok x) P Q along is passed = tt
-    passed_along given (Err fault) P Q along is passed = subst Q (sym passed.2) (along passed.0 (subst (λ r. IfErr r P) passed.1 is))
 
 pub passed_ok : {T E F : Type 0} (given : Result T E) (result : Result T F) (P : T → Type 0) → IfOk given P → IfOk result (λ x. given ≡ Ok x) → IfOk result P
 passed_ok given (Ok x) P is passed = subst (λ r. IfOk r P) passed is

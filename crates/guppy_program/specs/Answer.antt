@@ -1,6 +1,6 @@
--- What a command answers of a package graph, and when it is refused.
-use Rattle.std.specs.Prelude.{◌≡◌, ◌↔◌, ◌<◌, ℕ, Bool, true, IsTrue, Option, Some, None, List, [], ◌∷◌, length, map, take, drop, slice_get, replicate, All, Contains, codes, if◌then◌else◌}
-use Rattle.std.specs.List.{AllZip, concat}
+-- What a command answers of a package graph, when it is refused, and what is shown of the answer.
+use Rattle.std.specs.Prelude.{◌≡◌, ◌↔◌, ◌<◌, ℕ, Bool, true, IsTrue, Option, Some, None, List, [], ◌∷◌, length, map, take, drop, slice_get, replicate, All, Contains, codes, ◌&&◌, is_some, if◌then◌else◌}
+use Rattle.std.specs.List.{AllZip, concat, filter, list_all, list_any}
 use Rattle.std.specs.Str.{bytes_eq}
 use Rattle.guppy_search.specs.declared.ix.direction.DependencyDirection.{DependencyDirection}
 use Rattle.guppy_search.specs.declared.graph_core.link.Link.{Link}
@@ -15,7 +15,8 @@ use Rattle.guppy.specs.Graph.{GraphData, IsInOrder}
 use Rattle.guppy.specs.Listed.{ids_at}
 use Rattle.guppy.specs.ListedCycles.{cycles_of}
 use Rattle.guppy.specs.Depends.{DependsOn}
-use Rattle.guppy.specs.Query.{SetData}
+use Rattle.guppy.specs.Members.{IsMember, member_path}
+use Rattle.guppy.specs.Query.{IsSetWhere, SetData}
 use Rattle.guppy.specs.Refused.{IsFirstNot}
 use Rattle.guppy.specs.Rooted.{AreRootIds}
 use Rattle.guppy.specs.Views.{LinkData}
@@ -24,6 +25,7 @@ use Rattle.guppy.specs.Verified.{IsVerified, IsVerifyFault as IsGraphFault}
 use Rattle.guppy.specs.Walked.{AreWalkedLinks}
 use Rattle.guppy_affected.specs.Affected.{AreAffectedIds}
 use Rattle.guppy_publish.specs.Publishing.{ArePublishIds}
+use Rattle.guppy_program.specs.declared.options.Options.{Options}
 use Rattle.guppy_program.specs.Cause.{Cause, library, ambiguous}
 use Rattle.guppy_program.specs.Command.{Command, reach, depends, order, roots, links, cycles, verify, publish_order, affected}
 use Rattle.guppy_program.specs.Format.{Format, alternatives}
@@ -193,3 +195,23 @@ abbrev pub IsCommandFault : {Fault : Type 0} → Format Fault → Command → Gr
 IsCommandFault format command g (library (PackageGraphInternalError fault)) =
     IsVerifyFault command g fault
 IsCommandFault format command g cause = IsWordFault format g.packages (words_of command) cause
+
+-- a member of the workspace has the ID
+abbrev pub is_member : List PackageRecord → List ℕ → Bool
+is_member packages id = list_any (λ r. bytes_eq id r.id && is_some (member_path r)) packages
+
+-- the set is that of the members
+abbrev pub AreMembers : SetData → Type 0
+AreMembers s = IsSetWhere s.graph.packages (IsMember s.graph.packages) s.included
+
+-- of a set or a list the members, and of rows those of members alone
+abbrev pub of_members : List PackageRecord → Answer → Answer
+of_members packages (package_set ids) = package_set (filter (is_member packages) ids)
+of_members packages (package_list ids) = package_list (filter (is_member packages) ids)
+of_members packages (package_rows rows) =
+    package_rows (filter (list_all (is_member packages)) rows)
+of_members packages answer = answer
+
+-- what the options have shown of an answer
+abbrev pub shown : Options → List PackageRecord → Answer → Answer
+shown options packages answer = if options.members_alone then of_members packages answer else answer

@@ -1,10 +1,11 @@
--- Why a program gives no answer, whatever its input looks like.
+-- What a fault of a program is blamed on, whatever its input looks like.
 use Rattle.std.specs.Prelude.{ℕ, List, Bool, true, false, Option, Some, None, Result, Ok, Err}
 use Rattle.guppy_data.specs.declared.texts.error.Error.{Error}
 use Rattle.guppy_data.specs.declared.texts.error.Error.TheVariants.{OutOfMemory}
 
--- the library refuses the records or the command, or memory ran out; the arguments are no command;
--- an argument may mean several packages, and this text says which; the input says no records; the input could not be read; the output could not be written
+-- an error of the library, which also tells that memory ran out; the arguments, or that they could not
+-- be had; a word, and a text that tells what it may mean; what the input says; the source; the sink.
+-- A program says which of its faults is blamed on what, and `IsRun` when each comes
 pub data Cause : Type 0 where
   library : Error → Cause
   bad_arguments : Cause

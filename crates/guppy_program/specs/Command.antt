@@ -3,6 +3,8 @@ use Rattle.std.specs.Prelude.{ℕ, Bool, true, not, List, [], ◌∷◌, Option,
 use Rattle.std.specs.Str.{bytes_eq}
 use Rattle.guppy_search.specs.declared.ix.direction.DependencyDirection.{DependencyDirection}
 use Rattle.guppy_search.specs.declared.ix.direction.DependencyDirection.TheVariants.{Forward, Reverse}
+use Rattle.guppy_program.specs.declared.options.Options.{Options}
+use Rattle.guppy_program.specs.Options.{options_of}
 
 -- the packages that these reach in a direction, whether the first depends on the second, the
 -- packages in their order, the roots of all packages or the links walked from them in a direction,
@@ -18,6 +20,11 @@ pub data Command : Type 0 where
   verify : Command
   publish_order : Command
   affected : List (List ℕ) → List (List ℕ) → Command
+
+-- what is asked of every command, and a command
+pub record Asked : Type 0 where
+  pub options : Options
+  pub command : Command
 
 -- `forward` or `reverse`
 abbrev pub direction_of : List ℕ → Option DependencyDirection
@@ -89,3 +96,8 @@ paths_in (word ∷ next ∷ words) =
 abbrev pub affected_of : List (List ℕ) → Option Command
 affected_of words =
     if are_affected_words words then Some (affected (ignored_in words) (paths_in words)) else None
+
+-- options, and behind them words that give a command
+abbrev pub asked_by : (List (List ℕ) → Option Command) → List (List ℕ) → Option Asked
+asked_by command_of words = let found = options_of words in
+    option_map (λ command. record { options = found.0; command = command }) (command_of found.1)

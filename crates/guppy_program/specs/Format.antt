@@ -7,15 +7,15 @@ use Rattle.guppy_data.specs.declared.records.LinkRecord.{LinkRecord}
 use Rattle.guppy_data.specs.declared.records.WorkspaceRecord.{WorkspaceRecord}
 use Rattle.guppy_data.specs.declared.texts.error.Error.TheVariants.{UnknownPackageId, OutOfMemory}
 use Rattle.guppy_program.specs.Cause.{Cause, library, ambiguous, bad_input, OrMemory}
-use Rattle.guppy_program.specs.Command.{Command}
+use Rattle.guppy_program.specs.Command.{Asked}
 
 pub record Format (Fault : Type 0) : Type 1 where
   -- the input says these records
   pub says : List ℕ → List PackageRecord → List LinkRecord → WorkspaceRecord → Type 0
   -- the input says no records, and the fault tells why
   pub refuses : List ℕ → Fault → Type 0
-  -- the command that the arguments give, if they give one
-  pub asks : List (List ℕ) → Option Command
+  -- what the arguments ask, if they give a command
+  pub asks : List (List ℕ) → Option Asked
   -- what is printed for that of the packages which has the ID
   pub text : List PackageRecord → List ℕ → List ℕ
   -- the IDs of those of the packages that a word may mean

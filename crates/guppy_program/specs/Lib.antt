@@ -1,5 +1,6 @@
 pub mod Device
 pub mod Cause
+pub mod Options
 pub mod Command
 pub mod Shown
 pub mod Format

@@ -6,7 +6,7 @@ use Rattle.guppy_data.specs.declared.records.WorkspaceRecord.{WorkspaceRecord}
 use Rattle.guppy_program.specs.declared.lines.fault.RunFault.{RunFault}
 use Rattle.guppy_program.specs.declared.lines.fault.RunFault.TheVariants.{Library, BadArguments, BadLine, InputFailed, OutputFailed}
 use Rattle.guppy_program.specs.Cause.{Cause, library, bad_arguments, bad_input, input_failed, output_failed}
-use Rattle.guppy_program.specs.Command.{command_of}
+use Rattle.guppy_program.specs.Command.{asked_by, command_of}
 use Rattle.guppy_program.specs.Format.{Format, has_id}
 use Rattle.guppy_program.specs.Text.{IsAllGood, IsFirstBadLine, statements_of}
 use Rattle.guppy_program.specs.Records.{AreRecordsOf}
@@ -31,7 +31,7 @@ abbrev pub lines_format : Format RunFault
 lines_format = record {
   says = SayRecords;
   refuses = TellsBadLine;
-  asks = command_of;
+  asks = asked_by command_of;
   text = λ packages id. id;
   meant = meant_by_id;
 }

@@ -4,6 +4,7 @@ use Rattle.std.specs.List.{flat_map, join_by}
 use Rattle.std.specs.List.Sorted.{IsStrictlySortedBy}
 use Rattle.std.specs.Ordering.{nat_cmp}
 use Rattle.std.specs.Cmp.Lexicographic.{slice_cmp}
+use Rattle.guppy_program.specs.declared.options.Options.{Options}
 use Rattle.guppy_program.specs.Answer.{Answer, package_set, package_list, package_rows, truth, all_well}
 
 abbrev pub line_of : List ℕ → List ℕ
@@ -30,6 +31,10 @@ pub record AreSortedLines (texts : List (List ℕ)) (output : List ℕ) : Type 0
   pub ascending : IsAscending sorted
   pub same : (text : List ℕ) → Contains sorted text ↔ Contains texts text
   pub printed : output ≡ lines_of sorted
+
+-- what a package is called: by its ID, or as `text` tells
+abbrev pub called : Options → (List ℕ → List ℕ) → List ℕ → List ℕ
+called options text id = if options.by_id then id else text id
 
 -- the output is the answer, in which `text` tells what is printed for the package with an ID
 abbrev pub IsPrinted : (List ℕ → List ℕ) → Answer → List ℕ → Type 0

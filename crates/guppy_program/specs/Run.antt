@@ -3,37 +3,41 @@ use Rattle.std.specs.Prelude.{◌≡◌, ◌↔◌, ◌⊎◌, ℕ, Bool, List, 
 use Rattle.std.specs.Io.KnownBytes.{IsAtEnd, Appends}
 use Rattle.guppy.specs.Graph.{GraphData}
 use Rattle.guppy_program.specs.Cause.{Cause, library, bad_arguments, ambiguous, bad_input, input_failed, output_failed, OrMemory, caused, is_input_fault, is_output_fault}
-use Rattle.guppy_program.specs.Command.{Command}
+use Rattle.guppy_program.specs.Command.{Asked}
 use Rattle.guppy_program.specs.Format.{Format}
 use Rattle.guppy_program.specs.Loaded.{IsLoaded, AreRefused}
-use Rattle.guppy_program.specs.Answer.{Answer, IsAnswer, IsCommandFault}
-use Rattle.guppy_program.specs.Printed.{IsPrinted}
+use Rattle.guppy_program.specs.Answer.{Answer, IsAnswer, IsCommandFault, shown}
+use Rattle.guppy_program.specs.Printed.{IsPrinted, called}
 
--- the output is an answer to the command, of this graph
-pub record IsAnswerOf {Fault : Type 0} (format : Format Fault) (command : Command) (g : GraphData)
+-- the output is an answer to what is asked, of this graph: of the command's answer it has what the
+-- options have shown, each package as they have it called
+pub record IsAnswerOf {Fault : Type 0} (format : Format Fault) (asked : Asked) (g : GraphData)
     (output : List ℕ) : Type 0 where
   pub answer : Answer
-  pub answers : IsAnswer (format.meant g.packages) command g answer
-  pub printed : IsPrinted (format.text g.packages) answer output
+  pub answers : IsAnswer (format.meant g.packages) asked.command g answer
+  pub printed : IsPrinted (called asked.options (format.text g.packages))
+      (shown asked.options g.packages answer) output
 
--- the output is an answer to the command, of the graph that the input says
-abbrev pub IsAnswerTo : {Fault : Type 0} → Format Fault → Command → List ℕ → List ℕ → Type 0
-IsAnswerTo format command input output =
-    (g : GraphData) × IsLoaded format input g × IsAnswerOf format command g output
+-- the output is an answer to what is asked, of the graph that the input says, with the links of the
+-- kinds that are asked for
+abbrev pub IsAnswerTo : {Fault : Type 0} → Format Fault → Asked → List ℕ → List ℕ → Type 0
+IsAnswerTo format asked input output = (g : GraphData)
+    × IsLoaded format asked.options.kinds input g × IsAnswerOf format asked g output
 
--- the command is refused so, of the graph that the input says
-abbrev pub IsRefusedOf : {Fault : Type 0} → Format Fault → Command → List ℕ → Cause → Type 0
-IsRefusedOf format command input cause =
-    (g : GraphData) × IsLoaded format input g × IsCommandFault format command g cause
+-- the command is refused so, of this graph
+abbrev pub IsRefusedOf : {Fault : Type 0} → Format Fault → Asked → List ℕ → Cause → Type 0
+IsRefusedOf format asked input cause = (g : GraphData)
+    × IsLoaded format asked.options.kinds input g × IsCommandFault format asked.command g cause
 
--- the fault, with this cause, is one of the input, or of the command on the graph that the input says
-abbrev pub IsFaultOf : {Fault : Type 0} → Format Fault → Command → List ℕ → Fault → Cause → Type 0
-IsFaultOf format command input fault bad_input = format.refuses input fault
-IsFaultOf format command input fault (library error) =
-    OrMemory (AreRefused format input error ⊎ IsRefusedOf format command input (library error)) error
-IsFaultOf format command input fault (ambiguous word texts) =
-    IsRefusedOf format command input (ambiguous word texts)
-IsFaultOf format command input fault _ = ⊥
+-- the fault, with this cause, is one of the input, or of the command on this graph
+abbrev pub IsFaultOf : {Fault : Type 0} → Format Fault → Asked → List ℕ → Fault → Cause → Type 0
+IsFaultOf format asked input fault bad_input = format.refuses input fault
+IsFaultOf format asked input fault (library error) =
+    OrMemory (AreRefused format asked.options.kinds input error
+    ⊎ IsRefusedOf format asked input (library error)) error
+IsFaultOf format asked input fault (ambiguous word texts) =
+    IsRefusedOf format asked input (ambiguous word texts)
+IsFaultOf format asked input fault _ = ⊥
 
 -- the source has come to its end, and P holds of what was read, which is all that it had where that
 -- is known
@@ -43,42 +47,42 @@ pub record OfWholeInput (old new : Option (List ℕ)) (P : List ℕ → Type 0) 
   pub all : IfSome old (λ bytes. bytes ≡ input)
   pub holds : P input
 
--- the arguments ask a command of which P holds
-abbrev pub OfAsked : {Fault : Type 0} → Format Fault → List (List ℕ) → (Command → Type 0) → Type 0
-OfAsked format args P = (command : Command) × (format.asks args ≡ Some command) × P command
+-- the arguments ask something of which P holds
+abbrev pub OfAsked : {Fault : Type 0} → Format Fault → List (List ℕ) → (Asked → Type 0) → Type 0
+OfAsked format args P = (asked : Asked) × (format.asks args ≡ Some asked) × P asked
 
 -- P holds of an answer to the arguments and the input
 abbrev pub IsAnswered : {Fault : Type 0} → Format Fault → List (List ℕ) → List ℕ
     → (List ℕ → Type 0) → Type 0
-IsAnswered format args input P = OfAsked format args (λ command.
-    (output : List ℕ) × IsAnswerTo format command input output × P output)
+IsAnswered format args input P = OfAsked format args (λ asked.
+    (output : List ℕ) × IsAnswerTo format asked input output × P output)
 
 -- P holds of a beginning of an answer
 abbrev pub IsBegun : {Fault : Type 0} → Format Fault → List (List ℕ) → List ℕ
     → (List ℕ → Type 0) → Type 0
-IsBegun format args input P = OfAsked format args (λ command.
-    (front rest : List ℕ) × IsAnswerTo format command input (front ++ rest) × P front)
+IsBegun format args input P = OfAsked format args (λ asked.
+    (front rest : List ℕ) × IsAnswerTo format asked input (front ++ rest) × P front)
 
 -- the source could not be read, or it came to its end, and the fault is one of all that it had, or
 -- memory ran out
-abbrev pub IsSourceFault : {Fault : Type 0} → Format Fault → Command → Option (List ℕ)
+abbrev pub IsSourceFault : {Fault : Type 0} → Format Fault → Asked → Option (List ℕ)
     → Option (List ℕ) → Fault → Cause → Type 0
-IsSourceFault format command old new fault bad_arguments = ⊥
-IsSourceFault format command old new fault output_failed = ⊥
-IsSourceFault format command old new fault input_failed = Unit {0}
-IsSourceFault format command old new fault (library error) = OrMemory (OfWholeInput old new
-    (λ input. IsFaultOf format command input fault (library error))) error
-IsSourceFault format command old new fault cause =
-    OfWholeInput old new (λ input. IsFaultOf format command input fault cause)
+IsSourceFault format asked old new fault bad_arguments = ⊥
+IsSourceFault format asked old new fault output_failed = ⊥
+IsSourceFault format asked old new fault input_failed = Unit {0}
+IsSourceFault format asked old new fault (library error) = OrMemory (OfWholeInput old new
+    (λ input. IsFaultOf format asked input fault (library error))) error
+IsSourceFault format asked old new fault cause =
+    OfWholeInput old new (λ input. IsFaultOf format asked input fault cause)
 
--- the arguments ask a command, the source came to its end, and the fault is one of all that it had, or
+-- the arguments ask something, the source came to its end, and the fault is one of all that it had, or
 -- memory ran out; what the arguments and the devices are blamed for is said elsewhere
 abbrev pub IsRunFault : {Fault : Type 0} → Format Fault → List (List ℕ) → Option (List ℕ)
     → Option (List ℕ) → Fault → Cause → Type 0
 IsRunFault format args old new fault bad_arguments = Unit {0}
 IsRunFault format args old new fault output_failed = Unit {0}
 IsRunFault format args old new fault cause =
-    OfAsked format args (λ command. IsSourceFault format command old new fault cause)
+    OfAsked format args (λ asked. IsSourceFault format asked old new fault cause)
 
 -- a run that gives up before it writes leaves the sink as it was
 abbrev pub WritesNothing : {W : Type 0} → W → W → Option Cause → Type 0

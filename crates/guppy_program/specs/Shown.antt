@@ -2,6 +2,7 @@
 use Rattle.std.specs.Prelude.{map, ◌∷◌, []}
 use Rattle.std.specs.String.{string_bytes}
 use Rattle.guppy_program.specs.declared.command.Command.{Command as GivenCommand}
+use Rattle.guppy_program.specs.declared.command.Asked.{Asked as GivenAsked}
 use Rattle.guppy_program.specs.declared.command.Command.TheVariants.{Reach, Depends, Order, Roots, Links, Cycles, Verify, PublishOrder, Affected}
 use Rattle.guppy_program.specs.declared.fault.Fault.{Fault}
 use Rattle.guppy_program.specs.declared.fault.Fault.TheVariants.{Library, BadArguments, InputFailed, OutputFailed}
@@ -9,7 +10,7 @@ use Rattle.guppy_program.specs.declared.answer.Answer.{Answer as GivenAnswer}
 use Rattle.guppy_program.specs.declared.answer.Answer.TheVariants.{Set, List, Pairs, Rows, Truth, AllWell}
 use Rattle.guppy_program.specs.Answer.{Answer, package_set, package_list, package_rows, truth, all_well}
 use Rattle.guppy_program.specs.Cause.{Cause, library, bad_arguments, input_failed, output_failed}
-use Rattle.guppy_program.specs.Command.{Command, reach, depends, order, roots, links, cycles, verify, publish_order, affected, ignored_in, paths_in}
+use Rattle.guppy_program.specs.Command.{Asked, Command, reach, depends, order, roots, links, cycles, verify, publish_order, affected, ignored_in, paths_in}
 
 abbrev pub command_shown : GivenCommand → Command
 command_shown (Reach direction ids) = reach direction (map string_bytes ids.now)
@@ -22,6 +23,10 @@ command_shown Verify = verify
 command_shown PublishOrder = publish_order
 command_shown (Affected words) =
     affected (ignored_in (map string_bytes words.now)) (paths_in (map string_bytes words.now))
+
+abbrev pub asked_shown : GivenAsked → Asked
+asked_shown asked =
+    record { options = asked.options; command = command_shown asked.command }
 
 abbrev pub answer_shown : GivenAnswer → Answer
 answer_shown (Set ids) = package_set (map (λ id. id.now) ids.items)

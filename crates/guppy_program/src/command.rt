@@ -3,9 +3,19 @@ ghost use Rattle.std.specs.Prelude.{◌≡◌, map, string_bytes, option_map};
 ghost use Rattle.guppy_program.specs.Command.{command_of, direction_of, lone_direction_of, reach_of, depends_of, plain_command_of, alone, is_ignore, are_affected_words, affected_of};
 ghost use Rattle.guppy_program.specs.Shown.{command_shown};
 
+use crate::options::Options;
 use guppy_core::DependencyDirection;
 
-/// What the program is asked.
+/// What the program is asked: a command, and options in front of it.
+#[derive(Debug, Drop)]
+pub struct Asked<'a> {
+    /// What is asked of every command.
+    pub options: Options,
+    /// The command.
+    pub command: Command<'a>,
+}
+
+/// What is asked of a graph.
 #[derive(Debug, Drop)]
 pub enum Command<'a> {
     /// The packages that these reach in the direction, in the order of their IDs.

@@ -3,9 +3,9 @@ ghost use Rattle.std.specs.Prelude.{◌≡◌, ◌∷◌, [], List, map, string_
 ghost use Rattle.guppy_data.specs.declared.records.PackageRecord.{PackageRecord as PackageData};
 ghost use Rattle.guppy.specs.Ids.{IsKnown};
 ghost use Rattle.guppy_program.specs.Format.{Format as FormatOf, IsReadingFault, IsUnclear, has_id};
-ghost use Rattle.guppy_program.specs.Shown.{command_shown};
+ghost use Rattle.guppy_program.specs.Shown.{asked_shown};
 
-use crate::command::Command;
+use crate::command::Asked;
 use crate::fault::ProgramFault;
 use guppy::{Error, PackageGraph, PackageId};
 use guppy_data::{PackageRecord, Records};
@@ -26,10 +26,9 @@ pub trait Format {
     /// The names are those of these packages.
     ghost are_names: { Self.Names → List PackageData → Type 0 };
 
-    /// The command that the arguments give, if they give one. Takes time linear in their lengths, and no
-    /// memory.
-    fn command_of(args: &[String]) -> Option<Command<'_>>
-        ensures { option_map command_shown result ≡ format.asks (map string_bytes args.now) };
+    /// What the arguments ask, if they give a command. Takes time linear in their lengths, and no memory.
+    fn asked_of(args: &[String]) -> Option<Asked<'_>>
+        ensures { option_map asked_shown result ≡ format.asks (map string_bytes args.now) };
 
     /// The records that the input says.
     fn records_of(alloc: Global, input: &[u8]) -> Result<Records, Self::Fault>

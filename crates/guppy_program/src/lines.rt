@@ -8,13 +8,14 @@ pub mod input;
 pub mod records;
 pub mod statements;
 
-use crate::command::{Command, command_of};
+use crate::command::{Asked, command_of};
 use crate::device::{Sink, Source};
 use crate::format::{Format, has_package};
 use crate::lines::fault::RunFault;
 use crate::lines::input::records_of;
 use crate::lines::records::id_of;
-use crate::program::run_with;
+use crate::options::options_of;
+use crate::program::run_of;
 use guppy::{Error, PackageGraph, PackageId};
 use guppy_data::{PackageRecord, Records};
 use std::alloc::{AllocError, Global};
@@ -32,8 +33,10 @@ impl Format for Lines {
 
     ghost are_names = { λ names packages. Unit {0} };
 
-    fn command_of(args: &[String]) -> Option<Command<'_>> {
-        command_of(args)
+    fn asked_of(args: &[String]) -> Option<Asked<'_>> {
+        let (options, words) = options_of(args);
+        let command = command_of(words)?;
+        Some(Asked { options, command })
     }
 
     fn records_of(alloc: Global, input: &[u8]) -> Result<Records, RunFault> {
@@ -64,7 +67,7 @@ impl Format for Lines {
 }
 
 /// Reads the whole input, lines of text, and writes what the command that `args` give prints of its package
-/// graph: see [`run_with`], which this is.
+/// graph: see [`crate::run_with`], which this is.
 ///
 /// `BadLine` has the number of the first bad line, and `Library` the first fault of the records, the first
 /// unknown ID of the command, or what `verify` refuses. The statuses are those of [`RunFault::status`].
@@ -79,5 +82,5 @@ pub fn run<R: Source, W: Sink>(
     ensures { IsRun lines_format cause_of R.left R.has_failed W.written W.has_failed
         (map string_bytes args.now) reader.old reader.new writer.old writer.new result }
 {
-    run_with::<Lines, R, W>(alloc, args, reader, writer)
+    run_of::<Lines, R, W>(alloc, args, reader, writer)
 }

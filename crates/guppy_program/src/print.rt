@@ -1,28 +1,42 @@
 //! How an answer is printed.
 ghost use Rattle.std.specs.Prelude.{◌≡◌, ◌∷◌, ◌++◌, [], List, map, string_bytes, IfOk, OnOk};
 ghost use Rattle.guppy_data.specs.declared.records.PackageRecord.{PackageRecord};
-ghost use Rattle.guppy_program.specs.Printed.{line_of, lines_of, joined, truth_line, AreSortedLines, IsPrinted};
+ghost use Rattle.guppy_program.specs.Printed.{line_of, lines_of, joined, truth_line, called, AreSortedLines, IsPrinted};
 ghost use Rattle.guppy_program.specs.Shown.{answer_shown};
 
 use crate::answer::Answer;
 use crate::format::Format;
+use crate::options::Options;
 use guppy::{PackageId, SortedSet};
 use std::alloc::{AllocError, Global};
+
+// What is printed for the package with this ID.
+fn text_of<'a, F: Format>(options: &Options, names: &'a F::Names, id: &'a PackageId) -> &'a str
+    ensures { (packages : List PackageRecord) → F.are_names names.now packages
+        → result.now ≡ called options.now (F.format.text packages) id.now }
+{
+    if options.by_id {
+        id.repr()
+    } else {
+        F::text_of(names, id)
+    }
+}
 
 // What is printed for the packages with these IDs. To sort these texts reads no records, which lie far
 // apart.
 fn texts_of<'a, F: Format>(
     alloc: Global,
+    options: &Options,
     names: &'a F::Names,
     ids: &[&'a PackageId],
 ) -> Result<Vec<&'a str>, AllocError>
     ensures { (packages : List PackageRecord) → F.are_names names.now packages
         → IfOk result (λ texts. map (λ text. text.now) texts.items
-        ≡ map (F.format.text packages) (map (λ id. id.now) ids.now)) }
+        ≡ map (called options.now (F.format.text packages)) (map (λ id. id.now) ids.now)) }
 {
     let mut texts = Vec::with_capacity(alloc, ids.len())?;
     for id in ids {
-        texts.push(F::text_of(names, id))?;
+        texts.push(text_of::<F>(options, names, id))?;
     }
     Ok(texts)
 }
@@ -61,17 +75,19 @@ fn push_pair(text: &mut String, from: &str, to: &str) -> Result<(), AllocError>
 
 fn lines_of_pairs<F: Format>(
     alloc: Global,
+    options: &Options,
     names: &F::Names,
     pairs: &[(&PackageId, &PackageId)],
 ) -> Result<String, AllocError>
     ensures { (packages : List PackageRecord) → F.are_names names.now packages
         → IfOk result (λ text. string_bytes text
-        ≡ lines_of (map (λ ids. joined (map (F.format.text packages) ids))
+        ≡ lines_of (map (λ ids. joined (map (called options.now (F.format.text packages)) ids))
         (map (λ pair. pair.0.now ∷ pair.1.now ∷ []) pairs.now))) }
 {
     let mut text = String::new(alloc);
     for (from, to) in pairs {
-        push_pair(&mut text, F::text_of(names, from), F::text_of(names, to))?;
+        let from = text_of::<F>(options, names, from);
+        push_pair(&mut text, from, text_of::<F>(options, names, to))?;
     }
     Ok(text)
 }
@@ -79,29 +95,31 @@ fn lines_of_pairs<F: Format>(
 // The texts of these packages, parted by spaces.
 fn joined<F: Format>(
     alloc: Global,
+    options: &Options,
     names: &F::Names,
     ids: &[&PackageId],
 ) -> Result<String, AllocError>
     ensures { (packages : List PackageRecord) → F.are_names names.now packages
         → IfOk result (λ text. string_bytes text
-        ≡ joined (map (F.format.text packages) (map (λ id. id.now) ids.now))) }
+        ≡ joined (map (called options.now (F.format.text packages)) (map (λ id. id.now) ids.now))) }
 {
-    texts_of::<F>(alloc, names, ids)?.join(alloc, " ")
+    texts_of::<F>(alloc, options, names, ids)?.join(alloc, " ")
 }
 
 fn lines_of_rows<F: Format>(
     alloc: Global,
+    options: &Options,
     names: &F::Names,
     rows: &[Vec<&PackageId>],
 ) -> Result<String, AllocError>
     ensures { (packages : List PackageRecord) → F.are_names names.now packages
         → IfOk result (λ text. string_bytes text
-        ≡ lines_of (map (λ ids. joined (map (F.format.text packages) ids))
+        ≡ lines_of (map (λ ids. joined (map (called options.now (F.format.text packages)) ids))
         (map (λ row. map (λ id. id.now) row.items) rows.now))) }
 {
     let mut text = String::new(alloc);
     for row in rows {
-        let line = joined::<F>(alloc, names, row.as_slice())?;
+        let line = joined::<F>(alloc, options, names, row.as_slice())?;
         text.push_str(line.as_str())?;
         text.push('\n')?;
     }
@@ -114,28 +132,33 @@ fn truth_line(holds: bool) -> &'static str
     if holds { "true\n" } else { "false\n" }
 }
 
-/// The answer's text, with each package as the names of the graph's packages tell. Takes memory for the
+/// The answer's text, with each package by its ID where the options have it so, else as the names of the graph's
+/// packages tell. Takes memory for the
 /// text, and for a reference a package. Time grows with the answer, and where it is a set with its packages
 /// times the logarithm of their number.
 pub fn printed<F: Format>(
     alloc: Global,
+    options: &Options,
     names: &F::Names,
     answer: &Answer<'_>,
 ) -> Result<String, AllocError>
     ensures { (packages : List PackageRecord) → F.are_names names.now packages
-        → IfOk result (λ text. IsPrinted (F.format.text packages) (answer_shown answer.now)
+        → IfOk result (λ text. IsPrinted (called options.now (F.format.text packages)) (answer_shown answer.now)
         (string_bytes text)) }
 {
     match answer {
-        Answer::Set(ids) => sorted_lines(alloc, texts_of::<F>(alloc, names, ids.as_slice())?),
+        Answer::Set(ids) => sorted_lines(
+            alloc,
+            texts_of::<F>(alloc, options, names, ids.as_slice())?,
+        ),
         Answer::List(ids) => {
             lines_of(
                 alloc,
-                texts_of::<F>(alloc, names, ids.as_slice())?.as_slice(),
+                texts_of::<F>(alloc, options, names, ids.as_slice())?.as_slice(),
             )
         }
-        Answer::Pairs(pairs) => lines_of_pairs::<F>(alloc, names, pairs.as_slice()),
-        Answer::Rows(rows) => lines_of_rows::<F>(alloc, names, rows.as_slice()),
+        Answer::Pairs(pairs) => lines_of_pairs::<F>(alloc, options, names, pairs.as_slice()),
+        Answer::Rows(rows) => lines_of_rows::<F>(alloc, options, names, rows.as_slice()),
         Answer::Truth(holds) => String::from_str(alloc, truth_line(*holds)),
         Answer::AllWell => String::from_str(alloc, "ok\n"),
     }

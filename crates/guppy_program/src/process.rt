@@ -9,7 +9,7 @@ ghost use Rattle.guppy_program.specs.Process.{EndsIn, fault_line};
 use crate::device::{Sink, Source};
 use crate::fault::{Fault, ProgramFault, want_of_memory};
 use crate::format::Format;
-use crate::program::run_with;
+use crate::program::run_of;
 use crate::transfer::write_all;
 use std::alloc::Global;
 use std::env::{self, Env};
@@ -110,12 +110,12 @@ fn outcome_of<F: Format, R: Source, W: Sink>(
         (λ fault. (reader.new ≡ reader.old) × (writer.new ≡ writer.old) × (result ≡ Err fault)) }
 {
     match args {
-        Ok(args) => run_with::<F, R, W>(alloc, &args, reader, writer),
+        Ok(args) => run_of::<F, R, W>(alloc, &args, reader, writer),
         Err(fault) => Err(fault),
     }
 }
 
-/// Runs the program with [`run_with`] on the arguments that a process was given, and tells its fault, if
+/// Runs the program with [`crate::run_with`] on the arguments that a process was given, and tells its fault, if
 /// one comes, on `errors`: `error: `, the fault's text and a newline. Where the arguments could not be had,
 /// that fault is told, and nothing read or written.
 ///

@@ -5,27 +5,35 @@ ghost use Rattle.guppy_program.specs.Cause.{Cause, bad_arguments, output_failed,
 ghost use Rattle.guppy_program.specs.Loaded.{IsLoaded, IsLoadFault};
 ghost use Rattle.guppy_program.specs.Answer.{IsAnswer, IsCommandFault};
 ghost use Rattle.guppy_program.specs.Printed.{IsPrinted};
-ghost use Rattle.guppy_program.specs.Shown.{command_shown};
-ghost use Rattle.guppy_program.specs.Run.{IsAnswerTo, IsAnswerOf, IsFaultOf, IsSourceFault, IsAnswered, IsBegun, IsRunFault, OfWholeInput, WritesNothing};
+ghost use Rattle.guppy_program.specs.Shown.{asked_shown};
+ghost use Rattle.guppy_program.specs.Run.{IsAnswerTo, IsAnswerOf, IsFaultOf, IsSourceFault, IsAnswered, IsBegun, IsRun, IsRunFault, OfWholeInput, WritesNothing};
 
 use crate::answer::answer_of;
-use crate::command::Command;
+use crate::command::Asked;
 use crate::device::{Sink, Source};
 use crate::fault::{Fault, ProgramFault, passed_on, want_of_memory};
 use crate::format::Format;
+use crate::members::shown;
+use crate::options::Options;
 use crate::print::printed;
 use crate::transfer::{read_all, write_all};
 use guppy::{IntoGraph, PackageGraph};
 use std::alloc::Global;
 use std::mem;
 
-// The graph of the records that the input says, and the names of its packages.
-fn load<F: Format>(alloc: Global, input: &[u8]) -> Result<(PackageGraph, F::Names), F::Fault>
-    ensures ok { IfOk result (λ loaded. IsLoaded F.format input.now loaded.0) }
+// The graph of the records that the input says, with the links that the options keep, and the names of its packages.
+fn load<F: Format>(
+    alloc: Global,
+    options: &Options,
+    input: &[u8],
+) -> Result<(PackageGraph, F::Names), F::Fault>
+    ensures ok { IfOk result (λ loaded. IsLoaded F.format options.now.kinds input.now loaded.0) }
     ensures names { IfOk result (λ loaded. F.are_names loaded.1 loaded.0.packages) }
-    ensures err { IfErr result (λ fault. IsLoadFault F.format input.now fault (F.Fault.cause fault)) }
+    ensures err { IfErr result (λ fault.
+        IsLoadFault F.format options.now.kinds input.now fault (F.Fault.cause fault)) }
 {
-    let records = F::records_of(alloc, input)?;
+    let mut records = F::records_of(alloc, input)?;
+    options.keep_links(&mut records.links);
     let Ok(names) = F::names_of(alloc, records.packages.as_slice()) else {
         return Err(want_of_memory());
     };
@@ -33,39 +41,40 @@ fn load<F: Format>(alloc: Global, input: &[u8]) -> Result<(PackageGraph, F::Name
     Ok((graph, names))
 }
 
-// What is printed of the graph for the command.
+// What is printed of the graph for what is asked.
 fn answer_text<F: Format>(
     alloc: Global,
     graph: &PackageGraph,
     names: &F::Names,
-    command: &Command<'_>,
+    asked: &Asked<'_>,
 ) -> Result<String, F::Fault>
     requires { F.are_names names.now graph.now.packages }
-    ensures ok { IfOk result (λ text. IsAnswerOf F.format (command_shown command.now) graph.now
+    ensures ok { IfOk result (λ text. IsAnswerOf F.format (asked_shown asked.now) graph.now
         (string_bytes text)) }
-    ensures err { IfErr result (λ fault. IsCommandFault F.format (command_shown command.now)
+    ensures err { IfErr result (λ fault. IsCommandFault F.format (asked_shown asked.now).command
         graph.now (F.Fault.cause fault)) }
 {
-    let answer = answer_of::<F>(alloc, graph, names, command)?;
-    match printed::<F>(alloc, names, &answer) {
+    let answer = answer_of::<F>(alloc, graph, names, &asked.command)?;
+    let answer = passed_on(shown(graph, asked.options, answer))?;
+    match printed::<F>(alloc, &asked.options, names, &answer) {
         Ok(text) => Ok(text),
         Err(_) => Err(want_of_memory()),
     }
 }
 
-// What is printed for the command of the graph that the input says.
+// What is printed for what is asked of the graph that the input says.
 fn answer_input<F: Format>(
     alloc: Global,
-    command: &Command<'_>,
+    asked: &Asked<'_>,
     input: &[u8],
 ) -> Result<String, F::Fault>
-    ensures ok { IfOk result (λ text. IsAnswerTo F.format (command_shown command.now) input.now
+    ensures ok { IfOk result (λ text. IsAnswerTo F.format (asked_shown asked.now) input.now
         (string_bytes text)) }
-    ensures err { IfErr result (λ fault. IsFaultOf F.format (command_shown command.now) input.now
+    ensures err { IfErr result (λ fault. IsFaultOf F.format (asked_shown asked.now) input.now
         fault (F.Fault.cause fault)) }
 {
-    let (graph, names) = load::<F>(alloc, input)?;
-    let text = answer_text::<F>(alloc, &graph, &names, command);
+    let (graph, names) = load::<F>(alloc, &asked.options, input)?;
+    let text = answer_text::<F>(alloc, &graph, &names, asked);
     // The process ends once the answer is written, and gives all memory back at once; to let go of the
     // parts of a large graph one by one takes some tenths of the whole time.
     mem::forget(graph);
@@ -73,21 +82,21 @@ fn answer_input<F: Format>(
     text
 }
 
-// What is printed for the command of the graph that the whole input says.
+// What is printed for what is asked of the graph that the whole input says.
 fn answer_source<F: Format, R: Source>(
     alloc: Global,
-    command: &Command<'_>,
+    asked: &Asked<'_>,
     reader: &mut R,
 ) -> Result<String, F::Fault>
     requires { R.has_failed reader.old ≡ false }
     ensures ok { IfOk result (λ text. OfWholeInput (R.left reader.old) (R.left reader.new) (λ input.
-        IsAnswerTo F.format (command_shown command.now) input (string_bytes text))) }
-    ensures err { IfErr result (λ fault. IsSourceFault F.format (command_shown command.now)
+        IsAnswerTo F.format (asked_shown asked.now) input (string_bytes text))) }
+    ensures err { IfErr result (λ fault. IsSourceFault F.format (asked_shown asked.now)
         (R.left reader.old) (R.left reader.new) fault (F.Fault.cause fault)) }
     ensures failed { R.has_failed reader.new ≡ is_input_fault (caused F.Fault.cause result) }
 {
     let input = read_all::<R, F::Fault>(alloc, reader)?;
-    answer_input::<F>(alloc, command, input.as_slice())
+    answer_input::<F>(alloc, asked, input.as_slice())
 }
 
 // Writes the text, or a beginning of it where a write fails.
@@ -105,10 +114,11 @@ fn write_text<W: Sink, F: ProgramFault>(writer: &mut W, text: &str) -> Result<()
     }
 }
 
-/// Reads the whole input, and writes what the command that `args` give prints of its package graph.
+/// Reads the whole input, and writes what is asked by `args` of its package graph, with the links of the kinds that are asked
+/// for.
 ///
-/// `args` are the arguments without the program's own name. They are judged first: where they are no
-/// command, that is told, and nothing is read and no memory taken. Then all input is read, and kept; then
+/// `args` are the arguments without the program's own name. They are judged first: where they give
+/// no command, that is told, and nothing is read and no memory taken. Then all input is read, and kept; then
 /// its format is judged, then its records, then the packages that the command names, or for `verify` and
 /// `publish-order` the graph, and the first fault is given. Want of memory may come at any growth, in place
 /// of every fault not yet found. The answer is whole before its first byte is written, so a refusal writes
@@ -132,7 +142,7 @@ pub fn run_with<F: Format, R: Source, W: Sink>(
         IsAnswered F.format (map string_bytes args.now) input
         (Appends (W.written writer.old) (W.written writer.new)))) }
 
-    // The arguments are no command, and nothing was read.
+    // The arguments give no command, and nothing was read.
     ensures arguments { (caused F.Fault.cause result ≡ Some bad_arguments)
         ↔ IsNone (F.format.asks (map string_bytes args.now)) }
     ensures arguments_read { caused F.Fault.cause result ≡ Some bad_arguments
@@ -157,9 +167,24 @@ pub fn run_with<F: Format, R: Source, W: Sink>(
         IsBegun F.format (map string_bytes args.now) input
         (Appends (W.written writer.old) (W.written writer.new))) }
 {
-    let Some(command) = F::command_of(args) else {
+    let Some(asked) = F::asked_of(args) else {
         return Err(F::Fault::of(Fault::BadArguments));
     };
-    let text = answer_source::<F, R>(alloc, &command, reader)?;
+    let text = answer_source::<F, R>(alloc, &asked, reader)?;
     write_text::<W, F::Fault>(writer, text.as_str())
+}
+
+// `run_with`, and what it says as one fact.
+pub(crate) fn run_of<F: Format, R: Source, W: Sink>(
+    alloc: Global,
+    args: &[String],
+    reader: &mut R,
+    writer: &mut W,
+) -> Result<(), F::Fault>
+    requires input_works { R.has_failed reader.old ≡ false }
+    requires output_works { W.has_failed writer.old ≡ false }
+    ensures { IsRun F.format F.Fault.cause R.left R.has_failed W.written W.has_failed
+        (map string_bytes args.now) reader.old reader.new writer.old writer.new result }
+{
+    run_with::<F, R, W>(alloc, args, reader, writer)
 }

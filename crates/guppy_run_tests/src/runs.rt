@@ -94,10 +94,12 @@ const LOOP: &[u8] = b"package r\npackage a\npackage b\npackage c\n\
 
 const TWO_NORMAL: &[u8] = b"package a\npackage b\nlink a b normal\nlink b a normal\n";
 
+const NO_DEV: &[u8] = b"package a\npackage b\nlink a b normal\nlink b a build\n";
+
 const TWO_SPACES: &[u8] = b"package a\npackage  b\n";
 
 // Case, command line, input, and what is printed.
-const ANSWERS: [(&str, &str, &[u8], &str); 33] = [
+const ANSWERS: [(&str, &str, &[u8], &str); 47] = [
     ("first_run", "reach forward a", FIRST, "a\nb\n"),
     (
         "no_last_newline",
@@ -166,6 +168,45 @@ const ANSWERS: [(&str, &str, &[u8], &str); 33] = [
     ),
     ("wrong_bytes", "order", b"package a\r", "a\r\n"),
     ("wrong_bytes", "depends a\r a\r", b"package a\r", "true\n"),
+    ("kinds", "--kinds normal cycles", BACKS, ""),
+    ("kinds", "--kinds dev,normal cycles", BACKS, "A B\nC D\n"),
+    ("kinds", "--kinds dev cycles", CYCLIC_ROOTS, "a\n"),
+    ("kinds", "--kinds normal depends B A", BACKS, "false\n"),
+    ("kinds", "--kinds dev depends B A", BACKS, "true\n"),
+    (
+        "kinds",
+        "--kinds build reach forward a",
+        CYCLIC_ROOTS,
+        "a\nc\n",
+    ),
+    (
+        "kinds",
+        "--kinds normal,build links forward",
+        CHAIN,
+        "a b\nb c\n",
+    ),
+    ("kinds", "--kinds build links forward", CHAIN, ""),
+    ("kinds", "--kinds normal publish-order", NO_DEV, "b\na\n"),
+    (
+        "kinds",
+        "--kinds build,build publish-order",
+        NO_DEV,
+        "a\nb\n",
+    ),
+    ("kinds", "--kinds build,dev verify", TWO_NORMAL, "ok\n"),
+    (
+        "kinds",
+        "--kinds dev order",
+        b"package a\nlink a z normal\n",
+        "a\n",
+    ),
+    ("members", "--workspace order", CHAIN, "a\nb\nc\n"),
+    (
+        "ids",
+        "--ids --kinds build --workspace reach forward a",
+        FIRST,
+        "a\n",
+    ),
 ];
 
 // Runs each case on devices that work, and move pieces of so many bytes. Its text is what is printed where the
@@ -245,7 +286,7 @@ const REFUSED: [(&str, &str, &[u8], &str); 7] = [
 ];
 
 // Case, command line, input, and the text of the fault of the arguments or a line.
-const MISREAD: [(&str, &str, &[u8], &str); 31] = [
+const MISREAD: [(&str, &str, &[u8], &str); 39] = [
     ("program_faults", "depends a b", TWO_SPACES, "bad line 2"),
     ("program_faults", "depends a", TWO_SPACES, "bad arguments"),
     (
@@ -268,6 +309,19 @@ const MISREAD: [(&str, &str, &[u8], &str); 31] = [
     ("command_to_come", "verify a", FIRST, "bad arguments"),
     ("command_to_come", "publish-order a", FIRST, "bad arguments"),
     ("command_to_come", "", FIRST, "bad arguments"),
+    ("kinds", "--kinds normal", FIRST, "bad arguments"),
+    ("kinds", "--kinds", FIRST, "bad arguments"),
+    ("kinds", "--kinds order", FIRST, "bad arguments"),
+    ("kinds", "--kinds normal,proc order", FIRST, "bad arguments"),
+    ("kinds", "--kinds normal, order", FIRST, "bad arguments"),
+    (
+        "kinds",
+        "--kinds dev --kinds dev order",
+        FIRST,
+        "bad arguments",
+    ),
+    ("members", "--workspace", FIRST, "bad arguments"),
+    ("ids", "--id order", FIRST, "bad arguments"),
     ("wrong_bytes", "order", b"\n\r\nlink a\n", "bad line 3"),
     (
         "wrong_bytes",

@@ -1,9 +1,10 @@
 //! What a line says.
 ghost use Rattle.std.specs.Prelude.{◌≡◌, ◌∷◌, codes, option_map};
 ghost use Rattle.std.specs.Option.{option_copied};
-ghost use Rattle.guppy_program.specs.Text.{section_of, words, words_after, statement_of, statement_of_words, statement_of_text};
+ghost use Rattle.guppy_program.specs.Text.{words, words_after, statement_of, statement_of_words, statement_of_text};
 ghost use Rattle.guppy_program.specs.Stated.{statement_shown};
 
+use crate::options::section_of;
 use guppy_data::DependencyKind;
 
 /// What one line says.
@@ -13,20 +14,6 @@ pub enum Statement<'a> {
     Package(&'a str),
     /// The first package depends on the second, in this section.
     Link(&'a str, &'a str, DependencyKind),
-}
-
-fn section_of(word: &str) -> Option<DependencyKind>
-    ensures { result ≡ section_of word.now }
-{
-    if word == "normal" {
-        Some(DependencyKind::Normal)
-    } else if word == "build" {
-        Some(DependencyKind::Build)
-    } else if word == "dev" {
-        Some(DependencyKind::Development)
-    } else {
-        None
-    }
 }
 
 // The first word, and what stands behind the space after it.

@@ -1,5 +1,5 @@
 use Rattle.std.proofs.lemmas.Result.{IfOk-weaker, IfErr-weaker}
-use Rattle.guppy_program.specs.Shown.{command_shown}
+use Rattle.guppy_program.specs.Shown.{asked_shown}
 use Rattle.guppy_program.proofs.Running.{command_fault}
 use Rattle.guppy_program.proofs.program.answer_input.Goals as goal
 
@@ -8,4 +8,4 @@ returns-clause-ok g c = IfOk-weaker c.answer_text-text.result _ _ (λ text is. (
 
 pub returns-clause-err : goal.returns-clause-err
 returns-clause-err g c = IfErr-weaker c.answer_text-text.result _ _
-    (λ fault is. command_fault g.F.Format.format (command_shown c.args.command.now) c.args.input.now c.in_ok-graph.graph c.in_ok-graph.ensures.ok fault (g.F.Fault.ProgramFault.cause fault) is) c.answer_text-text.ensures.err
+    (λ fault is. command_fault g.F.Format.format (asked_shown c.args.asked.now) c.args.input.now c.in_ok-graph.graph c.in_ok-graph.ensures.ok fault (g.F.Fault.ProgramFault.cause fault) is) c.answer_text-text.ensures.err

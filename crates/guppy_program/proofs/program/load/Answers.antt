@@ -12,26 +12,29 @@ pub returns-in_err-graph-clause-err : goal.returns-in_err-graph-clause-err
 returns-in_err-graph-clause-err g c =
     let passed_on = err_from_is_err_and c.from_residual-in_err-graph.result c.from_residual-in_err-graph.ensures.1 in
     let r = c.in_ok-records.records in
+    let kept = c.keep_links.new.links.items in
     let told = c.in_err-graph.ensures.err in
-    let refused = subst (λ made. IfErr made (IsRefusal r.packages.items r.links.items r.workspace)) told.1 c.into_graph.ensures.refused in
-    rw (passed_on.1, passed_on.2) (subst (IsLoadFault g.F.Format.format c.args.input.now c.in_err-graph.field-0.0) (sym told.2) (OrMemory-holds told.0 (record {
+    let refused = subst (λ made. IfErr made (IsRefusal r.packages.items kept r.workspace)) told.1 c.into_graph.ensures.refused in
+    rw (passed_on.1, passed_on.2) (subst (IsLoadFault g.F.Format.format c.args.options.now.kinds c.args.input.now c.in_err-graph.field-0.0) (sym told.2) (OrMemory-holds told.0 (record {
       packages = r.packages.items;
       links = r.links.items;
       workspace = r.workspace;
       said = c.in_ok-records.ensures.said;
-      holds = refused;
+      holds = subst (λ links. IsRefusal r.packages.items links r.workspace told.0) c.keep_links.ensures refused;
     })))
 
 pub returns-clause-ok : goal.returns-clause-ok
 returns-clause-ok g c =
     let r = c.in_ok-records.records in
+    let kept = c.keep_links.new.links.items in
+    let graph = c.in_ok-graph.graph in
     record {
       packages = r.packages.items;
       links = r.links.items;
       workspace = r.workspace;
       said = c.in_ok-records.ensures.said;
-      holds = (
-        subst (λ made. OnOk made (IsAccepted r.packages.items r.links.items r.workspace)) c.in_ok-graph.ensures.ok c.into_graph.ensures.accepted,
-        subst (λ made. IfOk made (λ h. Holds h r.packages.items r.links.items r.workspace)) c.in_ok-graph.ensures.ok c.into_graph.ensures.holds,
+      holds = subst (λ links. IsAccepted r.packages.items links r.workspace × Holds graph r.packages.items links r.workspace) c.keep_links.ensures (
+        subst (λ made. OnOk made (IsAccepted r.packages.items kept r.workspace)) c.in_ok-graph.ensures.ok c.into_graph.ensures.accepted,
+        subst (λ made. IfOk made (λ h. Holds h r.packages.items kept r.workspace)) c.in_ok-graph.ensures.ok c.into_graph.ensures.holds,
       );
     }

@@ -1,9 +1,9 @@
-use Rattle.guppy_program.proofs.process.outcome_of.Goals as goal
+use Rattle.guppy_program.proofs.program.run_of.Goals as goal
 
-pub returns-in-Ok-clause-ran : goal.returns-in-Ok-clause-ran
-returns-in-Ok-clause-ran g c =
+pub returns : goal.returns
+returns g c =
     let r = c.run_with.ensures in
-    rw (c.in-Ok.is, ← c.deref.ensures.value) (record {
+    record {
       ok = r.ok;
       arguments = r.arguments;
       arguments_read = r.arguments_read;
@@ -12,4 +12,4 @@ returns-in-Ok-clause-ran g c =
       output_fails = r.output_failed;
       refused = r.refused;
       begun = r.begun;
-    })
+    }

@@ -1,0 +1,116 @@
+//! The members of the workspace among the packages of an answer.
+ghost use Rattle.std.specs.Prelude.{◌≡◌, ◌∷◌, [], IfOk, IsOkUnless, map};
+ghost use Rattle.std.specs.List.{filter, list_all};
+ghost use Rattle.guppy_program.specs.Answer.{AreMembers, is_member, of_members, shown};
+ghost use Rattle.guppy_program.specs.Shown.{answer_shown};
+
+use crate::answer::Answer;
+use crate::options::Options;
+use guppy::{Error, PackageGraph, PackageId, PackageSet};
+
+// Whether the package with the ID is one of the members.
+fn is_member(members: &PackageSet<'_>, id: &PackageId) -> bool
+    requires { AreMembers members.now }
+    ensures { result ≡ is_member members.now.graph.packages id.now }
+{
+    let Ok(among) = members.contains(id) else {
+        return false;
+    };
+    among
+}
+
+// Whether each package with one of the IDs is one of the members.
+fn are_members(members: &PackageSet<'_>, ids: &[&PackageId]) -> bool
+    requires { AreMembers members.now }
+    ensures { result
+        ≡ list_all (is_member members.now.graph.packages) (map (λ id. id.now) ids.now) }
+{
+    ids.iter().all(|id| is_member(members, id))
+}
+
+// Leaves the others out.
+fn keep_members(members: &PackageSet<'_>, ids: &mut Vec<&PackageId>)
+    requires { AreMembers members.now }
+    ensures { map (λ id. id.now) ids.new.items
+        ≡ filter (is_member members.now.graph.packages) (map (λ id. id.now) ids.old.items) }
+{
+    ids.retain(|id| is_member(members, id));
+}
+
+// Leaves the pairs out in which another package stands.
+fn keep_pairs(members: &PackageSet<'_>, pairs: &mut Vec<(&PackageId, &PackageId)>)
+    requires { AreMembers members.now }
+    ensures { map (λ pair. pair.0.now ∷ pair.1.now ∷ []) pairs.new.items
+        ≡ filter (list_all (is_member members.now.graph.packages))
+        (map (λ pair. pair.0.now ∷ pair.1.now ∷ []) pairs.old.items) }
+{
+    pairs.retain(|(from, to)| is_member(members, from) && is_member(members, to));
+}
+
+// Leaves the rows out in which another package stands.
+fn keep_rows(members: &PackageSet<'_>, rows: &mut Vec<Vec<&PackageId>>)
+    requires { AreMembers members.now }
+    ensures { map (λ row. map (λ id. id.now) row.items) rows.new.items
+        ≡ filter (list_all (is_member members.now.graph.packages))
+        (map (λ row. map (λ id. id.now) row.items) rows.old.items) }
+{
+    rows.retain(|row| are_members(members, row.as_slice()));
+}
+
+// The answer with these members alone.
+fn among<'g>(members: &PackageSet<'_>, answer: Answer<'g>) -> Answer<'g>
+    requires { AreMembers members.now }
+    ensures { answer_shown result
+        ≡ of_members members.now.graph.packages (answer_shown answer.entry) }
+{
+    match answer {
+        Answer::Set(mut ids) => {
+            keep_members(members, &mut ids);
+            Answer::Set(ids)
+        }
+        Answer::List(mut ids) => {
+            keep_members(members, &mut ids);
+            Answer::List(ids)
+        }
+        Answer::Pairs(mut pairs) => {
+            keep_pairs(members, &mut pairs);
+            Answer::Pairs(pairs)
+        }
+        Answer::Rows(mut rows) => {
+            keep_rows(members, &mut rows);
+            Answer::Rows(rows)
+        }
+        Answer::Truth(holds) => Answer::Truth(holds),
+        Answer::AllWell => Answer::AllWell,
+    }
+}
+
+// The answer with members of the workspace alone.
+fn of_members<'g>(graph: &PackageGraph, answer: Answer<'g>) -> Result<Answer<'g>, Error>
+    ensures ok { IfOk result (λ chosen. answer_shown chosen
+        ≡ of_members graph.now.packages (answer_shown answer.entry)) }
+    ensures err { IsOkUnless result Error.OutOfMemory }
+{
+    let members = graph.resolve_workspace()?;
+    Ok(among(&members, answer))
+}
+
+/// What the options have shown of the answer of this graph: all of it, or with members of the workspace alone.
+///
+/// Takes memory for a number a member and a bit a package, and fails, with `OutOfMemory`, only where there is
+/// none. Time grows with the packages, and with the answer times the logarithm of the packages.
+pub fn shown<'g>(
+    graph: &PackageGraph,
+    options: Options,
+    answer: Answer<'g>,
+) -> Result<Answer<'g>, Error>
+    ensures ok { IfOk result (λ chosen. answer_shown chosen
+        ≡ shown options graph.now.packages (answer_shown answer.entry)) }
+    ensures err { IsOkUnless result Error.OutOfMemory }
+{
+    if options.members_alone {
+        of_members(graph, answer)
+    } else {
+        Ok(answer)
+    }
+}
