@@ -37,7 +37,8 @@ EVERYONES = ("Cargo.toml", "Cargo.lock", "rust-toolchain", "rust-toolchain.toml"
 BAD_ARGUMENTS = (
     "bad arguments: give `reach forward|reverse PACKAGE..`, `depends PACKAGE PACKAGE`, `order`, "
     "`roots forward|reverse`, `links forward|reverse`, `cycles`, `verify`, `publish-order` "
-    "or `affected [--ignore FOLDER].. [--paths-from FILE] PATH..`"
+    "or `affected [--ignore FOLDER].. [--paths-from FILE] PATH..`, "
+    "and with each `--kinds normal,build,dev`, `--workspace` or `--ids`"
 )
 
 
