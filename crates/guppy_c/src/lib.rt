@@ -1,0 +1,9 @@
+//! What Rust, C and other languages call of the proved layer.
+//!
+//! Nothing is kept from one call to the next, and no call takes or gives a pointer to anything but the
+//! caller's own slices, each a pointer and a length. A call tests what it needs of them, and tells a status.
+//!
+//! - `flat`: answers about a graph that the caller holds as slices.
+#![tactic(auto)]
+
+pub mod flat;

@@ -1,0 +1,2 @@
+pub mod Cycling
+pub mod Places

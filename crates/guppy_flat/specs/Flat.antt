@@ -1,0 +1,17 @@
+-- Graphs as slices.
+use Rattle.std.specs.Prelude.{Bool, false, List, length, map, replicate}
+use Rattle.guppy_search.specs.declared.graph_core.link.Link.{Link}
+use Rattle.guppy_search.specs.Links.{links_between}
+use Rattle.guppy_flat.specs.declared.flat.Ends.{Ends}
+
+-- the link with these ends
+abbrev pub link_of : Ends → Link (Unit {0})
+link_of l = record { from = l.from; to = l.to; edge = tt }
+
+-- the links with these ends, each with its flag
+abbrev pub flagged : List Ends → List Bool → List (Link Bool)
+flagged links flags = links_between (map link_of links) flags
+
+-- the links with these ends, none of them flagged
+abbrev pub plain : List Ends → List (Link Bool)
+plain links = flagged links (replicate (length links) false)

@@ -1,0 +1,4 @@
+pub mod Flat
+pub mod Ordering
+pub mod Search
+pub mod Sets

@@ -1,0 +1,110 @@
+// Made by scripts/exports.py of crates/guppy_c; not to be edited.
+//
+// A slice is a pointer, which is not null, and how many elements lie there. One that is written overlaps no other.
+/// How a call ended.
+#[repr(C)]
+#[derive(Clone, Copy, Debug, PartialEq, Eq)]
+pub(crate) struct Outcome {
+    /// 0: answered. 1: the lengths of the slices don't fit. 2: there are too many positions. 3: there are
+    /// too many links. 4: an end of a link is no position. 5: a link has the ends of an earlier one. 6: there
+    /// was no memory.
+    pub(crate) status: u32,
+    /// At 4 and 5 the number of the first such link, else 0.
+    pub(crate) link: usize,
+}
+
+/// How a call ended that writes a list of its own length.
+#[repr(C)]
+#[derive(Clone, Copy, Debug, PartialEq, Eq)]
+pub(crate) struct Listed {
+    /// How the call ended. Its status 7: there are too few places for the list.
+    pub(crate) outcome: Outcome,
+    /// How long the list is, at 0 and 7, else 0.
+    pub(crate) len: usize,
+}
+
+/// A link by its ends, two positions.
+#[repr(C)]
+#[derive(Clone, Copy, Debug, PartialEq, Eq)]
+pub(crate) struct Ends {
+    /// The position that it leaves.
+    pub(crate) from: u32,
+    /// The position that it leads to.
+    pub(crate) to: u32,
+}
+
+#[allow(dead_code)]
+extern "C" {
+    /// Writes all positions as `guppy_order` does, and marks the places of the list at which a component
+    /// begins. There is a flag for each link, and a mark for each place of the list.
+    fn guppy_components(
+        links: *const Ends,
+        links_len: usize,
+        flags: *const bool,
+        flags_len: usize,
+        list: *mut u32,
+        list_len: usize,
+        firsts: *mut bool,
+        firsts_len: usize,
+    ) -> Outcome;
+    /// Writes a cycle over flagged links to the front of the list: two or more positions, each once, each with
+    /// a flagged link to the next, and the last with one to the first. There is a flag for each link, and as many
+    /// positions as places in the list. None is a list of no positions.
+    fn guppy_cycle(
+        links: *const Ends,
+        links_len: usize,
+        flags: *const bool,
+        flags_len: usize,
+        list: *mut u32,
+        list_len: usize,
+    ) -> Listed;
+    /// Writes the numbers of the links inside the marked set that are walked from its roots to the front of
+    /// `numbers`, each once: one whose leaving end is no root after a link that leads to that end. Where the set
+    /// holds each component that it touches, these are all links inside. A place for each link always does.
+    fn guppy_links(
+        links: *const Ends,
+        links_len: usize,
+        set: *const bool,
+        set_len: usize,
+        forward: bool,
+        numbers: *mut usize,
+        numbers_len: usize,
+    ) -> Listed;
+    /// Writes all positions, each once: components together, and of a link between two components the
+    /// position that it leaves first. Where the flagged links have no cycle but self-links, of each of these
+    /// too. There is a flag for each link, and as many positions as places in the list.
+    fn guppy_order(
+        links: *const Ends,
+        links_len: usize,
+        flags: *const bool,
+        flags_len: usize,
+        list: *mut u32,
+        list_len: usize,
+    ) -> Outcome;
+    /// Marks the positions that flagged links lead to from the marked starts, the starts among them, and no
+    /// other; from dependents to dependencies where `forward` says so, else the other way. There is a flag for
+    /// each link, and a mark for each of the starts' positions.
+    fn guppy_reach(
+        links: *const Ends,
+        links_len: usize,
+        flags: *const bool,
+        flags_len: usize,
+        starts: *const bool,
+        starts_len: usize,
+        forward: bool,
+        marks: *mut bool,
+        marks_len: usize,
+    ) -> Outcome;
+    /// Marks the roots of the marked set, and no other position: those whose component no link inside the
+    /// set enters from another one; a link enters what it leads to where `forward` says so, else what it
+    /// leaves. There is a mark for each of the set's positions.
+    fn guppy_roots(
+        links: *const Ends,
+        links_len: usize,
+        set: *const bool,
+        set_len: usize,
+        forward: bool,
+        marks: *mut bool,
+        marks_len: usize,
+    ) -> Outcome;
+}

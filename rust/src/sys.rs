@@ -1,0 +1,384 @@
+//! The calls of the proved library, each made safe: the only module with `unsafe`.
+//!
+//! What crosses is a number, a `bool`, a struct of numbers, or a slice as a pointer and a length. The
+//! library keeps none of them, and takes memory by the three functions at the end.
+#![allow(unsafe_code)]
+
+use std::alloc::{handle_alloc_error, Layout};
+
+include!("exports.rs");
+
+/// Why links make no graph.
+#[derive(Clone, Copy, Debug, PartialEq, Eq)]
+pub(crate) enum LinkFault {
+    /// There are too many positions or links.
+    TooMany,
+    /// The link with the number has an end that is no position, or the ends of an earlier one.
+    At(usize),
+}
+
+// The library found no memory; std ends the process where it finds none, and so does this.
+fn out_of_memory(bytes: usize) -> ! {
+    handle_alloc_error(Layout::array::<u8>(bytes).unwrap_or(Layout::new::<u64>()))
+}
+
+// What the status says. Lengths fit in each call here.
+fn ended(outcome: Outcome, links: &[Ends]) -> Result<(), LinkFault> {
+    match outcome.status {
+        0 => Ok(()),
+        2 | 3 => Err(LinkFault::TooMany),
+        4 | 5 => Err(LinkFault::At(outcome.link)),
+        6 => out_of_memory(std::mem::size_of_val(links)),
+        status => unreachable!("status {status} of slices whose lengths fit"),
+    }
+}
+
+// The same, of links that made a graph before.
+fn accepted(outcome: Outcome, links: &[Ends]) {
+    ended(outcome, links).expect("these links make a graph");
+}
+
+/// All positions, component by component.
+#[derive(Debug)]
+pub(crate) struct Components {
+    order: Vec<u32>,
+    firsts: Vec<bool>,
+}
+
+impl Components {
+    /// All positions, dependents first.
+    pub(crate) fn order(&self) -> &[u32] {
+        &self.order
+    }
+
+    /// The components, dependents first.
+    pub(crate) fn iter(&self) -> impl Iterator<Item = &[u32]> {
+        let firsts = self
+            .firsts
+            .iter()
+            .enumerate()
+            .filter(|(_, first)| **first)
+            .map(|(place, _)| place);
+        let ends = firsts.clone().skip(1).chain([self.order.len()]);
+        firsts.zip(ends).map(|(begin, end)| &self.order[begin..end])
+    }
+}
+
+/// The components of the positions below the count, in an order by the flagged links.
+pub(crate) fn components(
+    links: &[Ends],
+    flags: &[bool],
+    count: usize,
+) -> Result<Components, LinkFault> {
+    let (mut order, mut firsts) = (vec![0; count], vec![false; count]);
+    // SAFETY: each pointer and length are those of one slice, which is borrowed for the call, and no other
+    // overlaps `order` or `firsts`.
+    let outcome = unsafe {
+        guppy_components(
+            links.as_ptr(),
+            links.len(),
+            flags.as_ptr(),
+            flags.len(),
+            order.as_mut_ptr(),
+            order.len(),
+            firsts.as_mut_ptr(),
+            firsts.len(),
+        )
+    };
+    ended(outcome, links)?;
+    Ok(Components { order, firsts })
+}
+
+/// A cycle over flagged links of the positions below the count.
+pub(crate) fn cycle(links: &[Ends], flags: &[bool], count: usize) -> Option<Vec<u32>> {
+    let mut list = vec![0; count];
+    // SAFETY: as above, and no slice overlaps `list`.
+    let cycle = unsafe {
+        guppy_cycle(
+            links.as_ptr(),
+            links.len(),
+            flags.as_ptr(),
+            flags.len(),
+            list.as_mut_ptr(),
+            list.len(),
+        )
+    };
+    accepted(cycle.outcome, links);
+    list.truncate(cycle.len);
+    if list.is_empty() {
+        None
+    } else {
+        Some(list)
+    }
+}
+
+/// The positions that flagged links lead to from the starts.
+pub(crate) fn reach(links: &[Ends], flags: &[bool], starts: &[bool], forward: bool) -> Vec<bool> {
+    let mut marks = vec![false; starts.len()];
+    // SAFETY: as above, and no slice overlaps `marks`.
+    let outcome = unsafe {
+        guppy_reach(
+            links.as_ptr(),
+            links.len(),
+            flags.as_ptr(),
+            flags.len(),
+            starts.as_ptr(),
+            starts.len(),
+            forward,
+            marks.as_mut_ptr(),
+            marks.len(),
+        )
+    };
+    accepted(outcome, links);
+    marks
+}
+
+/// The roots of the set in the direction.
+pub(crate) fn roots(links: &[Ends], set: &[bool], forward: bool) -> Vec<bool> {
+    let mut marks = vec![false; set.len()];
+    // SAFETY: as above, and no slice overlaps `marks`.
+    let outcome = unsafe {
+        guppy_roots(
+            links.as_ptr(),
+            links.len(),
+            set.as_ptr(),
+            set.len(),
+            forward,
+            marks.as_mut_ptr(),
+            marks.len(),
+        )
+    };
+    accepted(outcome, links);
+    marks
+}
+
+/// The numbers of the links inside the set, in the order of a walk from its roots.
+pub(crate) fn links(links: &[Ends], set: &[bool], forward: bool) -> Vec<usize> {
+    let mut numbers = vec![0; links.len()];
+    // SAFETY: as above, and no slice overlaps `numbers`.
+    let listed = unsafe {
+        guppy_links(
+            links.as_ptr(),
+            links.len(),
+            set.as_ptr(),
+            set.len(),
+            forward,
+            numbers.as_mut_ptr(),
+            numbers.len(),
+        )
+    };
+    accepted(listed.outcome, links);
+    numbers.truncate(listed.len);
+    numbers
+}
+
+/// The memory that the library takes: the C library's, whose blocks fit each alignment that is asked for.
+mod memory {
+    use std::ptr::NonNull;
+
+    extern "C" {
+        fn malloc(bytes: usize) -> *mut u8;
+        fn realloc(block: *mut u8, bytes: usize) -> *mut u8;
+        fn free(block: *mut u8);
+    }
+
+    /// Whether there was memory, and the block; where there was none, any address but null.
+    #[repr(C)]
+    pub struct Tried {
+        found: bool,
+        block: *mut u8,
+    }
+
+    fn tried(block: *mut u8) -> Tried {
+        let found = !block.is_null();
+        let block = if found {
+            block
+        } else {
+            NonNull::dangling().as_ptr()
+        };
+        Tried { found, block }
+    }
+
+    // A block of no bytes is one of as many as its alignment, so that it has an address of its own.
+    fn some(bytes: usize, alignment: usize) -> usize {
+        if bytes == 0 {
+            alignment
+        } else {
+            bytes
+        }
+    }
+
+    #[no_mangle]
+    unsafe extern "C" fn rattle_alloc(bytes: usize, alignment: usize) -> Tried {
+        #[cfg(test)]
+        if super::tests::is_refused() {
+            return tried(std::ptr::null_mut());
+        }
+        let tried = tried(unsafe { malloc(some(bytes, alignment)) });
+        #[cfg(test)]
+        super::tests::count(tried.found.into());
+        tried
+    }
+
+    #[no_mangle]
+    unsafe extern "C" fn rattle_realloc(
+        block: *mut u8,
+        _kept: usize,
+        bytes: usize,
+        alignment: usize,
+    ) -> Tried {
+        #[cfg(test)]
+        if super::tests::is_refused() {
+            return tried(std::ptr::null_mut());
+        }
+        tried(unsafe { realloc(block, some(bytes, alignment)) })
+    }
+
+    #[no_mangle]
+    unsafe extern "C" fn rattle_dealloc(block: *mut u8) {
+        #[cfg(test)]
+        super::tests::count(-1);
+        unsafe { free(block) }
+    }
+}
+
+#[cfg(test)]
+mod tests {
+    use super::*;
+    use std::cell::Cell;
+
+    thread_local! {
+        // How many requests for memory are granted before one is refused, and how many blocks there are.
+        static GRANTED: Cell<usize> = const { Cell::new(usize::MAX) };
+        static BLOCKS: Cell<isize> = const { Cell::new(0) };
+    }
+
+    pub(super) fn is_refused() -> bool {
+        let granted = GRANTED.get();
+        GRANTED.set(granted.wrapping_sub(1));
+        granted == 0
+    }
+
+    pub(super) fn count(blocks: isize) {
+        BLOCKS.set(BLOCKS.get() + blocks);
+    }
+
+    const LINKS: [Ends; 4] = [
+        Ends { from: 2, to: 0 },
+        Ends { from: 0, to: 1 },
+        Ends { from: 1, to: 0 },
+        Ends { from: 1, to: 1 },
+    ];
+
+    // Each call on three positions, with these links and so many flags and places: its status, its number,
+    // and what it wrote.
+    fn called(links: &[Ends], flags: usize, places: usize) -> Vec<(u32, usize, String)> {
+        let (flags, set) = (vec![true; flags], [true; 3]);
+        let mut told = Vec::new();
+        let (p, n) = (links.as_ptr(), links.len());
+        let (f, fs) = (flags.as_ptr(), flags.len());
+        let mut marks = vec![true; places];
+        let (m, ms) = (marks.as_mut_ptr(), marks.len());
+        // SAFETY: each pointer and length are those of one slice, and none that is written overlaps another.
+        let outcome = unsafe { guppy_reach(p, n, f, fs, set.as_ptr(), 3, true, m, ms) };
+        told.push((outcome.status, outcome.link, format!("{marks:?}")));
+        let mut marks = vec![true; places];
+        let (m, ms) = (marks.as_mut_ptr(), marks.len());
+        // SAFETY: as above.
+        let outcome = unsafe { guppy_roots(p, n, set.as_ptr(), 3, true, m, ms) };
+        told.push((outcome.status, outcome.link, format!("{marks:?}")));
+        let (mut list, mut firsts) = (vec![9; 3], vec![true; places]);
+        let (l, m, ms) = (list.as_mut_ptr(), firsts.as_mut_ptr(), firsts.len());
+        // SAFETY: as above.
+        let outcome = unsafe { guppy_components(p, n, f, fs, l, 3, m, ms) };
+        told.push((outcome.status, outcome.link, format!("{list:?} {firsts:?}")));
+        let mut list = vec![9; 3];
+        // SAFETY: as above.
+        let outcome = unsafe { guppy_order(p, n, f, fs, list.as_mut_ptr(), 3) };
+        told.push((outcome.status, outcome.link, format!("{list:?}")));
+        let mut list = vec![9; 3];
+        // SAFETY: as above.
+        let listed = unsafe { guppy_cycle(p, n, f, fs, list.as_mut_ptr(), 3) };
+        let outcome = listed.outcome;
+        told.push((
+            outcome.status,
+            outcome.link,
+            format!("{} {list:?}", listed.len),
+        ));
+        let mut numbers = vec![9; places];
+        let (m, ms) = (numbers.as_mut_ptr(), numbers.len());
+        // SAFETY: as above.
+        let listed = unsafe { guppy_links(p, n, set.as_ptr(), 3, true, m, ms) };
+        let outcome = listed.outcome;
+        told.push((
+            outcome.status,
+            outcome.link,
+            format!("{} {numbers:?}", listed.len),
+        ));
+        assert_eq!(BLOCKS.get(), 0, "all memory is given back");
+        told
+    }
+
+    fn statuses(told: &[(u32, usize, String)]) -> Vec<u32> {
+        told.iter().map(|it| it.0).collect()
+    }
+
+    const UNCHANGED: [&str; 6] = [
+        "[true, true, true]",
+        "[true, true, true]",
+        "[9, 9, 9] [true, true, true]",
+        "[9, 9, 9]",
+        "0 [9, 9, 9]",
+        "0 [9, 9, 9]",
+    ];
+
+    #[test]
+    fn each_call_answers() {
+        let told = called(&LINKS, 4, 3);
+        assert_eq!(statuses(&told), [0, 0, 0, 0, 0, 7]);
+        assert_eq!(told[0].2, "[true, true, true]");
+        assert_eq!(told[1].2, "[false, false, true]");
+        assert!(told[2].2.starts_with("[2, ") && told[2].2.ends_with("] [true, true, false]"));
+        assert!(told[3].2.starts_with("[2, "));
+        assert!(told[4].2.starts_with("2 "));
+        assert_eq!(told[5].2, "4 [9, 9, 9]");
+        let none: Vec<_> = called(&[], 0, 3).into_iter().map(|it| it.2).collect();
+        assert_eq!(none[1], "[true, true, true]");
+        assert_eq!(none[4..], ["0 [9, 9, 9]", "0 [9, 9, 9]"]);
+    }
+
+    #[test]
+    fn what_does_not_fit_is_told_and_nothing_written() {
+        let wrong = called(&LINKS, 3, 2);
+        assert_eq!(statuses(&wrong), [1, 1, 1, 1, 1, 7]);
+        let links = [LINKS[0], Ends { from: 3, to: 0 }, Ends { from: 0, to: 4 }];
+        for (number, told) in called(&links, 3, 3).into_iter().enumerate() {
+            assert_eq!(told, (4, 1, UNCHANGED[number].to_owned()));
+        }
+        let links = [LINKS[0], LINKS[1], LINKS[0]];
+        for (number, told) in called(&links, 3, 3).into_iter().enumerate() {
+            assert_eq!(told, (5, 2, UNCHANGED[number].to_owned()));
+        }
+    }
+
+    #[test]
+    fn a_refused_request_for_memory_is_told_or_done_without() {
+        let whole = called(&LINKS, 4, 3);
+        let mut refusals = 0;
+        for granted in 0.. {
+            GRANTED.set(granted);
+            let told = called(&LINKS, 4, 3);
+            let is_past_the_last = GRANTED.replace(usize::MAX) < usize::MAX / 2;
+            let refused: Vec<_> = (0..6).filter(|it| told[*it] != whole[*it]).collect();
+            for number in &refused {
+                assert_eq!(told[*number], (6, 0, UNCHANGED[*number].to_owned()));
+            }
+            refusals += refused.len();
+            if is_past_the_last {
+                break;
+            }
+            assert!(refused.len() <= 1);
+        }
+        assert!(refusals > 100, "{refusals} refusals");
+    }
+}
