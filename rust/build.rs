@@ -18,6 +18,8 @@ fn main() {
         );
     }
     println!("cargo:rerun-if-changed={}", archive.display());
+    // For the test that calls it from C.
+    println!("cargo:rustc-env=GUPPY_C_ARCHIVE={}", archive.display());
     println!("cargo:rustc-link-search=native={}", folder.display());
     println!("cargo:rustc-link-lib=static=guppy_c");
 }

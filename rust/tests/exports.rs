@@ -13,11 +13,18 @@ fn declarations_are_those_of_the_sources() {
 }
 
 #[test]
-fn the_header_is_c() {
-    let header = concat!(env!("CARGO_MANIFEST_DIR"), "/guppy.h");
-    let status = Command::new("cc")
-        .args(["-std=c11", "-Wall", "-Werror", "-fsyntax-only", header])
-        .status()
-        .unwrap();
-    assert!(status.success());
+fn the_library_is_called_from_c() {
+    let folder = env!("CARGO_MANIFEST_DIR");
+    let program = std::env::temp_dir().join(format!("guppy-order-{}", std::process::id()));
+    let built = Command::new("cc")
+        .args(["-std=c11", "-Wall", "-Wextra", "-Werror", "-I", folder])
+        .arg(format!("{folder}/tests/order.c"))
+        .arg(env!("GUPPY_C_ARCHIVE"))
+        .arg("-o")
+        .arg(&program)
+        .status();
+    assert!(built.unwrap().success());
+    let output = Command::new(&program).output().unwrap();
+    std::fs::remove_file(&program).unwrap();
+    assert_eq!(String::from_utf8_lossy(&output.stdout), "2 0 1\n");
 }

@@ -1,18 +1,20 @@
 -- What the JSON of a declared dependency says.
-use Rattle.std.specs.Prelude.{◌≡◌, ◌⊎◌, ℕ, true, false, List, Option, Some, None, Ok, String, map, unwrap_or, if◌then◌else◌, codes}
+use Rattle.std.specs.Prelude.{◌≡◌, ◌⊎◌, ℕ, true, false, List, [], Option, Some, None, Ok, String, map, unwrap_or, if◌then◌else◌, codes}
 use Rattle.std.specs.declared.alloc.Global.{Global}
 use Rattle.std.specs.List.{filter_map}
 use Rattle.std.specs.Option.{option_copied}
+use Rattle.std.specs.Str.{bytes_eq}
+use Rattle.std.specs.String.{string_bytes}
 use Rattle.semver.specs.Identifiers.{comparator_view}
 use Rattle.semver.specs.Parse.{req_of}
 use Rattle.semver.specs.declared.VersionReq.{VersionReq}
 use Rattle.json.specs.Json.{Json, string}
 use Rattle.json.specs.Find.{get}
-use Rattle.indexmap.specs.IndexSet.{IndexSet, contains_text}
+use Rattle.indexmap.specs.IndexSet.{IndexSet, insert_all}
 use Rattle.guppy_data.specs.declared.texts.dependency_kind.DependencyKind.{DependencyKind}
 use Rattle.guppy_data.specs.declared.texts.dependency_kind.DependencyKind.TheVariants.{Normal, Development, Build}
 use Rattle.guppy_metadata.specs.declared.declared.Declared.{Declared}
-use Rattle.guppy_metadata.specs.Members.{IsText, IsTruth, IsListOf, AreTexts, is_among}
+use Rattle.guppy_metadata.specs.Members.{IsText, IsTruth, IsListOf, AreTexts}
 
 -- the section that the member `kind` names: the normal one where there is none
 abbrev pub NamesSection : Json → DependencyKind → Type 0
@@ -46,9 +48,10 @@ manifest_name x = unwrap_or (option_copied x.rename) x.name.now
 abbrev pub optional_name : Declared → Option (List ℕ)
 optional_name x = if x.optional then Some (manifest_name x) else None
 
--- these are the names of the optional ones of these dependencies
+-- these are the names of the optional ones of these dependencies, in their order, each once
 abbrev pub NamesOptional : {S : Type 0} → List Declared → IndexSet (String Global) S → Type 0
-NamesOptional declared names = (name : List ℕ) → contains_text names name ≡ is_among (filter_map optional_name declared) name
+NamesOptional declared names =
+    map string_bytes names.keys ≡ insert_all bytes_eq [] (filter_map optional_name declared)
 
 -- these are the names of the optional ones among the dependencies of a list
 abbrev pub AreOptional : {S : Type 0} → Json → IndexSet (String Global) S → Type 0

@@ -1,7 +1,7 @@
 -- Which of the declared dependencies were resolved to one.
 use Rattle.std.specs.Prelude.{◌==◌, ◌&&◌, ◌||◌, ℕ, Bool, true, false, List, Option, length, option_map, option_and_then, unwrap_or, string_bytes}
 use Rattle.std.specs.Cmp.Lexicographic.{pointwise}
-use Rattle.std.specs.List.{find, list_any}
+use Rattle.std.specs.List.{find, list_any, list_all}
 use Rattle.std.specs.Option.{option_copied, option_eq}
 use Rattle.std.specs.Str.{bytes_eq}
 use Rattle.semver.specs.Eval.{matches_all}
@@ -60,3 +60,13 @@ fits from resolved needed x =
     && (bytes_eq from resolved.id.now || has_name x needed resolved.name.now)
     && takes x.requirement needed.version
     && is_used x resolved.usages.items
+
+-- whether the usage is that of one of the dependencies that were resolved so
+abbrev pub is_matched : List ℕ → Resolved → PackageRecord → List Declared → Usage → Bool
+is_matched from resolved needed declared usage =
+    list_any (λ x. same_usage x usage && fits from resolved needed x) declared
+
+-- whether each of these usages is
+abbrev pub are_matched : List ℕ → Resolved → PackageRecord → List Declared → List Usage → Bool
+are_matched from resolved needed declared usages =
+    list_all (is_matched from resolved needed declared) usages

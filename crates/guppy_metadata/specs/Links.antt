@@ -1,5 +1,5 @@
 -- What the JSON says of links.
-use Rattle.std.specs.Prelude.{◌≡◌, ℕ, List, [], Option, Some, None, IsSomeAnd, option_and_then, filter, string_bytes, codes}
+use Rattle.std.specs.Prelude.{◌≡◌, ℕ, true, List, [], Option, Some, None, IsSomeAnd, option_and_then, filter, string_bytes, codes}
 use Rattle.std.specs.List.{AllZip, flat_map}
 use Rattle.std.specs.Option.{option_copied}
 use Rattle.json.specs.Json.{Json, string, array}
@@ -10,7 +10,7 @@ use Rattle.guppy_metadata.specs.declared.link.Resolved.{Resolved}
 use Rattle.guppy_metadata.specs.declared.link.Usage.{Usage}
 use Rattle.guppy_metadata.specs.declared.package.Package.{Package}
 use Rattle.guppy_metadata.specs.Dependency.{NamesSection}
-use Rattle.guppy_metadata.specs.Fits.{fits}
+use Rattle.guppy_metadata.specs.Fits.{fits, are_matched}
 use Rattle.guppy_metadata.specs.Gathered.{IsGathered, IsMadeOf}
 use Rattle.guppy_metadata.specs.Members.{IsText, IsListOf}
 use Rattle.guppy_metadata.specs.Package.{AreTold, with_id}
@@ -38,11 +38,12 @@ pub record IsUnasked (name : List ℕ) (r : LinkRecord) : Type 0 where
   pub requirement : r.version_req.comparators.items ≡ []
   pub gathered : IsGathered [] r
 
--- what asks for the link: of the dependencies that its package declares, those that were resolved to the needed one;
--- none where one of the two is no package
+-- what asks for the link: of the dependencies that its package declares, those that were resolved to the needed one,
+-- of which each usage has one; none where one of the two is no package
 abbrev pub IsAsked : Option Package → Option Package → List ℕ → Resolved → LinkRecord → Type 0
 IsAsked (Some asking) (Some needed) from resolved r =
     IsMadeOf (filter (fits from resolved needed.record) asking.declared.items) r
+    × (are_matched from resolved needed.record asking.declared.items resolved.usages.items ≡ true)
 IsAsked (Some asking) None from resolved r = IsUnasked resolved.name.now r
 IsAsked None needed from resolved r = IsUnasked resolved.name.now r
 

@@ -8,7 +8,7 @@ ghost use Rattle.guppy_data.specs.Platform.{recorded_status, with_spec};
 ghost use Rattle.semver.specs.Identifiers.{comparator_view};
 ghost use Rattle.json.specs.Value.{value_view};
 ghost use Rattle.guppy_metadata.specs.declared.declared.Declared.{Declared};
-ghost use Rattle.guppy_metadata.specs.Fits.{stands_for, is_named, has_name, same_usage, is_used, fits};
+ghost use Rattle.guppy_metadata.specs.Fits.{stands_for, is_named, has_name, same_usage, is_used, fits, is_matched, are_matched};
 ghost use Rattle.guppy_metadata.specs.Gathered.{status_at, asked_too, asks_for, IsSection, IsGathered, IsNamedAs, IsMadeOf, MakeLink};
 ghost use Rattle.guppy_metadata.specs.Links.{Joins, IsUsage, IsResolved, IsUnasked, IsLink, AreLinksOf, AreLinksOfList};
 ghost use Rattle.guppy_metadata.specs.Members.{data_of, IsListOf};
@@ -162,6 +162,44 @@ fn fits(declared: &Declared<'_>, from: &str, resolved: &Resolved<'_>, needed: &P
         && (from == resolved.id || has_name(declared, needed, resolved.name))
         && declared.takes(&needed.record.version)
         && is_used(declared, resolved.usages.as_slice())
+}
+
+// Whether the usage is that of one of the declared dependencies that were resolved so.
+fn is_matched(
+    usage: &Usage<'_>,
+    declared: &[Declared<'_>],
+    from: &str,
+    resolved: &Resolved<'_>,
+    needed: &Package<'_>,
+) -> bool
+    ensures { result
+        ≡ is_matched from.now resolved.now needed.now.record declared.now usage.now }
+{
+    for dependency in declared {
+        if is_same_usage(dependency, usage) && fits(dependency, from, resolved, needed) {
+            return true;
+        }
+    }
+    false
+}
+
+// Whether each usage is.
+fn are_matched(
+    usages: &[Usage<'_>],
+    declared: &[Declared<'_>],
+    from: &str,
+    resolved: &Resolved<'_>,
+    needed: &Package<'_>,
+) -> bool
+    ensures { result
+        ≡ are_matched from.now resolved.now needed.now.record declared.now usages.now }
+{
+    for usage in usages {
+        if !is_matched(usage, declared, from, resolved, needed) {
+            return false;
+        }
+    }
+    true
 }
 
 // The text of the platforms, where the dependency isn't for all.
@@ -407,11 +445,14 @@ fn link_between(
     ensures made { IfOk result
         (IsMadeOf (filter (fits from.now resolved.now needed.now.record)
         asking.now.declared.items)) }
+    ensures matched { OnOk result (are_matched from.now resolved.now needed.now.record
+        asking.now.declared.items resolved.now.usages.items ≡ true) }
 {
     let declared = asking.declared.as_slice();
+    let usages = resolved.usages.as_slice();
     match link_of_fitting(alloc, from, declared, resolved, needed)? {
-        Some(link) => Ok(link),
-        None => {
+        Some(link) if are_matched(usages, declared, from, resolved, needed) => Ok(link),
+        _ => {
             let why = TextFault::NoDependency;
             Err(Misfit::bad_text(alloc, "pkg", why))
         }

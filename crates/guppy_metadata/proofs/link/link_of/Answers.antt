@@ -22,5 +22,5 @@ returns c = record {
   resolved = c.in_ok-resolved.resolved;
   resolved_is = c.in_ok-resolved.ensures;
   joins = c.in_ok-link_between.ensures.joins;
-  asked = rw (sym c.in-Some.ensures, sym c.in-Some-with_id.ensures) c.in_ok-link_between.ensures.made;
+  asked = rw (sym c.in-Some.ensures, sym c.in-Some-with_id.ensures) (c.in_ok-link_between.ensures.made, c.in_ok-link_between.ensures.matched);
 }
