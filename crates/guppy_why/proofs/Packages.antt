@@ -1,6 +1,6 @@
 -- The steps of a search of packages.
 use Rattle.std.proofs.Common.{◌≡◌, ◌≢◌, ⊎_elim, ℕ, zero, suc, ◌+◌, ◌<◌, ◌≤◌, Bool, true, false, List, [], ◌∷◌, ◌++◌, length, map, replicate, refl, sym, ap, subst, ◌∙◌, arith, Some, None, Option}
-use Rattle.std.specs.Prelude.{slice_get, All, MatchOption, IfSome}
+use Rattle.std.specs.Prelude.{slice_get, MatchOption, IfSome}
 use Rattle.std.specs.Option.{option_map}
 use Rattle.std.specs.Borrow.{Bor}
 use Rattle.std.proofs.lemmas.List.{map-append, length-map}

@@ -1,13 +1,13 @@
 -- The steps of a search.
-use Rattle.std.proofs.Common.{◌≡◌, ◌⊎◌, ⊎_elim, ℕ, zero, suc, ◌+◌, ◌<◌, ◌≤◌, Bool, true, false, List, [], ◌∷◌, ◌++◌, length, replicate, inl, inr, refl, sym, ap, subst, ◌∙◌, arith, Some, Option, None, length-append}
-use Rattle.std.specs.Prelude.{slice_get, MatchOption, Contains}
+use Rattle.std.proofs.Common.{◌≡◌, ⊎_elim, ℕ, zero, suc, ◌+◌, ◌<◌, ◌≤◌, Bool, true, false, List, [], ◌∷◌, ◌++◌, length, replicate, inl, inr, refl, sym, ap, subst, ◌∙◌, arith, Some, None, length-append}
+use Rattle.std.specs.Prelude.{slice_get, MatchOption}
 use Rattle.std.proofs.lemmas.Bool.{cases_lt}
 use Rattle.std.proofs.lemmas.List.{get_or_default}
 use Rattle.std.proofs.lemmas.Option.{slice_get_within}
 use Rattle.std.proofs.Math.ListN.{set, length-replicate}
 use Rattle.guppy_search.specs.declared.ix.direction.DependencyDirection.TheVariants.{Forward}
 use Rattle.guppy_search.specs.declared.graph_core.link.Link.{Link}
-use Rattle.guppy_search.specs.IxSet.{has, IsIn, member_count}
+use Rattle.guppy_search.specs.IxSet.{has, IsIn}
 use Rattle.guppy_search.specs.Links.{links_at}
 use Rattle.guppy_search.proofs.Lists.{nothing_in, Contains-cons_cases, Contains-later}
 use Rattle.guppy_search.proofs.Members.{member_count-set, member_count-replicate, has-replicate, member-set_cases, only_member}

@@ -1,6 +1,6 @@
 -- What a search under way says of walks.
-use Rattle.std.proofs.Common.{◌≡◌, ◌⊎◌, ⊎_elim, ℕ, zero, suc, ◌+◌, ◌<◌, ◌≤◌, Bool, List, [], ◌∷◌, length, inl, inr, refl, sym, subst, ◌∙◌, arith, Some, Option, None}
-use Rattle.std.specs.Prelude.{slice_get, IsSomeAnd, MatchOption}
+use Rattle.std.proofs.Common.{◌≡◌, ◌⊎◌, ⊎_elim, ℕ, zero, suc, ◌+◌, ◌<◌, ◌≤◌, Bool, List, [], ◌∷◌, length, inl, inr, sym, subst, arith, Some, None}
+use Rattle.std.specs.Prelude.{slice_get, MatchOption}
 use Rattle.std.proofs.lemmas.Bool.{cases_lt}
 use Rattle.std.proofs.lemmas.Option.{slice_get_within}
 use Rattle.guppy_search.specs.declared.graph_core.link.Link.{Link}

@@ -1,4 +1,4 @@
-use Rattle.std.proofs.Common.{◌∙◌, ℕ, length, subst}
+use Rattle.std.proofs.Common.{◌∙◌, length, subst}
 use Rattle.guppy.specs.Ids.{ix_position}
 use Rattle.guppy.specs.Views.{package_position}
 use Rattle.guppy.specs.declared.metadata.PackageMetadata.{PackageMetadata}

@@ -1,12 +1,12 @@
-use Rattle.std.proofs.Common.{◌≡◌, ◌<◌, ◌∙◌, refl, sym, ap, subst, ℕ, List, [], ◌∷◌, length}
+use Rattle.std.proofs.Common.{◌<◌, ◌∙◌, refl, sym, ap, subst, length}
 use Rattle.std.proofs.lemmas.Option.{slice_get_read}
 use Rattle.guppy_search.specs.declared.ix.direction.DependencyDirection.TheVariants.{Forward}
 use Rattle.guppy_search.specs.Links.{links_at}
 use Rattle.guppy.specs.DirectLinks.{links_left}
-use Rattle.guppy.specs.Views.{graph_of, package_position, link_number}
+use Rattle.guppy.specs.Views.{graph_of, package_position}
 use Rattle.guppy.specs.declared.metadata.PackageMetadata.{PackageMetadata}
 use Rattle.guppy_why.specs.Searches.{links_beside, IsFollowing}
-use Rattle.guppy_why.proofs.Leaving.{IsNext, numbered, leaving, next_of, none_left}
+use Rattle.guppy_why.proofs.Leaving.{IsNext, leaving, next_of, none_left}
 use Rattle.guppy_why.proofs.Packages.{graph_at, partly_first, partly_within, partly_done}
 use Rattle.guppy_why.proofs.search.Search.follow_links.Goals as goal
 

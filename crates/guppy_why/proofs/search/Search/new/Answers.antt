@@ -1,4 +1,4 @@
-use Rattle.std.proofs.Common.{◌≡◌, ◌<◌, ◌∙◌, sym, ap, subst, List, [], ◌∷◌, ◌++◌, length, set, replicate, false, true, None}
+use Rattle.std.proofs.Common.{◌≡◌, ◌<◌, ◌∙◌, ap, [], ◌∷◌, ◌++◌, length, set, true, None}
 use Rattle.std.specs.Borrow.{Bor}
 use Rattle.guppy.specs.Graph.{GraphData}
 use Rattle.guppy.specs.Views.{package_position, graph_packages}

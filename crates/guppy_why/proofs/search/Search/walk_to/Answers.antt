@@ -1,5 +1,4 @@
-use Rattle.std.proofs.Common.{◌≡◌, ◌<◌, ◌∙◌, refl, sym, ℕ, length, Some, None}
-use Rattle.std.specs.Prelude.{slice_get}
+use Rattle.std.proofs.Common.{◌<◌, refl, length}
 use Rattle.std.proofs.lemmas.Option.{slice_get_read}
 use Rattle.guppy_why.proofs.Back.{back_first, back_within, back_step, back_smaller, back_done}
 use Rattle.guppy_why.proofs.search.Search.walk_to.Goals as goal
