@@ -271,7 +271,7 @@ def try_help(graph):
         yield f"{words}, how it ends", (0, ""), (status, errors)
         yield f"{words}, whose usage", ["guppy-cargo"], re.findall(r"^Usage: (\S+) ", output, re.M)
     told = run(["help"], b"")[1]
-    named = re.findall(r"`([a-z-]+)", BAD_ARGUMENTS)
+    named = re.findall(r"`([a-z][a-z-]+)", BAD_ARGUMENTS)
     yield "help, the commands", sorted(named), sorted(set(re.findall(r"^  ([a-z][a-z-]+)", told, re.M)))
     yield "--version", (0, "guppy-cargo of guppy 0.19.1, proved\n", ""), run(["--version"], b"")
     for words in ("help no-such", "--help order roots"):

@@ -18,21 +18,21 @@ quote() {
     [ $# -eq 0 ] || printf '%s\0' "$@" | LC_ALL=C sed -z "s/'/'\\\\''/g; s/.*/'&'/" | tr '\0' ' '
 }
 
-# Prints lines that sort the words: each says of what kind its words are, and has the second word as "${2}", for which
+# Prints lines that sort the words: each says of what kind its words are (asked: options of the program), and has the second word as "${2}", for which
 # the shell puts that word. (A list that grows word by word would take minutes with some thousand paths.)
 sort_words() {
     at=0 option= given= for_cargo= input=
     for word do
         at=$((at + 1))
         case $option,$word in
-        ,--metadata | ,--since | ,--manifest-path | ,--filter-platform | ,--features | ,-F | ,--paths-from)
+        ,--metadata | ,--since | ,--manifest-path | ,--filter-platform | ,--features | ,-F | ,--paths-from | ,--kinds)
             option=$word
             ;;
-        ,--metadata=* | ,--since=* | ,--manifest-path=* | ,--filter-platform=* | ,--features=* | ,-F=*)
+        ,--metadata=* | ,--since=* | ,--manifest-path=* | ,--filter-platform=* | ,--features=* | ,-F=* | ,--kinds=*)
             sort_option "${word%%=*}" "${word#*=}" "\"\${$at#*=}\""
             ;;
         ,-F?*) sort_option -F "${word#-F}" "\"\${$at#-F}\"" ;;
-        ,--locked | ,--offline | ,--frozen | ,--all-features | ,--no-default-features) sort_option "$word" ;;
+        ,--locked | ,--offline | ,--frozen | ,--all-features | ,--no-default-features | ,--workspace | ,--ids) sort_option "$word" ;;
         ,*) echo "left \"\${$at}\"" ;;
         *,-?*) break ;;
         *)
@@ -57,6 +57,14 @@ sort_option() {
     case $1 in
     --paths-from)
         echo "left $1 $value"
+        return
+        ;;
+    --kinds)
+        echo "asked $1 $value"
+        return
+        ;;
+    --workspace | --ids)
+        echo "asked $1"
         return
         ;;
     --metadata | --since)
@@ -106,7 +114,8 @@ answer() {
     manifest=$(eval "quote $(of_kind manifest)")
     features=$(eval "quote $(of_kind features)")
     others=$(eval "quote $(of_kind others)")
-    eval "set -- $(of_kind left)"
+    # The command stands first: the program takes its options behind it too.
+    eval "set -- $(of_kind left) $(of_kind asked)"
     # Nothing else depends on what standard input is.
     case $sorted in *"left --paths-from /dev/fd/3"*) exec 3<&0 ;; esac
     [ "$metadata" = - ] || exec < /dev/null

@@ -1,9 +1,9 @@
 //! What the program says of itself.
 
 const HELP: &str = "\
-Answers questions on the packages of a Cargo workspace, of which it reads what
-`cargo metadata --format-version 1` prints. Where nothing is given on standard
-input, the scripts guppy-cargo and cargo guppy ask cargo.
+Answers questions on the packages of a Cargo workspace. The scripts guppy-cargo
+and cargo guppy ask cargo about it; the program itself reads from standard input
+what `cargo metadata --format-version 1` prints.
 
 Usage: guppy-cargo [OPTION].. COMMAND
 
@@ -26,6 +26,15 @@ Usage: guppy-cargo [OPTION].. COMMAND
 An option may stand before the command or anywhere behind it. A PACKAGE is named
 by its name, by name@version, or by its ID. guppy-cargo help affected says what
 else affected takes.
+
+The scripts also take, before the command or behind it:
+
+  --manifest-path PATH      the Cargo.toml of another workspace
+  --metadata FILE           what cargo metadata printed; - is standard input
+  --features F, -F F, --all-features, --no-default-features,
+  --filter-platform TRIPLE, --locked, --offline, --frozen
+                            passed on to cargo; affected and publish-order ask for
+                            all features unless some are named
 ";
 
 const AFFECTED: &str = "\
@@ -35,11 +44,10 @@ what they depend on first.
 Usage: guppy-cargo affected [--since REVISION] [--ignore FOLDER].. [--paths-from FILE].. PATH..
 
   PATH              relative to the workspace's root; ./--ignore is a path
-  --since REVISION  adds what git says changed since then; it comes first, and the
-                    scripts guppy-cargo and cargo guppy take it
+  --since REVISION  adds what git says changed since then; the scripts take it
   --ignore FOLDER   leaves out what lies in this folder
   --paths-from FILE adds the paths in this file, each ended by a NUL, as git writes
-                    them with -z
+                    them with -z; to the scripts - is standard input
   --kinds, --ids    as for each command, see guppy-cargo help
 ";
 
