@@ -6,3 +6,5 @@ pub mod Packages
 pub mod Paths
 pub mod Requirements
 pub mod Tables
+pub mod Telling
+pub mod Turns

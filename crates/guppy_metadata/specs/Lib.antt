@@ -8,6 +8,8 @@ pub mod Members
 pub mod Package
 pub mod Path
 pub mod PathText
+pub mod Records
 pub mod Table
 pub mod Target
+pub mod Told
 pub mod Workspace

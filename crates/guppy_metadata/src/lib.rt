@@ -12,6 +12,7 @@
 //! - `workspace`: the workspace and its members;
 //! - `package`: packages;
 //! - `link`: links, of what is declared and what is resolved;
+//! - `told`: the packages and the links, read item by item;
 //! - `records`: all records.
 #![tactic(auto)]
 
@@ -25,6 +26,7 @@ mod path;
 mod records;
 mod table;
 mod target;
+mod told;
 mod workspace;
 
 pub use fault::{Kind, MetadataFault, TextFault};

@@ -519,8 +519,8 @@ fn add_links(
     Ok(())
 }
 
-// Adds the links that leave the package of a node.
-fn add_node(
+/// Adds the links that leave the package of a node.
+pub(crate) fn add_node(
     links: &mut Vec<LinkRecord>,
     packages: Packages<'_, '_>,
     node: Object<'_, '_>,

@@ -183,7 +183,8 @@ fn fill(
     Ok(())
 }
 
-fn package_of<'a>(json: Object<'_, 'a>) -> Result<Package<'a>, Misfit>
+/// The package that an object tells.
+pub(crate) fn package_of<'a>(json: Object<'_, 'a>) -> Result<Package<'a>, Misfit>
     ensures { IfOk result (IsTold (data_of json.entry)) }
 {
     let id = json.text("id")?;

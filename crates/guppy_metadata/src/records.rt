@@ -1,17 +1,20 @@
 //! All records.
-ghost use Rattle.std.specs.Prelude.{◌≡◌, Some, IsSome, IsSomeAnd, IfOk, OnOk, IfErr, None, codes};
-ghost use Rattle.json.specs.Json.{document};
+ghost use Rattle.std.specs.Prelude.{◌≡◌, Some, IsSome, IsSomeAnd, IfSome, IfOk, OnOk, IfErr, None, codes};
+ghost use Rattle.json.specs.Json.{Json, document};
 ghost use Rattle.json.specs.Value.{value_view};
 ghost use Rattle.guppy_metadata.specs.Fault.{IsNotJson, IsNotResolved};
 ghost use Rattle.guppy_metadata.specs.Links.{AreLinks, AreLinksOfList, nodes_in};
 ghost use Rattle.guppy_metadata.specs.Members.{data_of, present};
 ghost use Rattle.guppy_metadata.specs.Package.{ArePackages, AreTold};
+ghost use Rattle.guppy_metadata.specs.Records.{AreRecords};
+ghost use Rattle.guppy_metadata.specs.Told.{Tells};
 ghost use Rattle.guppy_metadata.specs.Workspace.{IsWorkspace};
 
 use crate::fault::{MetadataFault, Misfit};
 use crate::link::{Packages, links_of};
 use crate::object::Object;
 use crate::package::{Package, package_records, packages_of, positions_of};
+use crate::told::{Told, told_in};
 use crate::workspace::{check_members, member_ids, set_of, workspace_record};
 use guppy_data::{LinkRecord, Records};
 use json::{Error, MAX_DEPTH, Reader, Scratch, Value};
@@ -74,6 +77,48 @@ fn packages_in<'a>(metadata: Object<'_, 'a>) -> Result<Vec<Package<'a>>, Misfit>
     packages_of(metadata.alloc, metadata.required("packages")?)
 }
 
+// The records that are told, where nothing is missing or wrong.
+fn records_told(alloc: Global, told: Told<'_>) -> Option<Records>
+    ensures { IfSome result (λ r. (d : Json) → Tells d «told».entry → AreRecords d r) }
+{
+    let Told {
+        packages,
+        links,
+        others,
+    } = told;
+    let packages = packages?;
+    let links = links?;
+    let value = Value::Object(others);
+    let metadata = Object {
+        alloc,
+        value: &value,
+    };
+    let workspace = workspace_record(metadata).ok()?;
+    let members = member_ids(metadata).ok()?;
+    let positions = positions_of(alloc, packages.as_slice()).ok()?;
+    check_members(alloc, members.as_slice(), &positions).ok()?;
+    let members = set_of(alloc, members.as_slice()).ok()?;
+    let packages = package_records(alloc, packages, &members, workspace.root.as_path()).ok()?;
+    Some(Records {
+        packages,
+        links,
+        workspace,
+    })
+}
+
+// The records, of packages and nodes that are read item by item. There are none where these stand in another order
+// than Cargo prints them in, or something is missing or wrong.
+fn records_by_item(alloc: Global, json: &str, scratch: &mut Scratch) -> Option<Records>
+    ensures { IfSome result (λ r. IsSomeAnd (document json.now) (λ d. AreRecords d r)) }
+{
+    let mut reader = Reader::new(json, scratch).ok()?;
+    let told = told_in(alloc, &mut reader)?;
+    if reader.next().is_some() {
+        return None;
+    }
+    records_told(alloc, told)
+}
+
 fn records_in(metadata: Object<'_, '_>) -> Result<Records, Misfit>
     ensures packages { IfOk result (λ r. ArePackages (data_of metadata.entry) r.packages.items) }
     ensures links { IfOk result (λ r. AreLinks (data_of metadata.entry) r.links.items) }
@@ -101,8 +146,10 @@ fn records_in(metadata: Object<'_, '_>) -> Result<Records, Misfit>
 /// of another kind or no such text. What the rules of a package graph refuse, as a link's end that is no
 /// package, is left to `IntoGraph::into_graph`.
 ///
-/// Time grows with the text, and of one package with its resolved times its declared dependencies. Takes
-/// memory for what the text says and for the records.
+/// Time grows with the text, and of one package with its resolved times its declared dependencies. Where the
+/// text has `packages` before `resolve`, as Cargo prints it, takes as much memory as the text is long, and
+/// memory for the records and for one package or node at a time. Else, and before a fault is told, the text is
+/// read once more, with memory for all that it says.
 pub fn records_of(alloc: Global, json: &str) -> Result<Records, MetadataFault>
     ensures json { OnOk result (IsSome (document json.now)) }
     ensures packages { IfOk result
@@ -116,6 +163,9 @@ pub fn records_of(alloc: Global, json: &str) -> Result<Records, MetadataFault>
         → IsSomeAnd (document json.now) (λ d. present (codes "resolve") d ≡ None)) }
 {
     let mut scratch = Scratch::new(alloc);
+    if let Some(records) = records_by_item(alloc, json, &mut scratch) {
+        return Ok(records);
+    }
     let value = value_of(alloc, json, &mut scratch)?;
     let metadata = match Object::new(alloc, &value) {
         Ok(metadata) => metadata,

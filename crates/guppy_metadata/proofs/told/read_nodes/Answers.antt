@@ -1,0 +1,53 @@
+use Rattle.std.proofs.Common.{◌≡◌, ◌<◌, ◌∙◌, [], ◌∷◌, ◌++◌, Some, None, length, refl, ap, subst, arith}
+use Rattle.std.proofs.lemmas.List.{flat_map_more}
+use Rattle.indexmap.proofs.SetLemmas.{AllZip-push}
+use Rattle.json.specs.Token.{Token}
+use Rattle.json.specs.Json.{array, after_end_array, value}
+use Rattle.json.specs.Value.{items_of}
+use Rattle.json.specs.Reads.{token_of}
+use Rattle.guppy_metadata.specs.Links.{AreLinksOf}
+use Rattle.guppy_metadata.proofs.Turns.{value_takes, no_item_read, item_read, list_read}
+use Rattle.guppy_metadata.proofs.told.read_nodes.Goals as goal
+
+pub loop-alloc-init : goal.loop-alloc-init
+loop-alloc-init c = (
+  [],
+  no_item_read 125 _,
+  record {
+    rows = [];
+    rows_are = tt;
+    all = c.new-links.ensures.items;
+  },
+)
+
+pub loop-alloc-preserved : goal.loop-alloc-preserved
+loop-alloc-preserved c =
+    let l = c.loop-alloc in
+    let were = l.invariant in
+    let going : (after_end_array l.reader ≡ None) × (c.take_end_array.new.self ≡ l.reader) = c.loop-alloc-test.ensures in
+    let more = c.in_ok-read_node.ensures in
+    let row = more.2 in (
+      were.0 ++ more.0 ∷ [],
+      item_read 125 _ were.0 l.reader _ more.0 were.1 going.0 (subst (λ ts. value 125 ts ≡ Some (more.0, c.read_node.new.reader)) going.1 more.1),
+      record {
+        rows = were.2.rows ++ row ∷ [];
+        rows_are = AllZip-push (AreLinksOf c.args.packages.packages.now) _ _ _ _ were.2.rows_are more.4;
+        all = more.3 ∙ (ap (λ front. front ++ row) were.2.all ∙ flat_map_more (λ row. row) [] were.2.rows row);
+      },
+    )
+
+pub loop-alloc-smaller : goal.loop-alloc-smaller
+loop-alloc-smaller c =
+    let going : (after_end_array c.loop-alloc.reader ≡ None) × (c.take_end_array.new.self ≡ c.loop-alloc.reader) = c.loop-alloc-test.ensures in
+    let more = c.in_ok-read_node.ensures in
+    let less : length c.read_node.new.reader < length c.loop-alloc.reader = subst (λ ts. length c.read_node.new.reader < length ts) going.1 (value_takes 125 _ _ more.0 more.1) in less
+
+pub returns : goal.returns
+returns c =
+    let were = c.loop-alloc.invariant in
+    let first : c.args.reader.now ≡ Token.begin_array ∷ c.next.new.self = c.in-Some-BeginArray.ensures.value ∙ ap (λ token. token_of token ∷ c.next.new.self) c.in-Some-BeginArray.field-0-is in
+    let closed : after_end_array c.loop-alloc.reader ≡ Some c.take_end_array.new.self = c.loop-alloc-test.ensures in (
+      array (items_of were.0),
+      ap (value 126) first ∙ list_read 126 c.next.new.self were.0 c.loop-alloc.reader _ (omega arith) were.1 closed,
+      (were.0, refl, were.2),
+    )
