@@ -58,7 +58,8 @@ class Graph:
         self.names, self.ids = sorted(called.values()), {name: it for it, name in called.items()}
         self.repeated = [text for text, ids in self.meant.items() if len(ids) > 1]
         ends = [(called[node["id"]], called[it["pkg"]], it["dep_kinds"]) for node in nodes for it in node["deps"]]
-        self.links = {(a, b) for a, b, _ in ends}
+        self.sections = {(a, b): {it["kind"] or "normal" for it in kinds} for a, b, kinds in ends}
+        self.links = set(self.sections)
         self.firm = {(a, b) for a, b, kinds in ends if any(it["kind"] != "dev" for it in kinds)}
         self.onward, self.firmly = reach_of(self.names, self.links), reach_of(self.names, self.firm)
         self.back = reach_of(self.names, reverse(self.links))
@@ -253,6 +254,23 @@ def try_names(graph):
             yield f"{key} {name}", "status 1", ending(["order"], text)
 
 
+def try_options(graph):
+    """Links of some kinds alone, members alone, and IDs; an option stands anywhere."""
+    for kinds in ("normal", "build", "dev", "build,normal", "dev,build,normal"):
+        kept = {ends for ends, sections in graph.sections.items() if sections & set(kinds.split(","))}
+        onward, back = reach_of(graph.names, kept), reach_of(graph.names, reverse(kept))
+        for a in graph.starts:
+            yield f"--kinds {kinds} reach forward {a}", sorted(onward[a]), graph.ask("--kinds", kinds, "reach", "forward", a)
+            yield f"reach reverse {a} --kinds {kinds}", sorted(back[a]), graph.ask("reach", "reverse", a, "--kinds", kinds)
+    order = graph.ask("order")
+    members = [it for it in order if it in graph.folders]
+    yield "order --workspace", members, graph.ask("order", "--workspace")
+    yield "order --ids", [graph.ids[it] for it in order], graph.ask("--ids", "order")
+    yield "--ids order --workspace", [graph.ids[it] for it in members], graph.ask("--ids", "order", "--workspace")
+    for words in ("--kinds order", "--kinds other order", "order --kinds", "--kinds dev order --kinds dev", "--id order"):
+        yield words, (2, "", f"error: {BAD_ARGUMENTS}\n"), run(words.split(), graph.text.encode())
+
+
 def named(data, key, old, new):
     """The data with the text under this key, or in the list there, replaced."""
     if isinstance(data, dict):
@@ -317,6 +335,7 @@ PARTS = {
     "affected": try_affected,
     "what is left out": try_left_out,
     "names": try_names,
+    "options": try_options,
     "help": try_help,
     "refusals": try_refused,
 }

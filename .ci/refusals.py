@@ -175,8 +175,11 @@ def full_outcome(name, words, given):
     return full, None if is_right else f"with ample memory status, output and errors are {full}"
 
 
-def try_program(shim, program, name, command, text):
-    """Refuses each request of a run of a program in turn, and returns how many there are, and what is wrong."""
+def try_program(shim, program, name, command, text, rereads=False):
+    """Refuses each request of a run of a program in turn, and returns how many there are, and what is wrong.
+
+    A program that rereads has another way to read its input, and may answer where one request alone is refused.
+    """
     words, given = [program, *command.split()], text.encode()
     full, wrong = full_outcome(name, words, given)
     requests = len(run(shim, words, 0, "main", given)[-1])
@@ -185,7 +188,7 @@ def try_program(shim, program, name, command, text):
         *outcome, told = run(shim, words, number, "main", given)
         was_refused = "r" in told
         if was_refused and outcome == full:
-            return answered(tries, number, len(told) > requests)
+            return (True, None) if rereads and number.isdigit() else answered(tries, number, len(told) > requests)
         is_right = outcome == ([1, "", TOLD] if was_refused else full)
         return was_refused, None if is_right else f"status, output and errors are {outcome}"
 
@@ -263,7 +266,7 @@ def try_build(workers, shim, ending):
     print(f"  {len(cases) - quiet} cases, of which {refused} requests were refused; {quiet} cases that make none")
     lost, refused = outcomes_of(workers, lambda it: try_program(shim, program, it, *RUNS[it]), RUNS)
     print(f"  {len(RUNS)} runs of guppy_run's commands, of which {refused} requests were refused")
-    read, refused = outcomes_of(workers, lambda it: try_program(shim, cargo, it, it, metadata), CARGO_RUNS)
+    read, refused = outcomes_of(workers, lambda it: try_program(shim, cargo, it, it, metadata, rereads=True), CARGO_RUNS)
     print(f"  {len(CARGO_RUNS)} runs of guppy_cargo's commands, of which {refused} requests were refused")
     crashed, refused = outcomes_of(workers, lambda name: try_limits(program, name), RUNS)
     print(f"  {len(RUNS)} runs with less and less room, of which {refused} were refused")
