@@ -7,7 +7,7 @@
 //! - `options`: options wherever they stand among the arguments;
 //! - `command`: what the arguments ask;
 //! - `names`: what packages are called;
-//! - `json`: how the program reads its input;
+//! - `input`: how the program reads its input;
 //! - `paths`: arguments that a file has;
 //! - `help`: what the program says of itself;
 //! - `laws`: what is printed for a package means this package.
@@ -16,7 +16,7 @@
 mod command;
 mod fault;
 mod help;
-mod json;
+mod input;
 pub mod laws;
 mod names;
 mod options;
@@ -25,7 +25,7 @@ mod paths;
 pub use command::asked_of;
 pub use fault::CargoFault;
 pub use help::help_of;
-pub use json::Json;
+pub use input::Json;
 pub use names::Names;
 pub use options::options_first;
 pub use paths::with_paths;

@@ -4,7 +4,7 @@ use Rattle.std.specs.Prelude.{IfOk, codes}
 use Rattle.guppy_program.specs.Format.{alternatives}
 use Rattle.guppy_program.proofs.Ordering.{joined_texts}
 use Rattle.guppy_cargo.specs.Names.{text}
-use Rattle.guppy_cargo.proofs.json.choices_of.Goals as goal
+use Rattle.guppy_cargo.proofs.input.choices_of.Goals as goal
 
 pub returns : goal.returns
 returns c packages are =

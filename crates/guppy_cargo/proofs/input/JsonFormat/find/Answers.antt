@@ -2,7 +2,7 @@ use Rattle.std.proofs.Common.{◌≡◌, ◌∙◌, ◌<◌, length, sym, subst,
 use Rattle.guppy.specs.Ids.{IsKnown}
 use Rattle.guppy_program.proofs.Known.{has_id-known}
 use Rattle.guppy_cargo.proofs.Called.{first_called}
-use Rattle.guppy_cargo.proofs.json.JsonFormat.find.Goals as goal
+use Rattle.guppy_cargo.proofs.input.JsonFormat.find.Goals as goal
 
 pub returns-then-branch-clause-known : goal.returns-then-branch-clause-known
 returns-then-branch-clause-known c = has_id-known c.new-id.result c.args.graph.now.packages (sym c.in_ok-has_package.ensures.exact ∙ c.if-branch.true)
