@@ -67,6 +67,7 @@ pub extern "C" fn guppy_reach(
 ) -> Outcome
     ensures reached { result.status ≡ 0 → IsReached (direction_of forward)
         (flagged links.now flags.now) starts.now marks.new }
+    ensures status { result.status ≤ 6 }
     ensures lengths { (result.status ≡ 1)
         ↔ ((length flags.now ≢ length links.now) ⊎ (length marks.old ≢ length starts.now)) }
     ensures fault { TellsFault (length starts.now) (flagged links.now flags.now) result }
@@ -93,6 +94,7 @@ pub extern "C" fn guppy_order(
 ) -> Outcome
     ensures order { result.status ≡ 0
         → IsOrdered (flagged links.now flags.now) (length list.old) list.new }
+    ensures status { result.status ≤ 6 }
     ensures lengths { (result.status ≡ 1) ↔ (length flags.now ≢ length links.now) }
     ensures fault { TellsFault (length list.old) (flagged links.now flags.now) result }
     ensures unchanged { result.status ≢ 0 → list.new ≡ list.old }
@@ -120,6 +122,7 @@ pub extern "C" fn guppy_components(
         → IsOrdered (flagged links.now flags.now) (length list.old) list.new }
     ensures firsts { result.status ≡ 0
         → MarksFirsts (flagged links.now flags.now) list.new firsts.new }
+    ensures status { result.status ≤ 6 }
     ensures lengths { (result.status ≡ 1)
         ↔ ((length flags.now ≢ length links.now) ⊎ (length firsts.old ≢ length list.old)) }
     ensures fault { TellsFault (length list.old) (flagged links.now flags.now) result }
@@ -148,6 +151,7 @@ pub extern "C" fn guppy_roots(
 ) -> Outcome
     ensures roots { result.status ≡ 0
         → MarksRoots (direction_of forward) (plain links.now) set.now marks.new }
+    ensures status { result.status ≤ 6 }
     ensures lengths { (result.status ≡ 1) ↔ (length marks.old ≢ length set.now) }
     ensures fault { TellsFault (length set.now) (plain links.now) result }
     ensures unchanged { result.status ≢ 0 → marks.new ≡ marks.old }
@@ -186,6 +190,8 @@ pub extern "C" fn guppy_cycle(
     ensures cycle { result.outcome.status ≡ 0 → result.len ≢ 0
         → IsCycle (FlaggedStep Forward (flagged links.now flags.now)) (take result.len list.new) }
     ensures room { result.len ≤ length list.new }
+    ensures status { result.outcome.status ≤ 6 }
+    ensures len { result.outcome.status ≢ 0 → result.len ≡ 0 }
     ensures lengths { (result.outcome.status ≡ 1) ↔ (length flags.now ≢ length links.now) }
     ensures fault { TellsFault (length list.old) (flagged links.now flags.now) result.outcome }
 {
@@ -212,7 +218,8 @@ fn put(found: &[usize], numbers: &mut [usize]) -> Listed
     ensures written { result.outcome.status ≡ 0
         → (result.len ≡ length found.now) × (take result.len numbers.new ≡ found.now) }
     ensures status { (result.outcome.status ≡ 0) ⊎ (result.outcome.status ≡ 7) }
-    ensures room { result.outcome.status ≡ 7 → length numbers.old < result.len }
+    ensures room { result.outcome.status ≡ 7
+        → (length numbers.old < result.len) × (result.len ≡ length found.now) }
     ensures unchanged { result.outcome.status ≢ 0 → numbers.new ≡ numbers.old }
 {
     let len = found.len();
@@ -242,7 +249,11 @@ pub extern "C" fn guppy_links(
 ) -> Listed
     ensures links { result.outcome.status ≡ 0 → AreSetLinks (direction_of forward)
         (plain links.now) set.now (take result.len numbers.new) }
-    ensures room { result.outcome.status ≡ 7 → length numbers.old < result.len }
+    ensures room { result.outcome.status ≡ 7 → (length numbers.old < result.len)
+        × (list : List ℕ) × (result.len ≡ length list)
+        × AreSetLinks (direction_of forward) (plain links.now) set.now list }
+    ensures status { result.outcome.status ≤ 7 }
+    ensures lengths { result.outcome.status ≢ 1 }
     ensures fault { TellsFault (length set.now) (plain links.now) result.outcome }
     ensures unchanged { result.outcome.status ≢ 0 → numbers.new ≡ numbers.old }
 {
