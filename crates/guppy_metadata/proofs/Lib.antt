@@ -1,7 +1,11 @@
+pub mod Alike
 pub mod Among
 pub mod Dependencies
 pub mod Features
 pub mod Fitting
+pub mod Matching
+pub mod Nodes
+pub mod Objects
 pub mod Packages
 pub mod Paths
 pub mod Requirements

@@ -11,7 +11,7 @@ use Rattle.guppy_data.specs.declared.records.PackageRecord.{PackageRecord}
 use Rattle.guppy_metadata.specs.declared.package.Package.{Package}
 use Rattle.guppy_metadata.specs.Dependency.{NamesOptional}
 use Rattle.guppy_metadata.specs.Members.{is_among, list_of}
-use Rattle.guppy_metadata.specs.Package.{IsFrom, IsTold, AreTold, IsRecordOf, IsPackage, ArePackages, with_id}
+use Rattle.guppy_metadata.specs.Package.{IsFrom, IsTold, AreTold, AreTargets, IsRecordOf, IsPackage, ArePackages, with_id}
 use Rattle.guppy_metadata.proofs.Fitting.{picked_more, passed_over}
 
 module _ {A : Type 0} {P Q : A → Type 0} where
@@ -33,6 +33,7 @@ module _ (root : List ℕ) (known told : List ℕ → Bool) (same : (id : List �
         named = named;
         described = is.described d tells.described;
         filled = is.filled d tells.filled;
+        targets = subst (λ targets. AreTargets d targets.items) (sym is.targets) tells.targets;
         optional = some_and (get (codes "dependencies") d) (λ list are. (p.declared.items, are, subst (NamesOptional p.declared.items) (sym is.optional) tells.optional)) tells.declared;
         source = option_copied p.source;
         source_is = tells.source;

@@ -35,7 +35,7 @@ module _ (d e : Json) where
   built_alike target None same is = subst (λ told. (option_and_then unless_null told ≡ None) ⊎ (option_and_then unless_null told ≡ Some (string target))) same is
   built_alike target (Some path) same is = subst (λ told. (option_and_then unless_null told ≡ Some (string path)) × (path ≢ target)) same is
 
-  texts_alike : (name : List ℕ) (texts : List (List ℕ)) → get name d ≡ get name e → AreTexts name d texts → AreTexts name e texts
+  pub texts_alike : (name : List ℕ) (texts : List (List ℕ)) → get name d ≡ get name e → AreTexts name d texts → AreTexts name e texts
   texts_alike name texts same are =
       subst (λ told. (option_and_then unless_null told ≡ Some (array (items_of (map string texts)))) ⊎ ((option_and_then unless_null told ≡ None) × (map string texts ≡ []))) same are
 

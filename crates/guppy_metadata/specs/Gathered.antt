@@ -1,5 +1,5 @@
 -- What a link is gathered from: declared dependencies, in their order.
-use Rattle.std.specs.Prelude.{◌≡◌, ℕ, Bool, true, false, not, List, [], ◌∷◌, Option, Some, None, String, filter, map, option_map, unwrap_or, string_bytes}
+use Rattle.std.specs.Prelude.{◌≡◌, ℕ, Bool, true, false, not, List, ◌∷◌, Option, Some, None, String, filter, map, option_map, unwrap_or, string_bytes}
 use Rattle.std.specs.declared.alloc.Global.{Global}
 use Rattle.std.specs.BTreeMap.{BTreeMap, get_by_text}
 use Rattle.std.specs.List.{fold, flat_map}
@@ -86,8 +86,3 @@ pub record IsMadeOf (xs : List Declared) (r : LinkRecord) : Type 0 where
   pub parts : xs ≡ first ∷ others
   pub named : IsNamedAs first r
   pub gathered : IsGathered xs r
-
--- the link of these dependencies, and none where there are none
-abbrev pub MakeLink : List Declared → Option LinkRecord → Type 0
-MakeLink xs None = xs ≡ []
-MakeLink xs (Some r) = IsMadeOf xs r

@@ -5,7 +5,9 @@ pub mod Fits
 pub mod Gathered
 pub mod Links
 pub mod Members
+pub mod Node
 pub mod Package
+pub mod Parts
 pub mod Path
 pub mod PathText
 pub mod Records

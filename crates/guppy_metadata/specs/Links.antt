@@ -6,6 +6,7 @@ use Rattle.json.specs.Json.{Json, string, array}
 use Rattle.json.specs.Find.{get}
 use Rattle.json.specs.Value.{items_of}
 use Rattle.guppy_data.specs.declared.records.LinkRecord.{LinkRecord}
+use Rattle.guppy_metadata.specs.declared.link.LinkTexts.{LinkTexts}
 use Rattle.guppy_metadata.specs.declared.link.Resolved.{Resolved}
 use Rattle.guppy_metadata.specs.declared.link.Usage.{Usage}
 use Rattle.guppy_metadata.specs.declared.package.Package.{Package}
@@ -20,6 +21,13 @@ pub record Joins (from to name : List ℕ) (r : LinkRecord) : Type 0 where
   pub from_is : r.from ≡ from
   pub to_is : r.to ≡ to
   pub name_is : string_bytes r.resolved_name ≡ name
+
+-- these are the texts of a link from this ID that was resolved so, with this name in the manifest
+pub record HasTexts (from : List ℕ) (resolved : Resolved) (dep_name : List ℕ) (texts : LinkTexts) : Type 0 where
+  pub from_is : texts.from ≡ from
+  pub to_is : texts.to ≡ resolved.id.now
+  pub dep_name_is : string_bytes texts.dep_name ≡ dep_name
+  pub name_is : string_bytes texts.resolved_name ≡ resolved.name.now
 
 -- a section and the platforms that a dependency is used for
 pub record IsUsage (d : Json) (x : Usage) : Type 0 where

@@ -11,11 +11,13 @@ use Rattle.semver.specs.declared.Version.{Version}
 use Rattle.json.specs.Json.{Json, null, string}
 use Rattle.json.specs.Find.{get}
 use Rattle.serde_json.specs.View.{view}
+use Rattle.guppy_data.specs.declared.records.BuildTargetRecord.{BuildTargetRecord}
 use Rattle.guppy_data.specs.declared.records.PackageRecord.{PackageRecord}
 use Rattle.guppy_data.specs.declared.records.PackagePublishRecord.{PackagePublishRecord}
 use Rattle.guppy_data.specs.declared.records.PackagePublishRecord.TheVariants.{Unrestricted, Registries}
 use Rattle.guppy_data.specs.declared.records.PackageSourceRecord.{PackageSourceRecord}
 use Rattle.guppy_data.specs.declared.records.PackageSourceRecord.TheVariants.{Workspace, Path, External}
+use Rattle.guppy_metadata.specs.declared.declared.Declared.{Declared}
 use Rattle.guppy_metadata.specs.declared.package.Package.{Package}
 use Rattle.guppy_metadata.specs.Dependency.{IsDeclared, NamesOptional, AreOptional}
 use Rattle.guppy_metadata.specs.Feature.{AreFeatures}
@@ -90,7 +92,14 @@ pub record IsFilled (d : Json) (r : PackageRecord) : Type 0 where
   pub default_run : IsText (codes "default_run") d (option_map string_bytes r.default_run)
   pub rust_version : IsRustVersion d r.rust_version
   pub features : IsSomeAnd (get (codes "features") d) (λ told. AreFeatures told r.named_features.entries)
-  pub targets : IsSomeAnd (get (codes "targets") d) (λ told. IsListOf IsTarget told r.build_targets.items)
+
+-- these are the build targets that are told of a package
+abbrev pub AreTargets : Json → List BuildTargetRecord → Type 0
+AreTargets d targets = IsSomeAnd (get (codes "targets") d) (λ told. IsListOf IsTarget told targets)
+
+-- these are the dependencies that a package declares
+abbrev pub AreDeclared : Json → List Declared → Type 0
+AreDeclared d declared = IsSomeAnd (get (codes "dependencies") d) (λ told. IsListOf IsDeclared told declared)
 
 -- a package as the JSON tells it, but for where it comes from
 pub record IsTold (d : Json) (p : Package) : Type 0 where
@@ -99,8 +108,17 @@ pub record IsTold (d : Json) (p : Package) : Type 0 where
   pub named : IsNamed d p.record
   pub described : IsDescribed d p.record
   pub filled : IsFilled d p.record
-  pub declared : IsSomeAnd (get (codes "dependencies") d) (λ told. IsListOf IsDeclared told p.declared.items)
+  pub targets : AreTargets d p.record.build_targets.items
+  pub declared : AreDeclared d p.declared.items
   pub optional : NamesOptional p.declared.items p.record.optional_deps
+
+-- it is neither the name of the dependencies nor that of the build targets
+abbrev pub IsOwn : List ℕ → Type 0
+IsOwn name = (bytes_eq (codes "dependencies") name ≡ false) × (bytes_eq (codes "targets") name ≡ false)
+
+-- the members of the two objects are the same, but for the dependencies and build targets
+abbrev pub AreAlike : Json → Json → Type 0
+AreAlike d e = (name : List ℕ) → IsOwn name → get name d ≡ get name e
 
 -- the packages that the JSON tells
 abbrev pub AreTold : Json → List Package → Type 0
@@ -112,6 +130,7 @@ pub record IsRecordOf (root : List ℕ) (is_member : List ℕ → Bool) (p : Pac
   pub named : (d : Json) → IsNamed d p.record → IsNamed d r
   pub described : (d : Json) → IsDescribed d p.record → IsDescribed d r
   pub filled : (d : Json) → IsFilled d p.record → IsFilled d r
+  pub targets : r.build_targets ≡ p.record.build_targets
   pub optional : r.optional_deps ≡ p.record.optional_deps
 
 -- a package's record, in a workspace at the root of which these IDs are the members
@@ -119,6 +138,7 @@ pub record IsPackage (root : List ℕ) (is_member : List ℕ → Bool) (d : Json
   pub named : IsNamed d r
   pub described : IsDescribed d r
   pub filled : IsFilled d r
+  pub targets : AreTargets d r.build_targets.items
   pub optional : IsSomeAnd (get (codes "dependencies") d) (λ told. AreOptional told r.optional_deps)
   pub source : Option (List ℕ)
   pub source_is : IsText (codes "source") d source

@@ -1,15 +1,17 @@
 //! A dependency as a package declares it.
-ghost use Rattle.std.specs.Prelude.{◌≡◌, unwrap_or, IfOk};
+ghost use Rattle.std.specs.Prelude.{◌≡◌, Some, unwrap_or, IfOk, IfSome};
 ghost use Rattle.std.specs.Option.{option_copied};
+ghost use Rattle.json.specs.Json.{Json, value};
 ghost use Rattle.json.specs.Value.{value_view};
 ghost use Rattle.guppy_metadata.specs.Dependency.{IsDeclared, NamesSection, NamesOptional};
 ghost use Rattle.guppy_metadata.specs.Members.{data_of, IsListOf};
 
 use crate::fault::{Kind, Misfit, TextFault};
 use crate::object::{Object, requirement_of};
+use crate::read::read_object;
 use guppy_data::DependencyKind;
 use indexmap::IndexSet;
-use json::Value;
+use json::{MAX_DEPTH, Reader, Token, Value};
 use semver::{Version, VersionReq};
 use std::alloc::{AllocError, Global};
 
@@ -113,6 +115,40 @@ pub(crate) fn declared_dependencies<'a>(
         }
     }
     Ok(declared)
+}
+
+// The dependency that the object that comes next tells.
+fn read_dependency<'a>(
+    item: &mut Value<'a>,
+    alloc: Global,
+    reader: &mut Reader<'a>,
+) -> Option<Declared<'a>>
+    ensures { IfSome result (λ made. (told : Json)
+        × (value 124 reader.old ≡ Some (told, reader.new)) × IsDeclared told made) }
+{
+    read_object(item, alloc, reader, MAX_DEPTH - 4)?;
+    declared_of(Object { alloc, value: item }).ok()
+}
+
+/// The dependencies that the list that comes next tells.
+pub(crate) fn read_dependencies<'a>(
+    alloc: Global,
+    reader: &mut Reader<'a>,
+) -> Option<Vec<Declared<'a>>>
+    ensures { IfSome result (λ declared. (told : Json)
+        × (value 125 reader.old ≡ Some (told, reader.new)) × IsListOf IsDeclared told declared.items) }
+{
+    let Some(Token::BeginArray) = reader.next() else {
+        return None;
+    };
+    let mut declared = Vec::new(alloc);
+    let mut item = Value::Null;
+    while !reader.take_end_array() {
+        let dependency = read_dependency(&mut item, alloc, reader)?;
+        declared.push(dependency).ok()?;
+    }
+    declared.shrink_to_fit();
+    Some(declared)
 }
 
 /// The names of the optional dependencies in the manifest, in their order, each once.

@@ -79,7 +79,7 @@ pub(crate) fn named_features(
     let Value::Object(members) = value else {
         return Err(Misfit::wrong_kind(alloc, "", Kind::Object));
     };
-    let mut named = IndexMap::new(alloc);
+    let mut named = IndexMap::with_capacity(alloc, members.len())?;
     for member in members {
         let (name, value) = member;
         let features = switched_on(alloc, name, value)?;

@@ -5,13 +5,16 @@
 //!
 //! - `fault`: why there are no records, and where in the JSON;
 //! - `object`: the members of a JSON object;
+//! - `read`: objects that are read into memory that is used again;
 //! - `path`: the folder of a package, from the workspace's root;
 //! - `feature`: named features;
 //! - `target`: build targets;
 //! - `declared`: a dependency as a package declares it;
 //! - `workspace`: the workspace and its members;
 //! - `package`: packages;
+//! - `parts`: a package, read member by member;
 //! - `link`: links, of what is declared and what is resolved;
+//! - `node`: the links of a node, read member by member;
 //! - `told`: the packages and the links, read item by item;
 //! - `records`: all records.
 #![tactic(auto)]
@@ -20,9 +23,12 @@ mod declared;
 mod fault;
 mod feature;
 mod link;
+mod node;
 mod object;
 mod package;
+mod parts;
 mod path;
+mod read;
 mod records;
 mod table;
 mod target;

@@ -1,29 +1,31 @@
 //! Links, of what packages declare and what is resolved.
-ghost use Rattle.std.specs.Prelude.{◌≡◌, ◌++◌, ◌∷◌, [], ℕ, List, if◌then◌else◌, true, false, filter, map, string_bytes, option_map, IfOk, OnOk, IfSome};
+ghost use Rattle.std.specs.Prelude.{◌≡◌, ◌++◌, ◌∷◌, [], ℕ, List, if◌then◌else◌, true, false, filter, map, string_bytes, option_map, slice_get, Some, IfOk, OnOk, IfSome, OnSome};
 ghost use Rattle.std.specs.List.{fold};
 ghost use Rattle.std.specs.Str.{bytes_eq};
 ghost use Rattle.std.specs.Option.{option_copied, option_or};
 ghost use Rattle.guppy_data.specs.declared.records.LinkRecord.{LinkRecord};
 ghost use Rattle.guppy_data.specs.Platform.{recorded_status, with_spec};
 ghost use Rattle.semver.specs.Identifiers.{comparator_view};
+ghost use Rattle.json.specs.Json.{Json, value};
 ghost use Rattle.json.specs.Value.{value_view};
 ghost use Rattle.guppy_metadata.specs.declared.declared.Declared.{Declared};
 ghost use Rattle.guppy_metadata.specs.Fits.{stands_for, is_named, has_name, same_usage, is_used, fits, is_matched, are_matched};
-ghost use Rattle.guppy_metadata.specs.Gathered.{status_at, asked_too, asks_for, IsSection, IsGathered, IsNamedAs, IsMadeOf, MakeLink};
-ghost use Rattle.guppy_metadata.specs.Links.{Joins, IsUsage, IsResolved, IsUnasked, IsLink, AreLinksOf, AreLinksOfList};
+ghost use Rattle.guppy_metadata.specs.Gathered.{status_at, asked_too, asks_for, IsSection, IsGathered, IsNamedAs, IsMadeOf};
+ghost use Rattle.guppy_metadata.specs.Links.{HasTexts, Joins, IsUsage, IsResolved, IsUnasked, IsLink, AreLinksOf, AreLinksOfList};
 ghost use Rattle.guppy_metadata.specs.Members.{data_of, IsListOf};
-ghost use Rattle.guppy_metadata.specs.Package.{ArePositions};
+ghost use Rattle.guppy_metadata.specs.Package.{with_id, ArePositions};
 
 use crate::declared::{Declared, section_of};
 use crate::fault::{Kind, Misfit, TextFault};
 use crate::object::{Object, optional_copy};
 use crate::package::Package;
+use crate::read::read_object;
 use guppy_data::{
     DepRequiredOrOptional, DependencyKind, DependencyReqImpl, LinkRecord, PackageId,
     PlatformStatusImpl, TargetSpec, Utf8PathBuf,
 };
 use indexmap::IndexMap;
-use json::Value;
+use json::{MAX_DEPTH, Reader, Token, Value};
 use semver::VersionReq;
 use std::alloc::{AllocError, Global};
 use std::collections::BTreeMap;
@@ -40,7 +42,8 @@ impl<'p, 'a> Packages<'p, 'a> {
     ghost use Rattle.std.specs.Option.{option_copied};
     ghost use Rattle.guppy_metadata.specs.Package.{with_id, ArePositions};
 
-    fn with_id(self, id: &str) -> Option<&'p Package<'a>>
+    /// The package with this ID.
+    pub(crate) fn with_id(self, id: &str) -> Option<&'p Package<'a>>
         requires { ArePositions self.packages.now self.positions.now }
         ensures { option_copied result ≡ with_id id.now self.entry.packages.now }
     {
@@ -354,27 +357,47 @@ fn add_declared(
     Ok(())
 }
 
-// The link of this name and requirement that is asked for in no section.
-fn bare_link(
+// The texts of a link.
+#[derive(Drop)]
+struct LinkTexts {
+    from: PackageId,
+    to: PackageId,
+    dep_name: String,
+    resolved_name: String,
+}
+
+// Copies of the texts of a link of this name.
+fn link_texts(
     alloc: Global,
     from: &str,
     resolved: &Resolved<'_>,
     dep_name: &str,
-    requirement: VersionReq,
-) -> Result<LinkRecord, AllocError>
-    ensures joins { IfOk result (Joins from.now resolved.now.id.now resolved.now.name.now) }
-    ensures dep_name { IfOk result (λ link. string_bytes link.dep_name ≡ dep_name.now) }
-    ensures requirement { IfOk result (λ link. link.version_req ≡ requirement) }
-    ensures gathered { IfOk result (IsGathered []) }
+) -> Result<LinkTexts, AllocError>
+    ensures { IfOk result (HasTexts from.now resolved.now dep_name.now) }
 {
-    Ok(LinkRecord::new(
-        alloc,
-        PackageId::new(String::from_str(alloc, from)?),
-        PackageId::new(String::from_str(alloc, resolved.id)?),
-        String::from_str(alloc, dep_name)?,
-        String::from_str(alloc, resolved.name)?,
-        requirement,
-    ))
+    Ok(LinkTexts {
+        from: PackageId::new(String::from_str(alloc, from)?),
+        to: PackageId::new(String::from_str(alloc, resolved.id)?),
+        dep_name: String::from_str(alloc, dep_name)?,
+        resolved_name: String::from_str(alloc, resolved.name)?,
+    })
+}
+
+// The link of these texts and requirement that is asked for in no section. It can't fail, so that it is made in
+// its place.
+fn bare_link(alloc: Global, texts: LinkTexts, requirement: VersionReq) -> LinkRecord
+    ensures joins { Joins texts.from texts.to (string_bytes texts.resolved_name) result }
+    ensures dep_name { string_bytes result.dep_name ≡ string_bytes texts.dep_name }
+    ensures requirement { result.version_req ≡ requirement }
+    ensures gathered { IsGathered [] result }
+{
+    let LinkTexts {
+        from,
+        to,
+        dep_name,
+        resolved_name,
+    } = texts;
+    LinkRecord::new(alloc, from, to, dep_name, resolved_name, requirement)
 }
 
 fn copied_requirement(requirement: &VersionReq) -> Result<VersionReq, AllocError>
@@ -384,79 +407,76 @@ fn copied_requirement(requirement: &VersionReq) -> Result<VersionReq, AllocError
     Ok(requirement.clone()?)
 }
 
-// The link with a declared dependency added, or the link of this one alone.
-fn link_with(
-    alloc: Global,
-    link: Option<LinkRecord>,
+// The declared dependencies from the first one on that was resolved to the package.
+fn from_first_fitting<'d, 'a>(
+    declared: &'d [Declared<'a>],
     from: &str,
-    resolved: &Resolved<'_>,
-    declared: &Declared<'_>,
-) -> Result<LinkRecord, AllocError>
-    requires { IfSome link (Joins from.now resolved.now.id.now resolved.now.name.now) }
-    ensures joins { IfOk result (Joins from.now resolved.now.id.now resolved.now.name.now) }
-    ensures made { IfOk result (λ made. (before : List Declared)
-        → MakeLink before link → IsMadeOf (before ++ declared.now ∷ []) made) }
-{
-    match link {
-        Some(mut link) => {
-            add_declared(alloc, &mut link, declared)?;
-            Ok(link)
-        }
-        None => {
-            let requirement = copied_requirement(&declared.requirement)?;
-            let mut link = bare_link(alloc, from, resolved, declared.dep_name(), requirement)?;
-            add_declared(alloc, &mut link, declared)?;
-            Ok(link)
-        }
-    }
-}
-
-// The link of those declared dependencies that were resolved to the package, where there is one.
-fn link_of_fitting(
-    alloc: Global,
-    from: &str,
-    declared: &[Declared<'_>],
     resolved: &Resolved<'_>,
     needed: &Package<'_>,
-) -> Result<Option<LinkRecord>, AllocError>
-    ensures joins { IfOk result (λ link. IfSome link
-        (Joins from.now resolved.now.id.now resolved.now.name.now)) }
-    ensures made { IfOk result
-        (MakeLink (filter (fits from.now resolved.now needed.now.record) declared.now)) }
+) -> &'d [Declared<'a>]
+    ensures all { filter (fits from.now resolved.now needed.now.record) result.now
+        ≡ filter (fits from.now resolved.now needed.now.record) declared.now }
+    ensures first { IfSome (slice_get result.now 0)
+        (λ first. fits from.now resolved.now needed.now.record first ≡ true) }
 {
-    let mut link = None;
-    for dependency in declared {
+    for (index, dependency) in declared.iter().enumerate() {
         if fits(dependency, from, resolved, needed) {
-            link = Some(link_with(alloc, link, from, resolved, dependency)?);
+            return &declared[index..];
         }
     }
-    Ok(link)
+    &[]
 }
 
-// The link between two packages.
-fn link_between(
+// Adds those declared dependencies to the link that were resolved to the package.
+fn add_fitting(
+    alloc: Global,
+    link: &mut LinkRecord,
+    declared: &[Declared<'_>],
+    from: &str,
+    resolved: &Resolved<'_>,
+    needed: &Package<'_>,
+) -> Result<(), AllocError>
+    ensures joins { (one other name : List ℕ)
+        → Joins one other name link.old → Joins one other name link.new }
+    ensures named { (first : Declared) → IsNamedAs first link.old → IsNamedAs first link.new }
+    ensures gathered { OnOk result (IsGathered [] link.old
+        → IsGathered (filter (fits from.now resolved.now needed.now.record) declared.now) link.new) }
+{
+    for dependency in declared {
+        if fits(dependency, from, resolved, needed) {
+            add_declared(alloc, link, dependency)?;
+        }
+    }
+    Ok(())
+}
+
+// Adds the link between two packages.
+fn add_link_between(
+    links: &mut Vec<LinkRecord>,
     alloc: Global,
     from: &str,
     resolved: &Resolved<'_>,
     asking: &Package<'_>,
     needed: &Package<'_>,
-) -> Result<LinkRecord, Misfit>
-    ensures joins { IfOk result (Joins from.now resolved.now.id.now resolved.now.name.now) }
-    ensures made { IfOk result
-        (IsMadeOf (filter (fits from.now resolved.now needed.now.record)
-        asking.now.declared.items)) }
+) -> Result<(), Misfit>
+    ensures added { OnOk result ((link : LinkRecord) × (links.new.items ≡ links.old.items ++ link ∷ [])
+        × Joins from.now resolved.now.id.now resolved.now.name.now link
+        × IsMadeOf (filter (fits from.now resolved.now needed.now.record) asking.now.declared.items) link) }
     ensures matched { OnOk result (are_matched from.now resolved.now needed.now.record
         asking.now.declared.items resolved.now.usages.items ≡ true) }
 {
-    let declared = asking.declared.as_slice();
+    let declared = from_first_fitting(asking.declared.as_slice(), from, resolved, needed);
     let usages = resolved.usages.as_slice();
-    match link_of_fitting(alloc, from, declared, resolved, needed)? {
-        Some(link) if are_matched(usages, declared, from, resolved, needed) => Ok(link),
-        _ => {
-            let why = TextFault::NoDependency;
-            Err(Misfit::bad_text(alloc, "pkg", why))
-        }
+    let Some(first) = declared.first() else {
+        return Err(Misfit::bad_text(alloc, "pkg", TextFault::NoDependency));
+    };
+    if !are_matched(usages, declared, from, resolved, needed) {
+        return Err(Misfit::bad_text(alloc, "pkg", TextFault::NoDependency));
     }
+    let requirement = copied_requirement(&first.requirement)?;
+    let texts = link_texts(alloc, from, resolved, first.dep_name())?;
+    let link = links.push_mut(bare_link(alloc, texts, requirement))?;
+    Ok(add_fitting(alloc, link, declared, from, resolved, needed)?)
 }
 
 // The link that is asked for in no section.
@@ -469,29 +489,33 @@ fn unasked_link(
     ensures unasked { IfOk result (IsUnasked resolved.now.name.now) }
 {
     let any = VersionReq::star(alloc);
-    bare_link(alloc, from, resolved, resolved.name, any)
+    let texts = link_texts(alloc, from, resolved, resolved.name)?;
+    Ok(bare_link(alloc, texts, any))
 }
 
-// The link from the package with this ID. Where one of its ends is no package, which the package graph
-// refuses, it is asked for in no section.
-fn link_of(
+// Adds the link from the package with this ID, which is the one that asks. Where one of its ends is no package,
+// which the package graph refuses, it is asked for in no section.
+fn add_link(
+    links: &mut Vec<LinkRecord>,
     packages: Packages<'_, '_>,
     from: &str,
+    asking: Option<&Package<'_>>,
     dependency: Object<'_, '_>,
-) -> Result<LinkRecord, Misfit>
-    requires { ArePositions packages.packages.now packages.positions.now }
-    ensures { IfOk result
-        (IsLink packages.entry.packages.now from.now (data_of dependency.entry)) }
+) -> Result<(), Misfit>
+    requires positions { ArePositions packages.packages.now packages.positions.now }
+    requires asking { option_copied asking ≡ with_id from.now packages.packages.now }
+    ensures { OnOk result ((link : LinkRecord) × (links.new.items ≡ links.old.items ++ link ∷ [])
+        × IsLink packages.entry.packages.now from.now (data_of dependency.entry) link) }
 {
     let alloc = dependency.alloc;
     let resolved = resolved_of(dependency)?;
-    let Some(asking) = packages.with_id(from) else {
-        return Ok(unasked_link(alloc, from, &resolved)?);
+    let Some(asking) = asking else {
+        return Ok(links.push(unasked_link(alloc, from, &resolved)?)?);
     };
     let Some(needed) = packages.with_id(resolved.id) else {
-        return Ok(unasked_link(alloc, from, &resolved)?);
+        return Ok(links.push(unasked_link(alloc, from, &resolved)?)?);
     };
-    Ok(link_between(alloc, from, &resolved, asking, needed)?)
+    Ok(add_link_between(links, alloc, from, &resolved, asking, needed)?)
 }
 
 // Adds the links from the package with this ID that the items of the list `deps` are.
@@ -509,14 +533,59 @@ fn add_links(
     let Value::Array(items) = value else {
         return Err(Misfit::wrong_kind(alloc, "deps", Kind::List));
     };
+    let asking = packages.with_id(from);
     for (index, item) in items.iter().enumerate() {
         let dependency = Object::of_item(alloc, "deps", index, item)?;
-        match link_of(packages, from, dependency) {
-            Ok(link) => links.push(link)?,
+        match add_link(links, packages, from, asking, dependency) {
+            Ok(()) => {}
             Err(fault) => return Err(fault.within_item(alloc, "deps", index)),
         }
     }
     Ok(())
+}
+
+// Adds the link from the package with this ID, which is the one that asks, that the object that comes next tells.
+fn read_link<'a>(
+    item: &mut Value<'a>,
+    links: &mut Vec<LinkRecord>,
+    reader: &mut Reader<'a>,
+    packages: Packages<'_, '_>,
+    from: &str,
+    asking: Option<&Package<'_>>,
+) -> Option<()>
+    requires positions { ArePositions packages.packages.now packages.positions.now }
+    requires asking { option_copied asking ≡ with_id from.now packages.packages.now }
+    ensures { OnSome result ((told : Json) × (value 123 reader.old ≡ Some (told, reader.new))
+        × (link : LinkRecord) × (links.new.items ≡ links.old.items ++ link ∷ [])
+        × IsLink packages.entry.packages.now from.now told link) }
+{
+    let alloc = *links.allocator();
+    read_object(item, alloc, reader, MAX_DEPTH - 5)?;
+    let dependency = Object { alloc, value: item };
+    add_link(links, packages, from, asking, dependency).ok()
+}
+
+/// Adds the links from the package with this ID that the list that comes next tells.
+pub(crate) fn read_links(
+    links: &mut Vec<LinkRecord>,
+    reader: &mut Reader<'_>,
+    packages: Packages<'_, '_>,
+    from: &str,
+) -> Option<()>
+    requires { ArePositions packages.packages.now packages.positions.now }
+    ensures { OnSome result ((told : Json) × (value 124 reader.old ≡ Some (told, reader.new))
+        × (row : List LinkRecord) × (links.new.items ≡ links.old.items ++ row)
+        × IsListOf (IsLink packages.entry.packages.now from.now) told row) }
+{
+    let Some(Token::BeginArray) = reader.next() else {
+        return None;
+    };
+    let asking = packages.with_id(from);
+    let mut item = Value::Null;
+    while !reader.take_end_array() {
+        read_link(&mut item, links, reader, packages, from, asking)?;
+    }
+    Some(())
 }
 
 /// Adds the links that leave the package of a node.

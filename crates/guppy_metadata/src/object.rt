@@ -116,7 +116,10 @@ pub(crate) fn requirement_of(alloc: Global, name: &str, text: &str) -> Result<Ve
     ensures { IfOk result (λ req. req_of text.now ≡ Ok (map comparator_view req.comparators.items)) }
 {
     match VersionReq::parse(alloc, text) {
-        Ok(requirement) => Ok(requirement),
+        Ok(mut requirement) => {
+            requirement.comparators.shrink_to_fit();
+            Ok(requirement)
+        }
         Err(error) => {
             let why = TextFault::NoRequirement(reason_of(alloc, error)?);
             Err(Misfit::bad_text(alloc, name, why))

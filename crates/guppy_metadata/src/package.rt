@@ -1,13 +1,14 @@
 //! Packages.
-ghost use Rattle.std.specs.Prelude.{◌≡◌, List, Option, IfOk, OnOk, map, string_bytes};
+ghost use Rattle.std.specs.Prelude.{◌≡◌, List, Option, Some, IfOk, OnOk, map, string_bytes, codes};
 ghost use Rattle.std.specs.List.{AllZip};
 ghost use Rattle.std.specs.Option.{option_copied};
-ghost use Rattle.json.specs.Json.{Json};
+ghost use Rattle.json.specs.Json.{Json, string};
+ghost use Rattle.json.specs.Find.{get};
 ghost use Rattle.json.specs.Value.{value_view};
 ghost use Rattle.guppy_data.specs.Utf8Path.{path_text};
 ghost use Rattle.guppy_metadata.specs.Dependency.{NamesOptional};
 ghost use Rattle.guppy_metadata.specs.Members.{data_of, is_in, IsListOf, IsText};
-ghost use Rattle.guppy_metadata.specs.Package.{IsFrom, IsNamed, IsDescribed, IsFilled, IsTold, IsRecordOf, IsPublishable, IsRustVersion, ArePositions, dots_in, zeros_behind, whole_version};
+ghost use Rattle.guppy_metadata.specs.Package.{IsFrom, IsNamed, IsDescribed, IsFilled, IsTold, IsRecordOf, IsPublishable, IsRustVersion, AreTargets, AreDeclared, AreAlike, ArePositions, dots_in, zeros_behind, whole_version};
 
 use crate::declared::{Declared, declared_dependencies, optional_names};
 use crate::fault::{Kind, Misfit};
@@ -16,8 +17,8 @@ use crate::object::{Object, version_of};
 use crate::path::folder_from;
 use crate::target::build_targets;
 use guppy_data::{
-    OwnedBuildTargetId, PackageId, PackagePublishRecord, PackageRecord, PackageSourceRecord,
-    Utf8Path, Utf8PathBuf,
+    BuildTargetRecord, OwnedBuildTargetId, PackageId, PackagePublishRecord, PackageRecord,
+    PackageSourceRecord, Utf8Path, Utf8PathBuf,
 };
 use indexmap::{IndexMap, IndexSet};
 use json::Value;
@@ -162,8 +163,10 @@ fn fill(
     made: &mut PackageRecord,
     json: Object<'_, '_>,
     declared: &[Declared<'_>],
+    targets: Vec<BuildTargetRecord>,
 ) -> Result<(), Misfit>
     ensures filled { OnOk result (IsFilled (data_of json.entry) made.new) }
+    ensures targets { OnOk result (made.new.build_targets ≡ targets) }
     ensures optional { OnOk result (NamesOptional declared.now made.new.optional_deps) }
     ensures named { (d : Json) → IsNamed d made.old → IsNamed d made.new }
     ensures described { (d : Json) → IsDescribed d made.old → IsDescribed d made.new }
@@ -174,7 +177,7 @@ fn fill(
     made.publish = publish_of(json)?;
     made.default_run = json.optional_copied_text("default_run")?;
     made.rust_version = rust_version(json)?;
-    made.build_targets = build_targets(alloc, json.required("targets")?)?;
+    made.build_targets = targets;
     match named_features(alloc, json.required("features")?) {
         Ok(features) => made.named_features = features,
         Err(fault) => return Err(fault.within(alloc, "features")),
@@ -183,21 +186,63 @@ fn fill(
     Ok(())
 }
 
-/// The package that an object tells.
-pub(crate) fn package_of<'a>(json: Object<'_, 'a>) -> Result<Package<'a>, Misfit>
-    ensures { IfOk result (IsTold (data_of json.entry)) }
+// The record of the package, but for what is told of it for Cargo and where it comes from.
+fn described_record(json: Object<'_, '_>) -> Result<PackageRecord, Misfit>
+    ensures named { IfOk result (IsNamed (data_of json.entry)) }
+    ensures described { IfOk result (IsDescribed (data_of json.entry)) }
 {
-    let id = json.text("id")?;
-    let declared = declared_dependencies(json.alloc, json.required("dependencies")?)?;
     let mut record = bare_record(json)?;
     describe(&mut record, json)?;
-    fill(&mut record, json, declared.as_slice())?;
+    Ok(record)
+}
+
+// The package with this ID, of its record so far, its dependencies and build targets, and what else is told of it.
+fn filled_package<'a>(
+    json: Object<'_, 'a>,
+    id: &'a str,
+    described: PackageRecord,
+    declared: Vec<Declared<'a>>,
+    targets: Vec<BuildTargetRecord>,
+) -> Result<Package<'a>, Misfit>
+    ensures { IfOk result (λ made. (d : Json) → AreAlike (data_of json.entry) d
+        → get (codes "id") (data_of json.entry) ≡ Some (string id.now)
+        → IsNamed (data_of json.entry) described → IsDescribed (data_of json.entry) described
+        → AreDeclared d declared.entry.items → AreTargets d targets.items → IsTold d made) }
+{
+    let mut record = described;
+    fill(&mut record, json, declared.as_slice(), targets)?;
     Ok(Package {
         id,
         source: json.optional_text("source")?,
         record,
         declared,
     })
+}
+
+/// The package that an object tells with these dependencies and build targets.
+pub(crate) fn package_with<'a>(
+    json: Object<'_, 'a>,
+    declared: Vec<Declared<'a>>,
+    targets: Vec<BuildTargetRecord>,
+) -> Result<Package<'a>, Misfit>
+    ensures { IfOk result (λ made. (d : Json) → AreAlike (data_of json.entry) d
+        → AreDeclared d declared.entry.items → AreTargets d targets.items → IsTold d made) }
+{
+    let id = json.text("id")?;
+    let record = described_record(json)?;
+    Ok(filled_package(json, id, record, declared, targets)?)
+}
+
+/// The package that an object tells.
+pub(crate) fn package_of<'a>(json: Object<'_, 'a>) -> Result<Package<'a>, Misfit>
+    ensures { IfOk result (IsTold (data_of json.entry)) }
+{
+    let alloc = json.alloc;
+    let id = json.text("id")?;
+    let declared = declared_dependencies(alloc, json.required("dependencies")?)?;
+    let record = described_record(json)?;
+    let targets = build_targets(alloc, json.required("targets")?)?;
+    Ok(filled_package(json, id, record, declared, targets)?)
 }
 
 /// The package that the item of the list `packages` at this index is.

@@ -1,15 +1,17 @@
 //! Build targets.
-ghost use Rattle.std.specs.Prelude.{◌≡◌, ◌∷◌, ℕ, List, IfOk, map, option_map, string_bytes, codes};
+ghost use Rattle.std.specs.Prelude.{◌≡◌, ◌∷◌, ℕ, List, Some, IfOk, IfSome, map, option_map, string_bytes, codes};
+ghost use Rattle.json.specs.Json.{Json, value};
 ghost use Rattle.json.specs.Value.{value_view};
 ghost use Rattle.guppy_metadata.specs.Members.{data_of, is_among, AreTexts, IsListOf};
 ghost use Rattle.guppy_metadata.specs.Target.{IsTargetId, IsLibraryOf, IsMadeOf, IsTarget};
 
 use crate::fault::{Kind, Misfit};
 use crate::object::Object;
+use crate::read::read_object;
 use guppy_data::{
     BuildTargetKindRecord, BuildTargetRecord, OwnedBuildTargetId, SortedSet, Utf8PathBuf,
 };
-use json::Value;
+use json::{MAX_DEPTH, Reader, Token, Value};
 use std::alloc::Global;
 
 // What a target of this kind and name is, and its name where it is a library or build script.
@@ -112,4 +114,35 @@ pub(crate) fn build_targets(
         }
     }
     Ok(targets)
+}
+
+// The build target that the object that comes next tells.
+fn read_target<'a>(
+    item: &mut Value<'a>,
+    alloc: Global,
+    reader: &mut Reader<'a>,
+) -> Option<BuildTargetRecord>
+    ensures { IfSome result (λ made. (told : Json)
+        × (value 124 reader.old ≡ Some (told, reader.new)) × IsTarget told made) }
+{
+    read_object(item, alloc, reader, MAX_DEPTH - 4)?;
+    build_target(Object { alloc, value: item }).ok()
+}
+
+/// The build targets that the list that comes next tells.
+pub(crate) fn read_targets(alloc: Global, reader: &mut Reader<'_>) -> Option<Vec<BuildTargetRecord>>
+    ensures { IfSome result (λ targets. (told : Json)
+        × (value 125 reader.old ≡ Some (told, reader.new)) × IsListOf IsTarget told targets.items) }
+{
+    let Some(Token::BeginArray) = reader.next() else {
+        return None;
+    };
+    let mut targets = Vec::new(alloc);
+    let mut item = Value::Null;
+    while !reader.take_end_array() {
+        let target = read_target(&mut item, alloc, reader)?;
+        targets.push(target).ok()?;
+    }
+    targets.shrink_to_fit();
+    Some(targets)
 }

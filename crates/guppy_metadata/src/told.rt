@@ -8,9 +8,10 @@ ghost use Rattle.guppy_metadata.specs.Members.{IsListOf};
 ghost use Rattle.guppy_metadata.specs.Package.{IsTold, ArePositions};
 ghost use Rattle.guppy_metadata.specs.Told.{Tells};
 
-use crate::link::{Packages, add_node};
-use crate::object::Object;
-use crate::package::{Package, package_of, positions_of};
+use crate::link::Packages;
+use crate::node::read_node;
+use crate::package::{Package, positions_of};
+use crate::parts::read_package;
 use guppy_data::LinkRecord;
 use json::{MAX_DEPTH, Reader, Token, Value};
 use std::alloc::Global;
@@ -23,15 +24,6 @@ pub(crate) struct Told<'a> {
     pub(crate) links: Option<Vec<LinkRecord>>,
     /// All other members.
     pub(crate) others: Vec<(&'a str, Value<'a>)>,
-}
-
-// The package that the object that comes next tells.
-fn read_package<'a>(alloc: Global, reader: &mut Reader<'a>) -> Option<Package<'a>>
-    ensures { IfSome result (λ made. (told : Json)
-        × (value 126 reader.old ≡ Some (told, reader.new)) × IsTold told made) }
-{
-    let item = Value::read(alloc, reader, MAX_DEPTH - 2).ok()?;
-    package_of(Object::new(alloc, &item).ok()?).ok()
 }
 
 // The packages that the list that comes next tells.
@@ -50,22 +42,6 @@ fn read_packages<'a>(alloc: Global, reader: &mut Reader<'a>) -> Option<Vec<Packa
     Some(packages)
 }
 
-// Adds the links of the node that comes next.
-fn read_node(
-    links: &mut Vec<LinkRecord>,
-    alloc: Global,
-    reader: &mut Reader<'_>,
-    packages: Packages<'_, '_>,
-) -> Option<()>
-    requires { ArePositions packages.packages.now packages.positions.now }
-    ensures { OnSome result ((told : Json) × (value 125 reader.old ≡ Some (told, reader.new))
-        × (row : List LinkRecord) × (links.new.items ≡ links.old.items ++ row)
-        × AreLinksOf packages.entry.packages.now told row) }
-{
-    let item = Value::read(alloc, reader, MAX_DEPTH - 3).ok()?;
-    add_node(links, packages, Object::new(alloc, &item).ok()?).ok()
-}
-
 // The links of the nodes of the list that comes next.
 fn read_nodes(
     alloc: Global,
@@ -82,7 +58,7 @@ fn read_nodes(
     };
     let mut links = Vec::new(alloc);
     while !reader.take_end_array() {
-        read_node(&mut links, alloc, reader, packages)?;
+        read_node(&mut links, reader, packages)?;
     }
     Some(links)
 }

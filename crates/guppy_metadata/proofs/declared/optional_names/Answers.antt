@@ -1,9 +1,5 @@
-use Rattle.std.proofs.Common.{◌≡◌, ◌∙◌, [], ap, sym, map, take}
-use Rattle.std.specs.List.{filter_map}
-use Rattle.std.specs.Str.{bytes_eq}
+use Rattle.std.proofs.Common.{◌∙◌, ap, map}
 use Rattle.std.specs.String.{string_bytes}
-use Rattle.indexmap.specs.IndexSet.{insert_all}
-use Rattle.guppy_metadata.specs.Dependency.{optional_name}
 use Rattle.guppy_metadata.proofs.Dependencies.{optional_more, required_more}
 use Rattle.guppy_metadata.proofs.declared.optional_names.Goals.{then-dependency+in_ok-from_str+in_ok-insert, else-dependency}
 use Rattle.guppy_metadata.proofs.declared.optional_names.Goals as goal

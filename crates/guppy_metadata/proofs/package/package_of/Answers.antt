@@ -1,15 +1,7 @@
-use Rattle.std.proofs.Common.{rules, sym}
+use Rattle.std.proofs.Common.{refl}
 use Rattle.guppy_metadata.proofs.package.package_of.Goals as goal
 
 pub returns : goal.returns
 returns c =
-    let filled = c.in_ok-fill.ensures in
-    let described = c.in_ok-describe.ensures in record {
-      id = search rules;
-      source = search rules;
-      named = filled.named _ (described.named _ c.in_ok-record.ensures);
-      described = filled.described _ described.described;
-      filled = filled.filled;
-      declared = rw c.in_ok-required.ensures c.in_ok-declared.ensures;
-      optional = rw (sym c.as_slice.ensures.value) filled.optional;
-    }
+    c.in_ok-filled_package.ensures _ (λ name own. refl) c.in_ok-id.ensures c.in_ok-record.ensures.named c.in_ok-record.ensures.described
+    (rw c.in_ok-required.ensures c.in_ok-declared.ensures) (rw c.in_ok-required-2.ensures c.in_ok-targets.ensures)

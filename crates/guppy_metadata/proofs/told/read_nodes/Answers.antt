@@ -9,8 +9,8 @@ use Rattle.guppy_metadata.specs.Links.{AreLinksOf}
 use Rattle.guppy_metadata.proofs.Turns.{value_takes, no_item_read, item_read, list_read}
 use Rattle.guppy_metadata.proofs.told.read_nodes.Goals as goal
 
-pub loop-alloc-init : goal.loop-alloc-init
-loop-alloc-init c = (
+pub loop-links-init : goal.loop-links-init
+loop-links-init c = (
   [],
   no_item_read 125 _,
   record {
@@ -20,11 +20,11 @@ loop-alloc-init c = (
   },
 )
 
-pub loop-alloc-preserved : goal.loop-alloc-preserved
-loop-alloc-preserved c =
-    let l = c.loop-alloc in
+pub loop-links-preserved : goal.loop-links-preserved
+loop-links-preserved c =
+    let l = c.loop-links in
     let were = l.invariant in
-    let going : (after_end_array l.reader ≡ None) × (c.take_end_array.new.self ≡ l.reader) = c.loop-alloc-test.ensures in
+    let going : (after_end_array l.reader ≡ None) × (c.take_end_array.new.self ≡ l.reader) = c.loop-links-test.ensures in
     let more = c.in_ok-read_node.ensures in
     let row = more.2 in (
       were.0 ++ more.0 ∷ [],
@@ -36,18 +36,18 @@ loop-alloc-preserved c =
       },
     )
 
-pub loop-alloc-smaller : goal.loop-alloc-smaller
-loop-alloc-smaller c =
-    let going : (after_end_array c.loop-alloc.reader ≡ None) × (c.take_end_array.new.self ≡ c.loop-alloc.reader) = c.loop-alloc-test.ensures in
+pub loop-links-smaller : goal.loop-links-smaller
+loop-links-smaller c =
+    let going : (after_end_array c.loop-links.reader ≡ None) × (c.take_end_array.new.self ≡ c.loop-links.reader) = c.loop-links-test.ensures in
     let more = c.in_ok-read_node.ensures in
-    let less : length c.read_node.new.reader < length c.loop-alloc.reader = subst (λ ts. length c.read_node.new.reader < length ts) going.1 (value_takes 125 _ _ more.0 more.1) in less
+    let less : length c.read_node.new.reader < length c.loop-links.reader = subst (λ ts. length c.read_node.new.reader < length ts) going.1 (value_takes 125 _ _ more.0 more.1) in less
 
 pub returns : goal.returns
 returns c =
-    let were = c.loop-alloc.invariant in
+    let were = c.loop-links.invariant in
     let first : c.args.reader.now ≡ Token.begin_array ∷ c.next.new.self = c.in-Some-BeginArray.ensures.value ∙ ap (λ token. token_of token ∷ c.next.new.self) c.in-Some-BeginArray.field-0-is in
-    let closed : after_end_array c.loop-alloc.reader ≡ Some c.take_end_array.new.self = c.loop-alloc-test.ensures in (
+    let closed : after_end_array c.loop-links.reader ≡ Some c.take_end_array.new.self = c.loop-links-test.ensures in (
       array (items_of were.0),
-      ap (value 126) first ∙ list_read 126 c.next.new.self were.0 c.loop-alloc.reader _ (omega arith) were.1 closed,
+      ap (value 126) first ∙ list_read 126 c.next.new.self were.0 c.loop-links.reader _ (omega arith) were.1 closed,
       (were.0, refl, were.2),
     )

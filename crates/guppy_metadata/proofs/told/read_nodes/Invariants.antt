@@ -4,8 +4,8 @@ use Rattle.guppy_metadata.specs.Links.{AreLinksOfAll}
 use Rattle.guppy_metadata.proofs.Turns.{ItemsRead}
 use Rattle.guppy_metadata.proofs.told.read_nodes.Given as goal
 
-abbrev pub invariant-loop-alloc : goal.invariant-loop-alloc
-invariant-loop-alloc l = (js : List Json) × ItemsRead 125 l.initial.reader js l.reader × AreLinksOfAll l.packages.packages.now js l.links.items
+abbrev pub invariant-loop-links : goal.invariant-loop-links
+invariant-loop-links l = (js : List Json) × ItemsRead 125 l.initial.reader js l.reader × AreLinksOfAll l.packages.packages.now js l.links.items
 
-abbrev pub decreases-loop-alloc : goal.decreases-loop-alloc
-decreases-loop-alloc l = length l.reader
+abbrev pub decreases-loop-links : goal.decreases-loop-links
+decreases-loop-links l = length l.reader

@@ -1,0 +1,54 @@
+use Rattle.std.proofs.Common.{◌≡◌, ◌∙◌, [], true, filter, map, sym, ap, subst}
+use Rattle.std.specs.Prelude.{is_ok}
+use Rattle.semver.specs.Identifiers.{comparator_view}
+use Rattle.guppy_metadata.specs.Fits.{fits, are_matched}
+use Rattle.guppy_metadata.specs.Gathered.{IsGathered, IsNamedAs, IsMadeOf}
+use Rattle.guppy_metadata.specs.Links.{Joins}
+use Rattle.guppy_metadata.proofs.Matching.{picked_first, matched_alike}
+use Rattle.guppy_metadata.proofs.link.add_link_between.Goals as goal
+
+pub returns-clause-added : goal.returns-clause-added
+returns-clause-added c =
+    let p = fits c.args.from.now c.args.resolved.now c.args.needed.now.record in
+    let rest = c.from_first_fitting-declared.result.now in
+    let first = c.in-Some.first.now in
+    let link = c.add_fitting.new.link in
+    let adds = c.in_ok-add_fitting.ensures in
+    let texts = c.in_ok-texts.ensures in
+    let bare = c.bare_link.ensures in
+    let was : c.in_ok-link.link.now ≡ c.bare_link.result = c.in_ok-link.ensures.value in
+    let whole : filter p rest ≡ filter p c.args.asking.now.declared.items = c.from_first_fitting-declared.ensures.all ∙ ap (filter p) c.as_slice.ensures.value in
+    let parts = picked_first p rest first c.in-Some.ensures.value c.from_first_fitting-declared.ensures.first in
+    let joins : Joins c.args.from.now c.args.resolved.now.id.now c.args.resolved.now.name.now c.bare_link.result = record {
+      from_is = bare.joins.from_is ∙ texts.from_is;
+      to_is = bare.joins.to_is ∙ texts.to_is;
+      name_is = bare.joins.name_is ∙ texts.name_is;
+    } in
+    let named : IsNamedAs first c.bare_link.result = record {
+      dep_name = bare.dep_name ∙ (texts.dep_name_is ∙ c.dep_name.ensures);
+      requirement = ap (λ r. map comparator_view r.comparators.items) bare.requirement ∙ c.in_ok-requirement.ensures;
+    } in
+    let made : IsMadeOf (filter p c.args.asking.now.declared.items) link = record {
+      first = first;
+      others = parts.0;
+      parts = sym whole ∙ parts.1;
+      named = adds.named first (subst (IsNamedAs first) (sym was) named);
+      gathered = subst (λ xs. IsGathered xs link) whole (adds.gathered (subst (IsGathered []) (sym was) bare.gathered));
+    } in (
+      link,
+      (c.push_mut.follows.holds link (ap is_ok c.in_ok-link.was)).0,
+      adds.joins _ _ _ (subst (Joins c.args.from.now c.args.resolved.now.id.now c.args.resolved.now.name.now) (sym was) joins),
+      made,
+    )
+
+pub returns-clause-matched : goal.returns-clause-matched
+returns-clause-matched c =
+    let from = c.args.from.now in
+    let resolved = c.args.resolved.now in
+    let needed = c.args.needed.now.record in
+    let rest = c.from_first_fitting-declared.result.now in
+    let all = c.args.asking.now.declared.items in
+    let usages = c.as_slice-usages.result.now in
+    let whole : filter (fits from resolved needed) rest ≡ filter (fits from resolved needed) all = c.from_first_fitting-declared.ensures.all ∙ ap (filter (fits from resolved needed)) c.as_slice.ensures.value in
+    let matched : are_matched from resolved needed rest usages ≡ true = sym c.if-not-are_matched.ensures in
+    subst (λ us. are_matched from resolved needed all us ≡ true) c.as_slice-usages.ensures.value (sym (matched_alike from resolved needed rest all whole usages) ∙ matched)

@@ -1,0 +1,30 @@
+use Rattle.std.proofs.Common.{◌≡◌, ◌∙◌, false, [], ◌∷◌, ◌++◌, Some, if◌then◌else◌, cond, codes, IsSomeAnd, sym, ap, subst}
+use Rattle.std.specs.Str.{bytes_eq}
+use Rattle.json.specs.Find.{get_member}
+use Rattle.json.specs.Value.{value_view, members_view}
+use Rattle.json.proofs.Trees.{get_member-push}
+use Rattle.guppy_metadata.specs.Dependency.{IsDeclared}
+use Rattle.guppy_metadata.specs.Members.{IsListOf}
+use Rattle.guppy_metadata.specs.Target.{IsTarget}
+use Rattle.guppy_metadata.proofs.Telling.{if_some, kept}
+use Rattle.guppy_metadata.proofs.Turns.{of_ok}
+use Rattle.guppy_metadata.proofs.parts.Parts.read_member.Goals as goal
+
+pub returns-in_ok-ok : goal.returns-in_ok-ok
+returns-in_ok-ok c =
+    let name = c.args.name.now in
+    let told = value_view c.in_ok-value.value in
+    let others = c.args.self.now.others.items in
+    let grown = others ++ (c.args.name, c.in_ok-value.value) ∷ [] in
+    let pushed : c.push.new.self.items ≡ grown = c.push.ensures.items ∙ ap (λ well. if well then grown else others) (sym c.in_ok-ok.ensures.variant) in
+    let no_dependencies : bytes_eq name (codes "dependencies") ≡ false = sym c.if-eq.ensures in
+    let no_targets : bytes_eq name (codes "targets") ≡ false = sym c.if-eq-2.ensures in (
+      told,
+      of_ok _ _ c.read.result _ c.in_ok-value.ensures.value c.read.ensures.ok,
+      λ d e adds tells. record {
+        declared_are = if_some c.args.self.now.declared (λ declared. subst (λ o. IsSomeAnd o (λ told. IsListOf IsDeclared told declared.items)) (kept d e name told adds (codes "dependencies") no_dependencies)) tells.declared_are;
+        targets_are = if_some c.args.self.now.targets (λ targets. subst (λ o. IsSomeAnd o (λ told. IsListOf IsTarget told targets.items)) (kept d e name told adds (codes "targets") no_targets)) tells.targets_are;
+        others_are = λ wanted other. ap (λ rows. get_member wanted (members_view rows)) pushed
+            ∙ (get_member-push wanted others (c.args.name, c.in_ok-value.value) ∙ (ap (cond (bytes_eq name wanted) (Some told)) (tells.others_are wanted other) ∙ sym (adds wanted)));
+      },
+    )

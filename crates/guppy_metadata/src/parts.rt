@@ -1,0 +1,92 @@
+//! A package, read member by member.
+ghost use Rattle.std.specs.Prelude.{◌≡◌, Some, IfSome};
+ghost use Rattle.json.specs.Json.{Json, value};
+ghost use Rattle.guppy_metadata.specs.Package.{IsTold};
+ghost use Rattle.guppy_metadata.specs.Parts.{TellsParts};
+
+use crate::declared::{Declared, read_dependencies};
+use crate::object::Object;
+use crate::package::{Package, package_with};
+use crate::target::read_targets;
+use guppy_data::BuildTargetRecord;
+use json::{MAX_DEPTH, Reader, Token, Value};
+use std::alloc::Global;
+
+// What the object of a package tells.
+#[derive(Drop)]
+struct Parts<'a> {
+    declared: Option<Vec<Declared<'a>>>,
+    targets: Option<Vec<BuildTargetRecord>>,
+    // All other members.
+    others: Vec<(&'a str, Value<'a>)>,
+}
+
+impl<'a> Parts<'a> {
+    ghost use Rattle.std.specs.Prelude.{◌≡◌, Some, OnSome};
+    ghost use Rattle.json.specs.Json.{Json, value};
+    ghost use Rattle.guppy_metadata.specs.Parts.{TellsParts};
+    ghost use Rattle.guppy_metadata.specs.Told.{IsWith};
+
+    // Reads the member of this name, whose value comes next.
+    fn read_member(&mut self, alloc: Global, reader: &mut Reader<'a>, name: &'a str) -> Option<()>
+        ensures { OnSome result ((told : Json) × (value 125 reader.old ≡ Some (told, reader.new))
+            × ((d e : Json) → IsWith name.now told d e → TellsParts d self.old → TellsParts e self.new)) }
+    {
+        if name == "dependencies" {
+            self.declared = Some(read_dependencies(alloc, reader)?);
+        } else if name == "targets" {
+            self.targets = Some(read_targets(alloc, reader)?);
+        } else {
+            let value = Value::read(alloc, reader, MAX_DEPTH - 3).ok()?;
+            self.others.push((name, value)).ok()?;
+        }
+        Some(())
+    }
+}
+
+// What the object that comes next tells.
+fn read_parts<'a>(alloc: Global, reader: &mut Reader<'a>) -> Option<Parts<'a>>
+    ensures { IfSome result (λ parts. (told : Json)
+        × (value 126 reader.old ≡ Some (told, reader.new)) × TellsParts told parts) }
+{
+    let Some(Token::BeginObject) = reader.next() else {
+        return None;
+    };
+    let mut parts = Parts {
+        declared: None,
+        targets: None,
+        others: Vec::new(alloc),
+    };
+    while let Some(name) = reader.next_key().ok()? {
+        parts.read_member(alloc, reader, name)?;
+    }
+    Some(parts)
+}
+
+// The package that is told, where nothing is missing or wrong.
+fn package_told<'a>(alloc: Global, parts: Parts<'a>) -> Option<Package<'a>>
+    ensures { IfSome result (λ made. (d : Json) → TellsParts d parts.entry → IsTold d made) }
+{
+    let Parts {
+        declared,
+        targets,
+        others,
+    } = parts;
+    let declared = declared?;
+    let targets = targets?;
+    let value = Value::Object(others);
+    let json = Object {
+        alloc,
+        value: &value,
+    };
+    package_with(json, declared, targets).ok()
+}
+
+/// The package that the object that comes next tells.
+pub(crate) fn read_package<'a>(alloc: Global, reader: &mut Reader<'a>) -> Option<Package<'a>>
+    ensures { IfSome result (λ made. (told : Json)
+        × (value 126 reader.old ≡ Some (told, reader.new)) × IsTold told made) }
+{
+    let parts = read_parts(alloc, reader)?;
+    package_told(alloc, parts)
+}
