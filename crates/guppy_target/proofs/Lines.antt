@@ -1,6 +1,7 @@
 -- What a line says is set.
 use Rattle.std.proofs.Common.{◌≡◌, ℕ, zero, suc, ◌<◌, List, [], ◌∷◌, ◌++◌, length, get_or, take, arith, Some, None, inr, refl, sym, ap, ◌∙◌, subst}
-use Rattle.std.specs.Prelude.{Option, option_and_then, IfSome, slice_get}
+use Rattle.std.specs.Prelude.{Option, option_and_then, IfSome, slice_get, is_some, true}
+use Rattle.std.specs.List.{list_all}
 use Rattle.guppy_target.specs.Cfg.{Setting, name, pair}
 use Rattle.guppy_target.specs.Grammar.{word, quoted, Begins}
 use Rattle.guppy_target.specs.Reading.{after_spaces, mark_at, word_at, quoted_at, if_ended, line_from, line_at}
@@ -80,3 +81,22 @@ first_fault ls seen ss k n line are front lt is none same =
       before = (ss, subst (λ (l : List (List ℕ)). AreLines l ss) front are);
       fault = at_place (λ l. (s : Setting) → IsLine l s → ⊥) ls k line lt is (no_line line none);
     })
+
+some_more : (l : List ℕ) (ls : List (List ℕ)) (o : Option Setting) → line_at l ≡ o → list_all (λ line. is_some (line_at line)) (l ∷ ls) ≡ true
+    → ((s : Setting) × (line_at l ≡ Some s)) × (list_all (λ line. is_some (line_at line)) ls ≡ true)
+some_more l ls None e h = absurd (cc)
+some_more l ls (Some s) e h = ((s, e), cc)
+
+-- where each line is read, each says what is set
+pub settings_some : (ls : List (List ℕ)) → list_all (λ line. is_some (line_at line)) ls ≡ true → (ss : List Setting) × AreLines ls ss
+settings_some [] h = ([], tt)
+settings_some (l ∷ ls) h =
+    let one = some_more l ls (line_at l) refl h in
+    let rest = settings_some ls one.1 in
+    (one.0.0 ∷ rest.0, (line_takes l one.0.0 one.0.1, rest.1))
+
+-- and the other way round
+pub some_settings : (ls : List (List ℕ)) (ss : List Setting) → AreLines ls ss → list_all (λ line. is_some (line_at line)) ls ≡ true
+some_settings [] ss h = refl
+some_settings (l ∷ ls) [] h = absurd h
+some_settings (l ∷ ls) (s ∷ ss) h = rw (line_again l s h.0) (some_settings ls ss h.1)

@@ -3,3 +3,4 @@ pub mod Grammar
 pub mod Reading
 pub mod Platform
 pub mod Answer
+pub mod Sections

@@ -1,7 +1,8 @@
 -- How a text is read from its front. Each function answers what stands there, and what is behind it.
-use Rattle.std.specs.Prelude.{ℕ, zero, suc, ◌+◌, ◌-◌, List, [], ◌∷◌, length, take, drop, Bool, true, false, not, ◌==◌, Option, Some, None, option_map, option_and_then, position, codes, if◌then◌else◌}
-use Rattle.std.specs.List.{position_or_len}
+use Rattle.std.specs.Prelude.{ℕ, zero, suc, ◌+◌, ◌-◌, List, [], ◌∷◌, length, take, drop, Bool, true, false, not, ◌==◌, Option, Some, None, is_some, option_map, option_and_then, position, codes, if◌then◌else◌}
+use Rattle.std.specs.List.{list_all, position_or_len}
 use Rattle.std.specs.Str.{bytes_eq}
+use Rattle.std.specs.Str.Lines.{lines}
 use Rattle.guppy_target.specs.Cfg.{Setting, name, pair, Predicate, Predicates, is_set, all_of, any_of, not_of, constant, no_more, also, holds, all_hold, any_holds}
 use Rattle.guppy_target.specs.Grammar.{starts_word, is_of_word, max_levels}
 
@@ -127,3 +128,7 @@ line_from w rest (Some behind) =
 -- what a line says is set
 unfoldable pub line_at : List ℕ → Option Setting
 line_at line = option_and_then (λ x. line_from x.0 x.1 (mark_at 61 x.1)) (word_at line)
+
+-- whether each line of a text says what is set
+abbrev pub are_settings : List ℕ → Bool
+are_settings text = list_all (λ line. is_some (line_at line)) (lines text)

@@ -1,10 +1,10 @@
 //! What is known of a platform.
-ghost use Rattle.std.specs.Prelude.{◌≡◌, ℕ, IfOk, Err, map, option_map, option_copied};
+ghost use Rattle.std.specs.Prelude.{◌≡◌, ◌↔◌, ℕ, List, IfOk, Err, IsTrue, is_some, map, option_map, option_copied};
 ghost use Rattle.std.specs.List.{list_any};
 ghost use Rattle.std.specs.Str.{bytes_eq};
 ghost use Rattle.std.specs.Str.Lines.{lines};
-ghost use Rattle.guppy_target.specs.Cfg.{name, pair, is_among, setting_eq};
-ghost use Rattle.guppy_target.specs.Reading.{line_at};
+ghost use Rattle.guppy_target.specs.Cfg.{Setting, name, pair, is_among, setting_eq};
+ghost use Rattle.guppy_target.specs.Reading.{line_at, are_settings};
 ghost use Rattle.guppy_target.specs.Platform.{setting_of, part_setting, AreLines, IsFirstFault};
 
 use crate::fault::PlatformFault;
@@ -74,6 +74,22 @@ fn parts(line: &[u8]) -> Option<(&[u8], Option<&[u8]>)>
             }
         }
     }
+}
+
+fn is_setting(line: &str) -> bool
+    ensures { result ≡ is_some (line_at line.now) }
+{
+    parts(line.as_bytes()).is_some()
+}
+
+/// Whether each line is a name or `key="value"`, so that [`Platform::new`] makes a platform of them, given memory. Takes
+/// time linear in the text, and no memory.
+pub fn are_settings(cfgs: &str) -> bool
+    ensures read { result ≡ are_settings cfgs.now }
+    ensures exact { IsTrue result
+        ↔ ((settings : List Setting) × AreLines (lines cfgs.now) settings) }
+{
+    cfgs.lines().all(is_setting)
 }
 
 fn cfg_of(alloc: Global, word: &[u8], value: Option<&[u8]>) -> Result<Cfg, AllocError>
