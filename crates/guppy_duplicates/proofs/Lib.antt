@@ -1,0 +1,5 @@
+pub mod Order
+pub mod Kept
+pub mod Namesakes
+pub mod Rows
+pub mod Answer

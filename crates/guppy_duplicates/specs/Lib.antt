@@ -1,0 +1,2 @@
+pub mod Duplicates
+pub mod Sorted
