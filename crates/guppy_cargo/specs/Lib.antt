@@ -1,6 +1,9 @@
 pub mod Fault
 pub mod Options
 pub mod Command
+pub mod Commands
+pub mod Nearest
 pub mod Names
 pub mod Json
 pub mod Paths
+pub mod Words

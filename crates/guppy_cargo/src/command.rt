@@ -24,5 +24,9 @@ pub fn asked_of(args: &[String]) -> Option<Asked<'_>>
 {
     let (options, words) = options_of(args);
     let command = command_of(words)?;
-    Some(Asked { options, command })
+    Some(Asked {
+        options,
+        words: args,
+        command,
+    })
 }

@@ -1,4 +1,5 @@
 //! What the program says of itself.
+use crate::commands::is_command;
 
 const HELP: &str = "\
 Answers questions on the packages of a Cargo workspace. The scripts guppy-cargo
@@ -8,18 +9,28 @@ what `cargo metadata --format-version 1` prints.
 Usage: guppy-cargo [OPTION].. COMMAND
 
   affected PATH..           the members to test when these files changed
-  publish-order             the members, each after those that it needs
+  publish-order             the members, each after those that it needs; with
+                            --publishable those alone that can be published
   depends PACKAGE PACKAGE   whether the first depends on the second
+  why PACKAGE PACKAGE       a shortest walk of links from the first to the second
   reach forward PACKAGE..   what these packages need, and themselves
   reach reverse PACKAGE..   what needs these packages, and themselves
   order                     all packages, dependents first
   roots forward|reverse     the packages that no other one needs, or that need none
   links forward|reverse     the links from these on, the ends of each on a line
   cycles                    the packages that need each other, a cycle a line
+  duplicates                packages whose name another one has, too, each with
+                            those that need it, on a line
+  dot PACKAGE..             what these packages need, or all where none is given, as
+                            Graphviz draws it
   verify                    ok, where no cycle is over links that aren't dev-only
 
   --kinds KINDS             of links with a section of these kinds alone: some of
                             normal,build,dev, parted by commas
+  --platform TRIPLE [--cfgs FILE]
+                            of links that are on on this platform, or one of several;
+                            FILE has what rustc --print cfg prints for it, and the
+                            scripts ask rustc where none is given
   --workspace               prints members of the workspace alone
   --ids                     prints packages by their IDs
 
@@ -43,7 +54,7 @@ what they depend on first.
 
 Usage: guppy-cargo affected [--since REVISION] [--ignore FOLDER].. [--paths-from FILE].. PATH..
 
-  PATH              relative to the workspace's root; ./--ignore is a path
+  PATH              relative to the workspace's root; ./-x is one, -x is not
   --since REVISION  adds what git says changed since then; the scripts take it
   --ignore FOLDER   leaves out what lies in this folder
   --paths-from FILE adds the paths in this file, each ended by a NUL, as git writes
@@ -61,8 +72,7 @@ fn asks_for_help(word: &str) -> bool {
 fn help_on(command: &str) -> Option<&'static str> {
     match command {
         "affected" => Some(AFFECTED),
-        "publish-order" | "depends" | "reach" | "order" | "roots" | "links" | "cycles" | "verify" =>
-            { Some(HELP) }
+        _ if is_command(command) => Some(HELP),
         _ => None,
     }
 }

@@ -1,17 +1,31 @@
 //! Paths that a file has, as git writes them: each ended by a NUL.
-ghost use Rattle.std.specs.Prelude.{◌≡◌, ◌⊎◌, ◌++◌, map, string_bytes, OnOk, IfErr};
+ghost use Rattle.std.specs.Prelude.{◌≡◌, ◌⊎◌, ◌++◌, ◌∷◌, [], map, string_bytes, OnOk, IfErr};
 ghost use Rattle.guppy_data.specs.declared.texts.error.Error.TheVariants.{OutOfMemory};
 ghost use Rattle.guppy_program.specs.declared.fault.Fault.TheVariants.{Library, BadArguments};
 ghost use Rattle.guppy_cargo.specs.declared.fault.CargoFault.TheVariants.{Program};
-ghost use Rattle.guppy_cargo.specs.Paths.{paths_of};
+ghost use Rattle.guppy_cargo.specs.Paths.{given_as, paths_of};
 
 use crate::fault::CargoFault;
 use guppy::Error;
 use guppy_program::Fault;
 use guppy_program::options::options_of;
-use std::alloc::Global;
+use std::alloc::{AllocError, Global};
 use std::rt::Files;
 use std::{fs, io, str};
+
+// Adds the path, behind `./` where it begins as an option does.
+fn add_path(args: &mut Vec<String>, alloc: Global, path: &str) -> Result<(), AllocError>
+    ensures { OnOk result (map string_bytes args.new.items
+        ≡ map string_bytes args.old.items ++ given_as path.now ∷ []) }
+{
+    let mut word = String::new(alloc);
+    if path.starts_with('-') {
+        word.push_str("./")?;
+    }
+    word.push_str(path)?;
+    args.push(word)?;
+    Ok(())
+}
 
 // Adds the paths that the bytes are: what stands between NULs, where that is anything.
 fn add_paths(args: &mut Vec<String>, alloc: Global, bytes: &[u8]) -> Result<(), CargoFault>
@@ -25,7 +39,7 @@ fn add_paths(args: &mut Vec<String>, alloc: Global, bytes: &[u8]) -> Result<(), 
     };
     for path in text.split('\0') {
         if !path.is_empty() {
-            args.push(String::from_str(alloc, path)?)?;
+            add_path(args, alloc, path)?;
         }
     }
     Ok(())

@@ -3,7 +3,7 @@
 //! What it does is `guppy_program`'s `run_process`; here stand the standard streams, and help.
 #![tactic(auto)]
 
-use guppy_cargo::{CargoFault, Json, help_of, options_first, with_paths};
+use guppy_cargo::{CargoFault, Json, check_command, help_of, options_first, with_cfgs, with_paths};
 use guppy_program::{IoSink, IoSource, arguments, run_process};
 use std::process::ExitCode;
 
@@ -26,7 +26,11 @@ fn main(rt: HostRuntime) -> ExitCode {
     let mut errors = IoSink::new(rt.stderr());
     let ending = run_process::<Json, _, _, _>(
         rt.alloc(),
-        args.and_then(|args| with_paths(&rt, options_first(rt.alloc(), args)?)),
+        args.and_then(|args| {
+            let args = with_cfgs(&rt, options_first(rt.alloc(), args)?)?;
+            check_command(rt.alloc(), args.as_slice())?;
+            with_paths(&rt, args)
+        }),
         &mut reader,
         &mut writer,
         &mut errors,

@@ -10,6 +10,9 @@ pub mod Reached
 pub mod Refusals
 pub mod Ordering
 pub mod Paths
+pub mod Publishing
 pub mod Running
 pub mod Taken
 pub mod Whole
+pub mod Escaping
+pub mod Drawn

@@ -4,9 +4,11 @@ use Rattle.std.specs.Prelude.{Result, IfOk, All}
 use Rattle.std.specs.List.{AllZip}
 use Rattle.guppy_data.specs.declared.records.PackageRecord.{PackageRecord}
 use Rattle.guppy_data.specs.declared.texts.error.Error.TheVariants.{PackageGraphConstructError, UnknownPackageId, UnknownFeatureId, UnknownWorkspacePath, UnknownWorkspaceName, PackageGraphInternalError, FeatureGraphInternalError, OutOfMemory}
-use Rattle.guppy_program.specs.Cause.{Cause, library, bad_arguments, ambiguous, bad_input, input_failed, output_failed}
+use Rattle.guppy_program.specs.Cause.{Cause, library, bad_arguments, ambiguous, no_walk, bad_input, input_failed, output_failed}
+use Rattle.guppy_program.specs.Command.{Command}
 use Rattle.guppy_program.specs.Format.{Format, IsUnclear}
-use Rattle.guppy_program.specs.Answer.{Means, IsClear, IsWordFault}
+use Rattle.guppy.specs.Graph.{GraphData}
+use Rattle.guppy_program.specs.Answer.{Means, IsClear, IsWordFault, IsCommandFault, words_of}
 
 clear_at : (meant : List ℕ → List (List ℕ)) (words ids : List (List ℕ)) → AllZip (Means meant) words ids → (k : ℕ) (d : List ℕ) → k < length words → IsClear meant (get_or words k d)
 clear_at meant [] ids means k d within = absurd (omega arith)
@@ -55,9 +57,27 @@ module _ {Fault : Type 0} (format : Format Fault) where
       is.1,
       is.2,
     )
+    unclear_word (no_walk from to) is = absurd is
     unclear_word bad_input is = absurd is
     unclear_word input_failed is = absurd is
     unclear_word output_failed is = absurd is
+
+  -- a word that is at fault is one of the command's
+  pub command_word : (command : Command) (g : GraphData) (cause : Cause) → IsWordFault format g.packages (words_of command) cause → IsCommandFault format command g cause
+  command_word command g (library (UnknownPackageId id)) is = is
+  command_word command g (library (PackageGraphConstructError f)) is = is
+  command_word command g (library (UnknownFeatureId id feature)) is = is
+  command_word command g (library (UnknownWorkspacePath path)) is = is
+  command_word command g (library (UnknownWorkspaceName name)) is = is
+  command_word command g (library (PackageGraphInternalError f)) is = absurd is
+  command_word command g (library (FeatureGraphInternalError text)) is = is
+  command_word command g (library OutOfMemory) is = is
+  command_word command g bad_arguments is = is
+  command_word command g (ambiguous given choices) is = is
+  command_word command g (no_walk from to) is = absurd is
+  command_word command g bad_input is = is
+  command_word command g input_failed is = is
+  command_word command g output_failed is = is
 
 pub passed_ok : {T E F : Type 0} (given : Result T E) (result : Result T F) (P : T → Type 0) → IfOk given P → IfOk result (λ x. given ≡ Ok x) → IfOk result P
 passed_ok given (Ok x) P is passed = subst (λ r. IfOk r P) passed is

@@ -1,15 +1,18 @@
 -- What a run that has read the whole input owes.
-use Rattle.std.proofs.Common.{◌≡◌, inr, ℕ, List, ◌++◌, Some}
+use Rattle.std.proofs.Common.{◌≡◌, inr, sym, subst, ℕ, List, ◌++◌, length, Some}
 use Rattle.std.specs.Prelude.{Option}
 use Rattle.guppy_data.specs.declared.texts.error.Error.{Error}
 use Rattle.guppy_data.specs.declared.texts.error.Error.TheVariants.{PackageGraphConstructError, UnknownPackageId, UnknownFeatureId, UnknownWorkspacePath, UnknownWorkspaceName, PackageGraphInternalError, FeatureGraphInternalError, OutOfMemory}
+use Rattle.guppy.specs.Accepted.{distinct_ids}
 use Rattle.guppy.specs.Graph.{GraphData}
-use Rattle.guppy_program.specs.Cause.{Cause, library, bad_arguments, ambiguous, bad_input, input_failed, output_failed, OrMemory}
+use Rattle.guppy.specs.Ids.{DistinctBelow}
+use Rattle.guppy_program.specs.Cause.{Cause, library, bad_arguments, ambiguous, no_walk, bad_input, input_failed, output_failed, OrMemory}
+use Rattle.guppy_program.specs.declared.options.Kinds.{Kinds}
 use Rattle.guppy_program.specs.Command.{Asked}
 use Rattle.guppy_program.specs.Format.{Format}
 use Rattle.guppy_program.specs.Loaded.{IsLoaded}
 use Rattle.guppy_program.specs.Answer.{IsCommandFault}
-use Rattle.guppy_program.specs.Run.{IsAnswerTo, IsBegun, IsFaultOf, OfWholeInput}
+use Rattle.guppy_program.specs.Run.{IsAnswerTo, IsBegun, IsFaultOf, IsSourceFault, OfWholeInput}
 
 module _ {P : Type 0} where
   pub OrMemory-holds : (error : Error) → P → OrMemory P error
@@ -26,14 +29,30 @@ of_whole-along : (old new : Option (List ℕ)) (P Q : List ℕ → Type 0) → (
 of_whole-along old new P Q along is = record { input = is.input; at_end = is.at_end; all = is.all; holds = along is.input is.holds }
 
 module _ {Fault : Type 0} (format : Format Fault) where
+  -- the packages of a graph that the input says have distinct IDs
+  pub loaded_distinct : (kinds : Option Kinds) (platforms : List (List ℕ)) (input : List ℕ) (g : GraphData) → IsLoaded format kinds platforms input g → DistinctBelow g.packages (length g.packages)
+  loaded_distinct kinds platforms input g loaded =
+      subst (λ packages. DistinctBelow packages (length packages)) (sym loaded.holds.1.packages_are) (loaded.holds.0 distinct_ids)
+
   -- a refusal of the command is a fault of the command on the input
-  pub command_fault : (asked : Asked) (input : List ℕ) (g : GraphData) → IsLoaded format asked.options.kinds input g → (fault : Fault) (cause : Cause) → IsCommandFault format asked.command g cause → IsFaultOf format asked input fault cause
+  pub command_fault : (asked : Asked) (input : List ℕ) (g : GraphData) → IsLoaded format asked.options.kinds asked.platforms input g → (fault : Fault) (cause : Cause) → IsCommandFault format asked.command g cause → IsFaultOf format asked input fault cause
   command_fault asked input g loaded fault (library error) is = OrMemory-holds error (inr (g, loaded, is))
   command_fault asked input g loaded fault bad_arguments is = absurd is
   command_fault asked input g loaded fault (ambiguous word choices) is = (g, loaded, is)
+  command_fault asked input g loaded fault (no_walk from to) is = (g, loaded, is)
   command_fault asked input g loaded fault bad_input is = absurd is
   command_fault asked input g loaded fault input_failed is = absurd is
   command_fault asked input g loaded fault output_failed is = absurd is
+
+  -- a fault on the whole input is one of the source
+  pub source_fault : (asked : Asked) (old new : Option (List ℕ)) (fault : Fault) (cause : Cause) → OfWholeInput old new (λ input. IsFaultOf format asked input fault cause) → IsSourceFault format asked old new fault cause
+  source_fault asked old new fault (library error) whole = OrMemory-holds error whole
+  source_fault asked old new fault bad_arguments whole = absurd whole.holds
+  source_fault asked old new fault (ambiguous word choices) whole = whole
+  source_fault asked old new fault (no_walk from to) whole = whole
+  source_fault asked old new fault bad_input whole = whole
+  source_fault asked old new fault input_failed whole = tt
+  source_fault asked old new fault output_failed whole = absurd whole.holds
 
   module _ (args : List (List ℕ)) (asked : Asked) (is : format.asks args ≡ Some asked) (old new : Option (List ℕ)) where
     pub begun : (P : List ℕ → Type 0) (output front rest : List ℕ) → OfWholeInput old new (λ i. IsAnswerTo format asked i output) → output ≡ front ++ rest → P front

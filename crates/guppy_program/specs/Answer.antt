@@ -3,6 +3,7 @@ use Rattle.std.specs.Prelude.{◌≡◌, ◌↔◌, ◌<◌, ℕ, Bool, true, Is
 use Rattle.std.specs.List.{AllZip, concat, filter, list_all, list_any}
 use Rattle.std.specs.Str.{bytes_eq}
 use Rattle.guppy_search.specs.declared.ix.direction.DependencyDirection.{DependencyDirection}
+use Rattle.guppy_search.specs.declared.ix.direction.DependencyDirection.TheVariants.{Forward}
 use Rattle.guppy_search.specs.declared.graph_core.link.Link.{Link}
 use Rattle.guppy_core.specs.Reach.{LinkStep, ReachedFrom}
 use Rattle.guppy_data.specs.declared.records.LinkRecord.{LinkRecord}
@@ -24,20 +25,29 @@ use Rattle.guppy.specs.FirmCycles.{HasNoFirmCycle}
 use Rattle.guppy.specs.Verified.{IsVerified, IsVerifyFault as IsGraphFault}
 use Rattle.guppy.specs.Walked.{AreWalkedLinks}
 use Rattle.guppy_affected.specs.Affected.{AreAffectedIds}
+use Rattle.guppy_duplicates.specs.Duplicates.{AreDuplicates}
 use Rattle.guppy_publish.specs.Publishing.{ArePublishIds}
+use Rattle.guppy_why.specs.Walk.{NoWalk, Between}
+use Rattle.guppy_program.specs.declared.options.Kinds.{Kinds}
 use Rattle.guppy_program.specs.declared.options.Options.{Options}
-use Rattle.guppy_program.specs.Cause.{Cause, library, ambiguous}
-use Rattle.guppy_program.specs.Command.{Command, reach, depends, order, roots, links, cycles, verify, publish_order, affected}
+use Rattle.guppy_program.specs.Cause.{Cause, library, ambiguous, no_walk}
+use Rattle.guppy_program.specs.Command.{Command, reach, depends, why, order, roots, links, cycles, duplicates, verify, publish_order, dot, affected}
+use Rattle.guppy_program.specs.Dot.{Drawing, IsDrawing, among}
 use Rattle.guppy_program.specs.Format.{Format, alternatives}
+use Rattle.guppy_program.specs.Publish.{is_publishable}
+use Rattle.guppy_program.specs.Steps.{AreSteps}
 
 -- an answer, each package in it by its ID: a set of packages, packages in an order, rows of packages
--- in an order, as the ends of links or cycles, whether something holds, or that all is well
+-- in an order, as the ends of links or cycles, the packages of a walk, each with the kinds of the link
+-- that leads to it, whether something holds, that all is well, or packages and links as they are drawn
 pub data Answer : Type 0 where
   package_set : List (List ℕ) → Answer
   package_list : List (List ℕ) → Answer
   package_rows : List (List (List ℕ)) → Answer
+  package_steps : List (List ℕ × Kinds) → Answer
   truth : Bool → Answer
   all_well : Answer
+  drawing : Drawing → Answer
 
 -- the word means the package with this ID alone, as `meant` tells which ones it may mean
 abbrev pub Means : (List ℕ → List (List ℕ)) → List ℕ → List ℕ → Type 0
@@ -85,6 +95,17 @@ pub record IsDependsAnswer (g : GraphData) (meant : List ℕ → List (List ℕ)
   pub to_known : IsKnown g.packages to_id
   pub exact : TellsDependence g from_id to_id answer
 
+-- a shortest walk of links from the first package meant to the second
+pub record IsWhyAnswer (g : GraphData) (meant : List ℕ → List (List ℕ)) (from to : List ℕ)
+    (answer : Answer) : Type 0 where
+  pub from_id : List ℕ
+  pub to_id : List ℕ
+  pub from_named : Means meant from from_id
+  pub to_named : Means meant to to_id
+  pub steps : List (List ℕ × Kinds)
+  pub exact : AreSteps g from_id to_id steps
+  pub told : answer ≡ package_steps steps
+
 -- the packages in an order of them
 pub record IsOrderAnswer (g : GraphData) (answer : Answer) : Type 0 where
   pub ordered : IsInOrder g
@@ -124,19 +145,26 @@ pub record IsCyclesAnswer (g : GraphData) (answer : Answer) : Type 0 where
   pub common : (a b : List ℕ) → AreOnOne (cycles_of g) a b ↔ AreCyclic g a b
   pub told : answer ≡ package_rows (cycles_of g)
 
+-- the packages whose name another one has, too, each with those that need it
+pub record IsDuplicatesAnswer (g : GraphData) (answer : Answer) : Type 0 where
+  pub rows : List (List (List ℕ))
+  pub exact : AreDuplicates g rows
+  pub told : answer ≡ package_rows rows
+
 -- the graph is a verified graph, and no cycle is over links that aren't dev-only
 pub record IsVerifyAnswer (g : GraphData) (answer : Answer) : Type 0 where
   pub verified : IsVerified g
   pub acyclic : HasNoFirmCycle g
   pub told : answer ≡ all_well
 
--- the members in a publish order
-pub record IsPublishAnswer (g : GraphData) (answer : Answer) : Type 0 where
+-- the members in a publish order, or of these those alone that can be published
+pub record IsPublishAnswer (g : GraphData) (publishable : Bool) (answer : Answer) : Type 0 where
   pub verified : IsVerified g
   pub acyclic : HasNoFirmCycle g
   pub ids : List (List ℕ)
   pub exact : ArePublishIds g ids
-  pub told : answer ≡ package_list ids
+  pub told : answer ≡ package_list
+      (if publishable then filter (is_publishable g.packages) ids else ids)
 
 -- the path without a `./` at its front
 abbrev pub from_root : List ℕ → List ℕ
@@ -149,22 +177,43 @@ pub record IsAffectedAnswer (g : GraphData) (ignored paths : List (List ℕ))
   pub exact : AreAffectedIds g (map from_root paths) (map from_root ignored) ids
   pub told : answer ≡ package_list ids
 
+-- the package at the position is drawn: each where no ID is given, else one of those named, or one to which
+-- links lead from these
+abbrev pub IsDrawn : GraphData → List (List ℕ) → ℕ → Type 0
+IsDrawn g [] p = p < length g.packages
+IsDrawn g (id ∷ ids) p = ReachedFrom (LinkStep Forward g.links) (IsNamed g (id ∷ ids)) p
+
+-- the packages meant and those that they reach, or all where none is given, as they are drawn
+pub record IsDotAnswer (g : GraphData) (meant : List ℕ → List (List ℕ)) (words : List (List ℕ))
+    (answer : Answer) : Type 0 where
+  pub ids : List (List ℕ)
+  pub named : AllZip (Means meant) words ids
+  pub known : All (IsKnown g.packages) ids
+  pub drawn : Drawing
+  pub exact : IsDrawing g (IsDrawn g ids) drawn
+  pub told : answer ≡ drawing drawn
+
 -- this is an answer to the command, whose words mean what `meant` tells
 abbrev pub IsAnswer : (List ℕ → List (List ℕ)) → Command → GraphData → Answer → Type 0
 IsAnswer meant (reach direction words) g answer = IsReachAnswer direction g meant words answer
 IsAnswer meant (depends from to) g answer = IsDependsAnswer g meant from to answer
+IsAnswer meant (why from to) g answer = IsWhyAnswer g meant from to answer
 IsAnswer meant order g answer = IsOrderAnswer g answer
 IsAnswer meant (roots direction) g answer = IsRootsAnswer direction g answer
 IsAnswer meant (links direction) g answer = IsLinksAnswer direction g answer
 IsAnswer meant cycles g answer = IsCyclesAnswer g answer
+IsAnswer meant duplicates g answer = IsDuplicatesAnswer g answer
 IsAnswer meant verify g answer = IsVerifyAnswer g answer
-IsAnswer meant publish_order g answer = IsPublishAnswer g answer
+IsAnswer meant (publish_order publishable) g answer = IsPublishAnswer g publishable answer
+IsAnswer meant (dot words) g answer = IsDotAnswer g meant words answer
 IsAnswer meant (affected ignored paths) g answer = IsAffectedAnswer g ignored paths answer
 
 -- the words by which a command names packages, in their order
 abbrev pub words_of : Command → List (List ℕ)
 words_of (reach direction words) = words
 words_of (depends from to) = from ∷ to ∷ []
+words_of (why from to) = from ∷ to ∷ []
+words_of (dot words) = words
 words_of _ = []
 
 -- the word means one package
@@ -187,13 +236,29 @@ IsWordFault format packages words _ = ⊥
 -- the fault is one that `verify` may tell of the graph, and the command asks for it
 abbrev pub IsVerifyFault : Command → GraphData → VerifyFault → Type 0
 IsVerifyFault verify g fault = IsGraphFault g fault
-IsVerifyFault publish_order g fault = IsGraphFault g fault
+IsVerifyFault (publish_order publishable) g fault = IsGraphFault g fault
 IsVerifyFault _ g fault = ⊥
+
+-- no walk of links leads from the first package meant to the second
+pub record IsWithoutWalk (g : GraphData) (meant : List ℕ → List (List ℕ)) (from to : List ℕ) : Type 0 where
+  pub from_id : List ℕ
+  pub to_id : List ℕ
+  pub from_named : Means meant from from_id
+  pub to_named : Means meant to to_id
+  pub apart : Between g from_id to_id (NoWalk g.links)
+
+-- the command asks for a walk between the packages of these words, and there is none
+abbrev pub IsWalkFault : (List ℕ → List (List ℕ)) → Command → GraphData → List ℕ → List ℕ → Type 0
+IsWalkFault meant (why from to) g start end =
+    (start ≡ from) × (end ≡ to) × IsWithoutWalk g meant from to
+IsWalkFault meant _ g start end = ⊥
 
 -- the command is refused so, of this graph, or memory ran out
 abbrev pub IsCommandFault : {Fault : Type 0} → Format Fault → Command → GraphData → Cause → Type 0
 IsCommandFault format command g (library (PackageGraphInternalError fault)) =
     IsVerifyFault command g fault
+IsCommandFault format command g (no_walk from to) =
+    IsWalkFault (format.meant g.packages) command g from to
 IsCommandFault format command g cause = IsWordFault format g.packages (words_of command) cause
 
 -- a member of the workspace has the ID
@@ -204,12 +269,15 @@ is_member packages id = list_any (λ r. bytes_eq id r.id && is_some (member_path
 abbrev pub AreMembers : SetData → Type 0
 AreMembers s = IsSetWhere s.graph.packages (IsMember s.graph.packages) s.included
 
--- of a set or a list the members, and of rows those of members alone
+-- of a set, a list or a walk the members, and of rows those of members alone, as of links that are drawn
 abbrev pub of_members : List PackageRecord → Answer → Answer
 of_members packages (package_set ids) = package_set (filter (is_member packages) ids)
 of_members packages (package_list ids) = package_list (filter (is_member packages) ids)
 of_members packages (package_rows rows) =
     package_rows (filter (list_all (is_member packages)) rows)
+of_members packages (package_steps steps) =
+    package_steps (filter (λ step. is_member packages step.0) steps)
+of_members packages (drawing drawn) = drawing (among (is_member packages) drawn)
 of_members packages answer = answer
 
 -- what the options have shown of an answer

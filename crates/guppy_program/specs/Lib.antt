@@ -1,10 +1,15 @@
 pub mod Device
 pub mod Cause
+pub mod Platforms
 pub mod Options
 pub mod Command
 pub mod Shown
 pub mod Format
 pub mod Loaded
+pub mod Steps
+pub mod Publish
+pub mod Dot
+pub mod DotText
 pub mod Answer
 pub mod Printed
 pub mod Run

@@ -1,11 +1,11 @@
 -- The lines of an input, as `guppy-run` reads them.
-use Rattle.std.specs.Prelude.{ℕ, List, [], ◌∷◌, if◌then◌else◌}
+use Rattle.std.specs.Prelude.{ℕ, List, [], ◌∷◌, string_bytes, if◌then◌else◌}
 use Rattle.guppy_data.specs.declared.records.PackageRecord.{PackageRecord}
 use Rattle.guppy_data.specs.declared.records.LinkRecord.{LinkRecord}
 use Rattle.guppy_data.specs.declared.records.WorkspaceRecord.{WorkspaceRecord}
 use Rattle.guppy_program.specs.declared.lines.fault.RunFault.{RunFault}
-use Rattle.guppy_program.specs.declared.lines.fault.RunFault.TheVariants.{Library, BadArguments, BadLine, InputFailed, OutputFailed}
-use Rattle.guppy_program.specs.Cause.{Cause, library, bad_arguments, bad_input, input_failed, output_failed}
+use Rattle.guppy_program.specs.declared.lines.fault.RunFault.TheVariants.{Library, BadArguments, NoWalk, BadLine, InputFailed, OutputFailed}
+use Rattle.guppy_program.specs.Cause.{Cause, library, bad_arguments, no_walk, bad_input, input_failed, output_failed}
 use Rattle.guppy_program.specs.Command.{asked_by, command_of}
 use Rattle.guppy_program.specs.Format.{Format, has_id}
 use Rattle.guppy_program.specs.Text.{IsAllGood, IsFirstBadLine, statements_of}
@@ -39,6 +39,7 @@ lines_format = record {
 abbrev pub cause_of : RunFault → Cause
 cause_of (Library error) = library error
 cause_of BadArguments = bad_arguments
+cause_of (NoWalk from to) = no_walk (string_bytes from) (string_bytes to)
 cause_of (BadLine number) = bad_input
 cause_of InputFailed = input_failed
 cause_of OutputFailed = output_failed

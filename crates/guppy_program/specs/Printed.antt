@@ -5,7 +5,9 @@ use Rattle.std.specs.List.Sorted.{IsStrictlySortedBy}
 use Rattle.std.specs.Ordering.{nat_cmp}
 use Rattle.std.specs.Cmp.Lexicographic.{slice_cmp}
 use Rattle.guppy_program.specs.declared.options.Options.{Options}
-use Rattle.guppy_program.specs.Answer.{Answer, package_set, package_list, package_rows, truth, all_well}
+use Rattle.guppy_program.specs.Answer.{Answer, package_set, package_list, package_rows, package_steps, truth, all_well, drawing}
+use Rattle.guppy_program.specs.DotText.{dot_text}
+use Rattle.guppy_program.specs.Steps.{kind_names}
 
 abbrev pub line_of : List ℕ → List ℕ
 line_of text = text ++ 10 ∷ []
@@ -41,5 +43,8 @@ abbrev pub IsPrinted : (List ℕ → List ℕ) → Answer → List ℕ → Type 
 IsPrinted text (package_set ids) output = AreSortedLines (map text ids) output
 IsPrinted text (package_list ids) output = output ≡ lines_of (map text ids)
 IsPrinted text (package_rows rows) output = output ≡ lines_of (map (λ ids. joined (map text ids)) rows)
+IsPrinted text (package_steps steps) output =
+    output ≡ lines_of (map (λ step. joined (text step.0 ∷ kind_names step.1)) steps)
 IsPrinted text (truth holds) output = output ≡ truth_line holds
 IsPrinted text all_well output = output ≡ line_of (codes "ok")
+IsPrinted text (drawing drawn) output = output ≡ dot_text text drawn

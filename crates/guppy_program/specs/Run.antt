@@ -2,7 +2,7 @@
 use Rattle.std.specs.Prelude.{◌≡◌, ◌↔◌, ◌⊎◌, ℕ, Bool, List, ◌++◌, Option, Some, None, IfSome, IsNone, Result, Err, OnOk}
 use Rattle.std.specs.Io.KnownBytes.{IsAtEnd, Appends}
 use Rattle.guppy.specs.Graph.{GraphData}
-use Rattle.guppy_program.specs.Cause.{Cause, library, bad_arguments, ambiguous, bad_input, input_failed, output_failed, OrMemory, caused, is_input_fault, is_output_fault}
+use Rattle.guppy_program.specs.Cause.{Cause, library, bad_arguments, ambiguous, no_walk, bad_input, input_failed, output_failed, OrMemory, caused, is_input_fault, is_output_fault}
 use Rattle.guppy_program.specs.Command.{Asked}
 use Rattle.guppy_program.specs.Format.{Format}
 use Rattle.guppy_program.specs.Loaded.{IsLoaded, AreRefused}
@@ -18,25 +18,27 @@ pub record IsAnswerOf {Fault : Type 0} (format : Format Fault) (asked : Asked) (
   pub printed : IsPrinted (called asked.options (format.text g.packages))
       (shown asked.options g.packages answer) output
 
--- the output is an answer to what is asked, of the graph that the input says, with the links of the
--- kinds that are asked for
+-- the output is an answer to what is asked, of the graph that the input says, with the links that are
+-- asked for
 abbrev pub IsAnswerTo : {Fault : Type 0} → Format Fault → Asked → List ℕ → List ℕ → Type 0
 IsAnswerTo format asked input output = (g : GraphData)
-    × IsLoaded format asked.options.kinds input g × IsAnswerOf format asked g output
+    × IsLoaded format asked.options.kinds asked.platforms input g × IsAnswerOf format asked g output
 
 -- the command is refused so, of this graph
 abbrev pub IsRefusedOf : {Fault : Type 0} → Format Fault → Asked → List ℕ → Cause → Type 0
 IsRefusedOf format asked input cause = (g : GraphData)
-    × IsLoaded format asked.options.kinds input g × IsCommandFault format asked.command g cause
+    × IsLoaded format asked.options.kinds asked.platforms input g × IsCommandFault format asked.command g cause
 
 -- the fault, with this cause, is one of the input, or of the command on this graph
 abbrev pub IsFaultOf : {Fault : Type 0} → Format Fault → Asked → List ℕ → Fault → Cause → Type 0
 IsFaultOf format asked input fault bad_input = format.refuses input fault
 IsFaultOf format asked input fault (library error) =
-    OrMemory (AreRefused format asked.options.kinds input error
+    OrMemory (AreRefused format asked.options.kinds asked.platforms input error
     ⊎ IsRefusedOf format asked input (library error)) error
 IsFaultOf format asked input fault (ambiguous word texts) =
     IsRefusedOf format asked input (ambiguous word texts)
+IsFaultOf format asked input fault (no_walk from to) =
+    IsRefusedOf format asked input (no_walk from to)
 IsFaultOf format asked input fault _ = ⊥
 
 -- the source has come to its end, and P holds of what was read, which is all that it had where that
@@ -62,6 +64,15 @@ abbrev pub IsBegun : {Fault : Type 0} → Format Fault → List (List ℕ) → L
     → (List ℕ → Type 0) → Type 0
 IsBegun format args input P = OfAsked format args (λ asked.
     (front rest : List ℕ) × IsAnswerTo format asked input (front ++ rest) × P front)
+
+-- the arguments give no command, or the fault is one of what they ask of the input, or memory ran out
+abbrev pub IsAnswerFault : {Fault : Type 0} → Format Fault → List (List ℕ) → List ℕ → Fault → Cause
+    → Type 0
+IsAnswerFault format args input fault bad_arguments = IsNone (format.asks args)
+IsAnswerFault format args input fault (library error) = OrMemory
+    (OfAsked format args (λ asked. IsFaultOf format asked input fault (library error))) error
+IsAnswerFault format args input fault cause =
+    OfAsked format args (λ asked. IsFaultOf format asked input fault cause)
 
 -- the source could not be read, or it came to its end, and the fault is one of all that it had, or
 -- memory ran out

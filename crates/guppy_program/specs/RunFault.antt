@@ -1,17 +1,20 @@
 -- What a fault of the program prints, and the status that it ends with.
-use Rattle.std.specs.Prelude.{ℕ, List, ◌++◌, codes}
+use Rattle.std.specs.Prelude.{ℕ, List, ◌++◌, codes, string_bytes}
 use Rattle.std.specs.Fmt.{decimal}
 use Rattle.guppy_data.specs.Texts.{error_text}
 use Rattle.guppy_program.specs.declared.lines.fault.RunFault.{RunFault}
-use Rattle.guppy_program.specs.declared.lines.fault.RunFault.TheVariants.{Library, BadArguments, BadLine, InputFailed, OutputFailed}
+use Rattle.guppy_program.specs.declared.lines.fault.RunFault.TheVariants.{Library, BadArguments, NoWalk, BadLine, InputFailed, OutputFailed}
 
 abbrev pub fault_text : RunFault → List ℕ
 fault_text (Library error) = error_text error
 fault_text BadArguments = codes "bad arguments"
+fault_text (NoWalk from to) =
+    codes "no links lead from " ++ string_bytes from ++ codes " to " ++ string_bytes to
 fault_text (BadLine number) = codes "bad line " ++ decimal number
 fault_text InputFailed = codes "input failed"
 fault_text OutputFailed = codes "output failed"
 
 abbrev pub status_of : RunFault → ℕ
 status_of (Library error) = 1
+status_of (NoWalk from to) = 1
 status_of _ = 2

@@ -1,7 +1,7 @@
 //! What a command answers of a package graph.
 ghost use Rattle.std.specs.Prelude.{◌≡◌, ◌↔◌, ◌∷◌, [], ℕ, List, map, string_bytes, IfOk, IfErr, IsOkUnless, OnOk, All, length};
 ghost use Rattle.std.specs.List.{AllZip};
-ghost use Rattle.guppy.specs.Ids.{IsKnown};
+ghost use Rattle.guppy.specs.Ids.{IsKnown, DistinctBelow};
 ghost use Rattle.guppy.specs.ListedCycles.{cycle_left};
 ghost use Rattle.guppy.specs.Query.{IncludesId};
 ghost use Rattle.guppy.specs.Refused.{NamesId, IsFirstUnknown};
@@ -9,17 +9,30 @@ ghost use Rattle.guppy.specs.Verified.{TellsVerifyFault, IsVerifyFault as IsGrap
 ghost use Rattle.guppy.specs.Views.{link_data};
 ghost use Rattle.guppy_program.specs.Cause.{Cause, library};
 ghost use Rattle.guppy_program.specs.Command.{ignored_in, paths_in};
-ghost use Rattle.guppy_program.specs.Answer.{Means, IsReached, AreReached, IsReachAnswer, TellsDependence, IsDependsAnswer, IsOrderAnswer, IsRootsAnswer, IsLinksAnswer, IsCyclesAnswer, IsVerifyAnswer, IsPublishAnswer, IsAffectedAnswer, IsAnswer, IsWordFault, IsVerifyFault, IsCommandFault, from_root, end_ids};
+ghost use Rattle.guppy_program.specs.Answer.{Means, IsReached, AreReached, IsReachAnswer, TellsDependence, IsDependsAnswer, IsOrderAnswer, IsRootsAnswer, IsLinksAnswer, IsCyclesAnswer, IsDuplicatesAnswer, IsVerifyAnswer, IsDotAnswer, IsAffectedAnswer, IsAnswer, IsWordFault, IsVerifyFault, IsCommandFault, from_root, end_ids};
 ghost use Rattle.guppy_program.specs.Shown.{answer_shown, command_shown};
 
 use crate::command::{Command, is_ignore};
+use crate::dot::{Drawing, drawing_of};
 use crate::fault::{ProgramFault, passed_on, want_of_memory};
 use crate::format::Format;
+use crate::options::Kinds;
+use crate::publish::published;
+use crate::why::why;
 use guppy::graph::DependencyDirection;
 use guppy::{CycleIds, Error, PackageGraph, PackageId, PackageLink, PackageSet};
 use guppy_affected::affected;
-use guppy_publish::publish_order;
+use guppy_duplicates::duplicates;
 use std::alloc::{AllocError, Global};
+
+/// A package to which a walk of links leads.
+#[derive(Clone, Copy, Debug)]
+pub struct Step<'g> {
+    /// The package.
+    pub id: &'g PackageId,
+    /// The kinds of the sections of the link that leads to it: none at the first package.
+    pub kinds: Kinds,
+}
 
 /// What a command answers. The graph has the IDs.
 #[derive(Debug, Drop)]
@@ -30,12 +43,16 @@ pub enum Answer<'g> {
     List(Vec<&'g PackageId>),
     /// The packages that links go from and to.
     Pairs(Vec<(&'g PackageId, &'g PackageId)>),
-    /// The packages of cycles.
+    /// Packages that belong together, as those of a cycle.
     Rows(Vec<Vec<&'g PackageId>>),
+    /// The packages of a walk.
+    Steps(Vec<Step<'g>>),
     /// Whether something holds.
     Truth(bool),
     /// All is well.
     AllWell,
+    /// Packages and links as they are drawn.
+    Drawing(Drawing<'g>),
 }
 
 // The IDs of the packages that the words mean, where each means one.
@@ -212,6 +229,14 @@ fn cycles(alloc: Global, graph: &PackageGraph) -> Result<Answer<'_>, Error>
     Ok(Answer::Rows(rows))
 }
 
+// The packages whose name another one has, too, each with those that need it.
+fn repeated(graph: &PackageGraph) -> Result<Answer<'_>, Error>
+    ensures ok { IfOk result (λ answer. IsDuplicatesAnswer graph.now (answer_shown answer)) }
+    ensures err { IsOkUnless result Error.OutOfMemory }
+{
+    Ok(Answer::Rows(duplicates(graph)?))
+}
+
 fn verified(graph: &PackageGraph) -> Result<Answer<'_>, Error>
     ensures ok { IfOk result (λ answer. IsVerifyAnswer graph.now (answer_shown answer)) }
     ensures err { IfErr result (TellsVerifyFault (IsGraphFault graph.now)) }
@@ -220,11 +245,21 @@ fn verified(graph: &PackageGraph) -> Result<Answer<'_>, Error>
     Ok(Answer::AllWell)
 }
 
-fn published(graph: &PackageGraph) -> Result<Answer<'_>, Error>
-    ensures ok { IfOk result (λ answer. IsPublishAnswer graph.now (answer_shown answer)) }
-    ensures err { IfErr result (TellsVerifyFault (IsGraphFault graph.now)) }
+fn dot<'g, F: Format>(
+    alloc: Global,
+    graph: &'g PackageGraph,
+    names: &F::Names,
+    words: &[String],
+) -> Result<Answer<'g>, F::Fault>
+    requires { F.are_names names.now graph.now.packages }
+    ensures ok { IfOk result (λ answer. IsDotAnswer graph.now
+        (F.format.meant graph.now.packages) (map string_bytes words.now) (answer_shown answer)) }
+    ensures err { IfErr result (λ fault. IsWordFault F.format graph.now.packages
+        (map string_bytes words.now) (F.Fault.cause fault)) }
 {
-    Ok(Answer::List(publish_order(graph)?))
+    let ids = all_meant::<F>(alloc, graph, names, words)?;
+    let drawing = passed_on(drawing_of(alloc, graph, &ids))?;
+    Ok(Answer::Drawing(drawing))
 }
 
 // The path without a `./` at its front.
@@ -273,7 +308,8 @@ fn tested<'g>(alloc: Global, graph: &'g PackageGraph, words: &[String]) -> Resul
 
 /// What the command answers of the graph, whose packages have these names.
 ///
-/// The first word of the command that means no package, or may mean several, is told. An error
+/// The first word of the command that means no package, or may mean several, is told, and for `why` that no
+/// links lead from one package to the other. An error
 /// `PackageGraphInternalError`, for `verify` and `publish-order` alone, tells what the graph's `verify`
 /// refuses.
 ///
@@ -285,7 +321,8 @@ pub fn answer_of<'g, F: Format>(
     names: &F::Names,
     command: &Command<'_>,
 ) -> Result<Answer<'g>, F::Fault>
-    requires { F.are_names names.now graph.now.packages }
+    requires names { F.are_names names.now graph.now.packages }
+    requires distinct { DistinctBelow graph.now.packages (length graph.now.packages) }
     ensures ok { IfOk result (λ answer. IsAnswer (F.format.meant graph.now.packages)
         (command_shown command.now) graph.now (answer_shown answer)) }
     ensures err { IfErr result (λ fault. IsCommandFault F.format (command_shown command.now)
@@ -294,12 +331,15 @@ pub fn answer_of<'g, F: Format>(
     match command {
         Command::Reach(direction, words) => { reach::<F>(alloc, graph, names, *direction, words) }
         Command::Depends(from, to) => depends::<F>(alloc, graph, names, from, to),
+        Command::Why(from, to) => why::<F>(alloc, graph, names, from, to),
         Command::Order => passed_on(order(alloc, graph)),
         Command::Roots(direction) => passed_on(roots(alloc, graph, *direction)),
         Command::Links(direction) => passed_on(links(alloc, graph, *direction)),
         Command::Cycles => passed_on(cycles(alloc, graph)),
+        Command::Duplicates => passed_on(repeated(graph)),
         Command::Verify => passed_on(verified(graph)),
-        Command::PublishOrder => passed_on(published(graph)),
+        Command::PublishOrder { publishable } => passed_on(published(graph, *publishable)),
+        Command::Dot(words) => dot::<F>(alloc, graph, names, words),
         Command::Affected(words) => passed_on(tested(alloc, graph, words)),
     }
 }

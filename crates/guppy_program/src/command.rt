@@ -1,6 +1,6 @@
 //! What the arguments ask.
 ghost use Rattle.std.specs.Prelude.{◌≡◌, map, string_bytes, option_map};
-ghost use Rattle.guppy_program.specs.Command.{command_of, direction_of, lone_direction_of, reach_of, depends_of, plain_command_of, alone, is_ignore, are_affected_words, affected_of};
+ghost use Rattle.guppy_program.specs.Command.{command_of, direction_of, lone_direction_of, reach_of, depends_of, why_of, plain_command_of, publish_of, alone, is_ignore, is_dashed, are_affected_words, affected_of};
 ghost use Rattle.guppy_program.specs.Shown.{command_shown};
 
 use crate::options::Options;
@@ -11,6 +11,8 @@ use guppy_core::DependencyDirection;
 pub struct Asked<'a> {
     /// What is asked of every command.
     pub options: Options,
+    /// The words, in which options at the front name the platforms that links count on.
+    pub words: &'a [String],
     /// The command.
     pub command: Command<'a>,
 }
@@ -22,6 +24,8 @@ pub enum Command<'a> {
     Reach(DependencyDirection, &'a [String]),
     /// Whether the first package depends on the second.
     Depends(&'a str, &'a str),
+    /// A shortest walk of links from the first package to the second.
+    Why(&'a str, &'a str),
     /// All packages in their order, dependents first.
     Order,
     /// The roots of all packages in the direction, by position.
@@ -30,10 +34,17 @@ pub enum Command<'a> {
     Links(DependencyDirection),
     /// The cycles in the order of the packages.
     Cycles,
+    /// The packages whose name another one has, too, each with those that need it.
+    Duplicates,
     /// Whether the graph is a verified graph.
     Verify,
     /// The members of the workspace, each after those that it needs.
-    PublishOrder,
+    PublishOrder {
+        /// Whether those that can be published are wanted alone.
+        publishable: bool,
+    },
+    /// What these packages reach, or all where none is given, as it is drawn.
+    Dot(&'a [String]),
     /// The members to test when the files at these paths changed, but for those in a folder behind a word
     /// `--ignore`.
     Affected(&'a [String]),
@@ -83,6 +94,15 @@ fn depends_of(words: &[String]) -> Option<Command<'_>>
     Some(Command::Depends(from.as_str(), to.as_str()))
 }
 
+fn why_of(words: &[String]) -> Option<Command<'_>>
+    ensures { option_map command_shown result ≡ why_of (map string_bytes words.now) }
+{
+    let [from, to] = words else {
+        return None;
+    };
+    Some(Command::Why(from.as_str(), to.as_str()))
+}
+
 // The command of this one word.
 fn plain_command_of<'a>(word: &str) -> Option<Command<'a>>
     ensures { option_map command_shown result ≡ plain_command_of word.now }
@@ -91,12 +111,25 @@ fn plain_command_of<'a>(word: &str) -> Option<Command<'a>>
         Some(Command::Order)
     } else if word == "cycles" {
         Some(Command::Cycles)
+    } else if word == "duplicates" {
+        Some(Command::Duplicates)
     } else if word == "verify" {
         Some(Command::Verify)
-    } else if word == "publish-order" {
-        Some(Command::PublishOrder)
     } else {
         None
+    }
+}
+
+// All members, or with `--publishable` those alone that can be published.
+fn publish_of<'a>(words: &[String]) -> Option<Command<'a>>
+    ensures { option_map command_shown result ≡ publish_of (map string_bytes words.now) }
+{
+    match words {
+        [] => Some(Command::PublishOrder { publishable: false }),
+        [word] if word.as_str() == "--publishable" => {
+            Some(Command::PublishOrder { publishable: true })
+        }
+        _ => None,
     }
 }
 
@@ -106,6 +139,14 @@ fn alone<'a>(command: Option<Command<'a>>, words: &[String]) -> Option<Command<'
         ≡ alone (option_map command_shown command.entry) (map string_bytes words.now) }
 {
     if words.is_empty() { command } else { None }
+}
+
+// The command of this one word, where no words are behind it.
+fn lone_command_of<'a>(word: &str, words: &[String]) -> Option<Command<'a>>
+    ensures { option_map command_shown result
+        ≡ alone (plain_command_of word.now) (map string_bytes words.now) }
+{
+    alone(plain_command_of(word), words)
 }
 
 /// The command that the arguments give, if they give one. Takes time linear in their lengths, and no memory.
@@ -119,12 +160,18 @@ pub fn command_of(args: &[String]) -> Option<Command<'_>>
         reach_of(words)
     } else if word.as_str() == "depends" {
         depends_of(words)
+    } else if word.as_str() == "why" {
+        why_of(words)
     } else if word.as_str() == "roots" {
         Some(Command::Roots(lone_direction_of(words)?))
     } else if word.as_str() == "links" {
         Some(Command::Links(lone_direction_of(words)?))
+    } else if word.as_str() == "publish-order" {
+        publish_of(words)
+    } else if word.as_str() == "dot" {
+        Some(Command::Dot(words))
     } else {
-        alone(plain_command_of(word.as_str()), words)
+        lone_command_of(word.as_str(), words)
     }
 }
 
@@ -134,7 +181,14 @@ pub(crate) fn is_ignore(word: &str) -> bool
     word == "--ignore"
 }
 
-// Whether a folder stands behind each `--ignore`.
+// Whether the word begins as an option does.
+fn is_dashed(word: &str) -> bool
+    ensures { result ≡ is_dashed word.now }
+{
+    word.starts_with('-')
+}
+
+// Whether a folder stands behind each `--ignore`, and no path begins as an option does.
 fn are_affected_words(words: &[String]) -> bool
     ensures { result ≡ are_affected_words (map string_bytes words.now) }
 {
@@ -146,13 +200,15 @@ fn are_affected_words(words: &[String]) -> bool
                 return false;
             };
             rest = after;
+        } else if is_dashed(word.as_str()) {
+            return false;
         }
     }
     true
 }
 
 /// The command whose words behind `affected` these are: paths, and folders to leave out, each behind
-/// `--ignore`. Takes time linear in their lengths, and no memory.
+/// `--ignore`. A path that begins with `-` is given as `./-`. Takes time linear in their lengths, and no memory.
 pub fn affected_of(words: &[String]) -> Option<Command<'_>>
     ensures { option_map command_shown result ≡ affected_of (map string_bytes words.now) }
 {

@@ -15,6 +15,13 @@ pub enum Fault {
     Library(Error),
     /// The arguments are no command.
     BadArguments,
+    /// No links lead from the package that the first word means to that of the second.
+    NoWalk {
+        /// The first word, as it was given.
+        from: String,
+        /// The second word.
+        to: String,
+    },
     /// The input could not be read.
     InputFailed,
     /// The output could not be written.

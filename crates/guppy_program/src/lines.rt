@@ -36,7 +36,11 @@ impl Format for Lines {
     fn asked_of(args: &[String]) -> Option<Asked<'_>> {
         let (options, words) = options_of(args);
         let command = command_of(words)?;
-        Some(Asked { options, command })
+        Some(Asked {
+            options,
+            words: args,
+            command,
+        })
     }
 
     fn records_of(alloc: Global, input: &[u8]) -> Result<Records, RunFault> {

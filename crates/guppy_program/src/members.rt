@@ -1,10 +1,12 @@
 //! The members of the workspace among the packages of an answer.
-ghost use Rattle.std.specs.Prelude.{◌≡◌, ◌∷◌, [], IfOk, IsOkUnless, map};
+ghost use Rattle.std.specs.Prelude.{◌≡◌, ◌&&◌, ◌∷◌, [], IfOk, IsOkUnless, map};
 ghost use Rattle.std.specs.List.{filter, list_all};
 ghost use Rattle.guppy_program.specs.Answer.{AreMembers, is_member, of_members, shown};
-ghost use Rattle.guppy_program.specs.Shown.{answer_shown};
+ghost use Rattle.guppy_program.specs.Dot.{edge_shown, node_shown};
+ghost use Rattle.guppy_program.specs.Shown.{answer_shown, step_shown};
 
-use crate::answer::Answer;
+use crate::answer::{Answer, Step};
+use crate::dot::{Edge, Node};
 use crate::options::Options;
 use guppy::{Error, PackageGraph, PackageId, PackageSet};
 
@@ -57,6 +59,35 @@ fn keep_rows(members: &PackageSet<'_>, rows: &mut Vec<Vec<&PackageId>>)
     rows.retain(|row| are_members(members, row.as_slice()));
 }
 
+// Leaves the others out.
+fn keep_steps(members: &PackageSet<'_>, steps: &mut Vec<Step<'_>>)
+    requires { AreMembers members.now }
+    ensures { map step_shown steps.new.items
+        ≡ filter (λ step. is_member members.now.graph.packages step.0) (map step_shown steps.old.items) }
+{
+    steps.retain(|step| is_member(members, step.id));
+}
+
+// Leaves the other packages out.
+fn keep_nodes(members: &PackageSet<'_>, nodes: &mut Vec<Node<'_>>)
+    requires { AreMembers members.now }
+    ensures { map node_shown nodes.new.items
+        ≡ filter (λ node. is_member members.now.graph.packages node.id)
+        (map node_shown nodes.old.items) }
+{
+    nodes.retain(|node| is_member(members, node.id));
+}
+
+// Leaves the links out of which another package is an end.
+fn keep_edges(members: &PackageSet<'_>, edges: &mut Vec<Edge<'_>>)
+    requires { AreMembers members.now }
+    ensures { map edge_shown edges.new.items
+        ≡ filter (λ edge. is_member members.now.graph.packages edge.from
+        && is_member members.now.graph.packages edge.to) (map edge_shown edges.old.items) }
+{
+    edges.retain(|edge| is_member(members, edge.from) && is_member(members, edge.to));
+}
+
 // The answer with these members alone.
 fn among<'g>(members: &PackageSet<'_>, answer: Answer<'g>) -> Answer<'g>
     requires { AreMembers members.now }
@@ -79,6 +110,15 @@ fn among<'g>(members: &PackageSet<'_>, answer: Answer<'g>) -> Answer<'g>
         Answer::Rows(mut rows) => {
             keep_rows(members, &mut rows);
             Answer::Rows(rows)
+        }
+        Answer::Steps(mut steps) => {
+            keep_steps(members, &mut steps);
+            Answer::Steps(steps)
+        }
+        Answer::Drawing(mut drawing) => {
+            keep_nodes(members, &mut drawing.nodes);
+            keep_edges(members, &mut drawing.edges);
+            Answer::Drawing(drawing)
         }
         Answer::Truth(holds) => Answer::Truth(holds),
         Answer::AllWell => Answer::AllWell,

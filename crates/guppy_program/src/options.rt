@@ -1,10 +1,14 @@
 //! What is asked of every command: which links count, and how an answer is shown.
-ghost use Rattle.std.specs.Prelude.{◌≡◌, ◌<◌, not, length, map, string_bytes, MatchOption};
-ghost use Rattle.guppy.specs.DevOnly.{is_absent};
+ghost use Rattle.std.specs.Prelude.{◌≡◌, ◌<◌, length, map, string_bytes, IfOk, MatchOption};
+ghost use Rattle.std.specs.List.{filter};
+ghost use Rattle.guppy_data.specs.Platform.{question_of};
 ghost use Rattle.guppy_program.specs.Text.{section_of};
-ghost use Rattle.guppy_program.specs.Options.{is_kind, names_kind, kinds_of, is_of, kept_links, with_flag, with_value, options_from, options_of};
+ghost use Rattle.guppy_program.specs.Options.{is_kind, names_kind, kinds_of, is_of, kinds_or_all, kept_links, is_flag, is_kinds_word, is_platform_word, with_flag, with_kinds, with_value, options_from, options_of, platforms_in};
 
-use guppy_data::{DependencyKind, DependencyReq, DependencyReqImpl, LinkRecord};
+use crate::platforms::{counts, is_platform, question_on};
+use guppy_data::{DependencyKind, LinkRecord, PlatformSpec};
+use guppy_target::Platform;
+use std::alloc::{AllocError, Global};
 
 /// Kinds of links.
 #[derive(Clone, Copy, Debug, PartialEq, Eq)]
@@ -70,32 +74,66 @@ fn kinds_of(word: &str) -> Option<Kinds>
     })
 }
 
-fn is_present(section: &DependencyReqImpl) -> bool
-    ensures { result ≡ not (is_absent section.now) }
-{
-    DependencyReq::new(section).is_present()
-}
-
 impl Kinds {
-    /// Whether the link has a section of one of these kinds, as it is asked for there on some platform.
-    pub fn has(self, link: &LinkRecord) -> bool
-        ensures { result ≡ is_of self link.now }
+    /// Whether the link has a section of one of these kinds that counts on the platforms.
+    pub fn has(self, platforms: &PlatformSpec<Platform>, link: &LinkRecord) -> bool
+        ensures { result ≡ is_of self (question_of platforms.now) link.now }
     {
-        (self.normal && is_present(&link.normal))
-            || (self.build && is_present(&link.build))
-            || (self.dev && is_present(&link.dev))
+        (self.normal && counts(platforms, &link.normal))
+            || (self.build && counts(platforms, &link.build))
+            || (self.dev && counts(platforms, &link.dev))
     }
 }
 
-impl Options {
-    /// Leaves out the links that don't count.
-    pub fn keep_links(&self, links: &mut Vec<LinkRecord>)
-        ensures { links.new.items ≡ kept_links self.now.kinds links.old.items }
-    {
-        if let Some(kinds) = self.kinds {
-            links.retain(|link| kinds.has(link));
-        }
+// These kinds, or all.
+fn kinds_or_all(kinds: Option<Kinds>) -> Kinds
+    ensures { result ≡ kinds_or_all kinds }
+{
+    match kinds {
+        Some(kinds) => kinds,
+        None => Kinds {
+            normal: true,
+            build: true,
+            dev: true,
+        },
     }
+}
+
+// Leaves out the links without a section of these kinds that counts on the platforms.
+fn keep_of(kinds: Kinds, platforms: &PlatformSpec<Platform>, links: &mut Vec<LinkRecord>)
+    ensures { links.new.items ≡ filter (is_of kinds (question_of platforms.now)) links.old.items }
+{
+    links.retain(|link| kinds.has(platforms, link));
+}
+
+/// Leaves out the links without a section of these kinds, or any, that counts on these platforms, or on any. Where
+/// neither are named, all links stay.
+///
+/// Takes no memory. Asks once for each text of a section and platform.
+pub fn keep_links(kinds: Option<Kinds>, platforms: Vec<Platform>, links: &mut Vec<LinkRecord>)
+    ensures { links.new.items ≡ kept_links kinds platforms.items links.old.items }
+{
+    if kinds.is_some() || !platforms.is_empty() {
+        keep_of(kinds_or_all(kinds), &question_on(platforms), links);
+    }
+}
+
+fn is_flag(word: &str) -> bool
+    ensures { result ≡ is_flag word.now }
+{
+    word == "--workspace" || word == "--ids"
+}
+
+fn is_kinds_word(word: &str) -> bool
+    ensures { result ≡ is_kinds_word word.now }
+{
+    word == "--kinds"
+}
+
+fn is_platform_word(word: &str) -> bool
+    ensures { result ≡ is_platform_word word.now }
+{
+    word == "--platform"
 }
 
 // The options with what the word alone asks, if it asks anything.
@@ -117,11 +155,11 @@ fn with_flag(options: Options, word: &str) -> Option<Options>
     }
 }
 
-// The options with what the word asks by the one behind it, if it asks anything.
-fn with_value(options: Options, word: &str, value: &str) -> Option<Options>
-    ensures { result ≡ with_value options word.now value.now }
+// The options with kinds, where they have none yet.
+fn with_kinds(options: Options, value: &str) -> Option<Options>
+    ensures { result ≡ with_kinds options value.now }
 {
-    if word != "--kinds" || options.kinds.is_some() {
+    if options.kinds.is_some() {
         return None;
     }
     let kinds = kinds_of(value)?;
@@ -129,6 +167,23 @@ fn with_value(options: Options, word: &str, value: &str) -> Option<Options>
         kinds: Some(kinds),
         ..options
     })
+}
+
+// The options with what the word asks by the one behind it, if it asks anything.
+fn with_value(options: Options, word: &str, value: &str) -> Option<Options>
+    ensures { result ≡ with_value options word.now value.now }
+{
+    if is_platform_word(word) {
+        if is_platform(value) {
+            Some(options)
+        } else {
+            None
+        }
+    } else if is_kinds_word(word) {
+        with_kinds(options, value)
+    } else {
+        None
+    }
 }
 
 // The options with the one at the front of the words, and the words behind it, if one stands there.
@@ -169,4 +224,29 @@ pub fn options_of(words: &[String]) -> (Options, &[String])
         rest = after;
     }
     (options, rest)
+}
+
+/// The texts of the platforms that the options at the front of the words name. Takes time linear in the words, and
+/// room for a reference a platform.
+pub fn platforms_in(alloc: Global, words: &[String]) -> Result<Vec<&str>, AllocError>
+    ensures { IfOk result (λ texts. map (λ text. text.now) texts.items
+        ≡ platforms_in (map string_bytes words.now)) }
+{
+    let mut texts = Vec::new(alloc);
+    let mut rest = words;
+    while let [word, after @ ..] = rest {
+        rest = after;
+        if !is_flag(word.as_str()) {
+            let [value, after @ ..] = rest else {
+                return Ok(texts);
+            };
+            rest = after;
+            if is_platform_word(word.as_str()) {
+                texts.push(value.as_str())?;
+            } else if !is_kinds_word(word.as_str()) {
+                return Ok(texts);
+            }
+        }
+    }
+    Ok(texts)
 }

@@ -1,17 +1,23 @@
 //! How an answer is printed.
-ghost use Rattle.std.specs.Prelude.{◌≡◌, ◌∷◌, ◌++◌, [], List, map, string_bytes, IfOk, OnOk};
+ghost use Rattle.std.specs.Prelude.{◌≡◌, ◌∷◌, ◌++◌, [], List, map, string_bytes, codes, IfOk, OnOk, if◌then◌else◌};
 ghost use Rattle.guppy_data.specs.declared.records.PackageRecord.{PackageRecord};
 ghost use Rattle.guppy_program.specs.Printed.{line_of, lines_of, joined, truth_line, called, AreSortedLines, IsPrinted};
-ghost use Rattle.guppy_program.specs.Shown.{answer_shown};
+ghost use Rattle.guppy_program.specs.Shown.{answer_shown, step_shown};
+ghost use Rattle.guppy_program.specs.Steps.{kind_names};
 
-use crate::answer::Answer;
+use crate::answer::{Answer, Step};
+use crate::dot_text::dot_text;
 use crate::format::Format;
-use crate::options::Options;
+use crate::options::{Kinds, Options};
 use guppy::{PackageId, SortedSet};
 use std::alloc::{AllocError, Global};
 
 // What is printed for the package with this ID.
-fn text_of<'a, F: Format>(options: &Options, names: &'a F::Names, id: &'a PackageId) -> &'a str
+pub(crate) fn text_of<'a, F: Format>(
+    options: &Options,
+    names: &'a F::Names,
+    id: &'a PackageId,
+) -> &'a str
     ensures { (packages : List PackageRecord) → F.are_names names.now packages
         → result.now ≡ called options.now (F.format.text packages) id.now }
 {
@@ -126,6 +132,48 @@ fn lines_of_rows<F: Format>(
     Ok(text)
 }
 
+// Adds a space and the name of a kind, if it is one of those that are told.
+fn push_kind(text: &mut String, is_told: bool, name: &str) -> Result<(), AllocError>
+    ensures { OnOk result (string_bytes text.new ≡ string_bytes text.old
+        ++ (if is_told then codes " " ++ name.now else [])) }
+{
+    if is_told {
+        text.push(' ')?;
+        text.push_str(name)?;
+    }
+    Ok(())
+}
+
+// Adds what a package is called, and the names of the kinds, on a line.
+fn push_step(text: &mut String, called: &str, kinds: Kinds) -> Result<(), AllocError>
+    ensures { OnOk result (string_bytes text.new ≡ string_bytes text.old
+        ++ line_of (joined (called.now ∷ kind_names kinds))) }
+{
+    text.push_str(called)?;
+    push_kind(text, kinds.normal, "normal")?;
+    push_kind(text, kinds.build, "build")?;
+    push_kind(text, kinds.dev, "dev")?;
+    text.push('\n')
+}
+
+fn lines_of_steps<F: Format>(
+    alloc: Global,
+    options: &Options,
+    names: &F::Names,
+    steps: &[Step<'_>],
+) -> Result<String, AllocError>
+    ensures { (packages : List PackageRecord) → F.are_names names.now packages
+        → IfOk result (λ text. string_bytes text
+        ≡ lines_of (map (λ step. joined (called options.now (F.format.text packages) step.0 ∷ kind_names step.1))
+        (map step_shown steps.now))) }
+{
+    let mut text = String::new(alloc);
+    for step in steps {
+        push_step(&mut text, text_of::<F>(options, names, step.id), step.kinds)?;
+    }
+    Ok(text)
+}
+
 fn truth_line(holds: bool) -> &'static str
     ensures { result.now ≡ truth_line holds }
 {
@@ -159,7 +207,9 @@ pub fn printed<F: Format>(
         }
         Answer::Pairs(pairs) => lines_of_pairs::<F>(alloc, options, names, pairs.as_slice()),
         Answer::Rows(rows) => lines_of_rows::<F>(alloc, options, names, rows.as_slice()),
+        Answer::Steps(steps) => lines_of_steps::<F>(alloc, options, names, steps.as_slice()),
         Answer::Truth(holds) => String::from_str(alloc, truth_line(*holds)),
+        Answer::Drawing(drawing) => dot_text::<F>(alloc, options, names, drawing),
         Answer::AllWell => String::from_str(alloc, "ok\n"),
     }
 }

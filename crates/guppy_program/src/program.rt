@@ -1,12 +1,16 @@
 //! A program, over any source and sink.
-ghost use Rattle.std.specs.Prelude.{◌≡◌, ◌↔◌, ◌++◌, ℕ, List, Some, false, map, string_bytes, Err, OnOk, IfOk, IfErr, IsNone, Bool};
+ghost use Rattle.std.specs.Prelude.{◌≡◌, ◌↔◌, ◌++◌, ℕ, List, Some, false, length, map, string_bytes, Err, OnOk, IfOk, IfErr, IsNone, Bool};
 ghost use Rattle.std.specs.Io.KnownBytes.{Appends};
-ghost use Rattle.guppy_program.specs.Cause.{Cause, bad_arguments, output_failed, caused, is_input_fault, is_output_fault};
+ghost use Rattle.std.specs.List.{AllZip};
+ghost use Rattle.guppy_data.specs.declared.texts.error.Error.TheVariants.{OutOfMemory};
+ghost use Rattle.guppy.specs.Ids.{DistinctBelow};
+ghost use Rattle.guppy_program.specs.Cause.{Cause, library, bad_arguments, output_failed, caused, is_input_fault, is_output_fault};
 ghost use Rattle.guppy_program.specs.Loaded.{IsLoaded, IsLoadFault};
 ghost use Rattle.guppy_program.specs.Answer.{IsAnswer, IsCommandFault};
+ghost use Rattle.guppy_program.specs.Platforms.{IsPlatform};
 ghost use Rattle.guppy_program.specs.Printed.{IsPrinted};
 ghost use Rattle.guppy_program.specs.Shown.{asked_shown};
-ghost use Rattle.guppy_program.specs.Run.{IsAnswerTo, IsAnswerOf, IsFaultOf, IsSourceFault, IsAnswered, IsBegun, IsRun, IsRunFault, OfWholeInput, WritesNothing};
+ghost use Rattle.guppy_program.specs.Run.{IsAnswerTo, IsAnswerOf, IsAnswerFault, IsFaultOf, IsSourceFault, IsAnswered, IsBegun, IsRun, IsRunFault, OfWholeInput, WritesNothing};
 
 use crate::answer::answer_of;
 use crate::command::Asked;
@@ -14,26 +18,46 @@ use crate::device::{Sink, Source};
 use crate::fault::{Fault, ProgramFault, passed_on, want_of_memory};
 use crate::format::Format;
 use crate::members::shown;
-use crate::options::Options;
+use crate::options::{keep_links, platforms_in};
+use crate::platforms::platforms_of;
 use crate::print::printed;
 use crate::transfer::{read_all, write_all};
 use guppy::{IntoGraph, PackageGraph};
+use guppy_target::Platform;
 use std::alloc::Global;
 use std::mem;
+
+// The platforms that the options name.
+fn named_platforms<F: ProgramFault>(alloc: Global, asked: &Asked<'_>) -> Result<Vec<Platform>, F>
+    ensures ok { IfOk result
+        (λ named. AllZip IsPlatform (asked_shown asked.now).platforms named.items) }
+    ensures err { IfErr result (λ fault. F.cause fault ≡ library OutOfMemory) }
+{
+    let Ok(texts) = platforms_in(alloc, asked.words) else {
+        return Err(want_of_memory());
+    };
+    // Texts that say no platform are bad arguments, so that what is wanting here is memory.
+    match platforms_of(alloc, texts.as_slice()) {
+        Ok(named) => Ok(named),
+        Err(_) => Err(want_of_memory()),
+    }
+}
 
 // The graph of the records that the input says, with the links that the options keep, and the names of its packages.
 fn load<F: Format>(
     alloc: Global,
-    options: &Options,
+    asked: &Asked<'_>,
     input: &[u8],
 ) -> Result<(PackageGraph, F::Names), F::Fault>
-    ensures ok { IfOk result (λ loaded. IsLoaded F.format options.now.kinds input.now loaded.0) }
+    ensures ok { IfOk result (λ loaded. IsLoaded F.format asked.now.options.kinds
+        (asked_shown asked.now).platforms input.now loaded.0) }
     ensures names { IfOk result (λ loaded. F.are_names loaded.1 loaded.0.packages) }
-    ensures err { IfErr result (λ fault.
-        IsLoadFault F.format options.now.kinds input.now fault (F.Fault.cause fault)) }
+    ensures err { IfErr result (λ fault. IsLoadFault F.format asked.now.options.kinds
+        (asked_shown asked.now).platforms input.now fault (F.Fault.cause fault)) }
 {
     let mut records = F::records_of(alloc, input)?;
-    options.keep_links(&mut records.links);
+    let platforms = named_platforms::<F::Fault>(alloc, asked)?;
+    keep_links(asked.options.kinds, platforms, &mut records.links);
     let Ok(names) = F::names_of(alloc, records.packages.as_slice()) else {
         return Err(want_of_memory());
     };
@@ -48,7 +72,8 @@ fn answer_text<F: Format>(
     names: &F::Names,
     asked: &Asked<'_>,
 ) -> Result<String, F::Fault>
-    requires { F.are_names names.now graph.now.packages }
+    requires names { F.are_names names.now graph.now.packages }
+    requires distinct { DistinctBelow graph.now.packages (length graph.now.packages) }
     ensures ok { IfOk result (λ text. IsAnswerOf F.format (asked_shown asked.now) graph.now
         (string_bytes text)) }
     ensures err { IfErr result (λ fault. IsCommandFault F.format (asked_shown asked.now).command
@@ -62,6 +87,21 @@ fn answer_text<F: Format>(
     }
 }
 
+// What is printed for what is asked of the graph that the input says. Lets go of the graph.
+fn answer_asked<F: Format>(
+    alloc: Global,
+    asked: &Asked<'_>,
+    input: &[u8],
+) -> Result<String, F::Fault>
+    ensures ok { IfOk result (λ text. IsAnswerTo F.format (asked_shown asked.now) input.now
+        (string_bytes text)) }
+    ensures err { IfErr result (λ fault. IsFaultOf F.format (asked_shown asked.now) input.now
+        fault (F.Fault.cause fault)) }
+{
+    let (graph, names) = load::<F>(alloc, asked, input)?;
+    answer_text::<F>(alloc, &graph, &names, asked)
+}
+
 // What is printed for what is asked of the graph that the input says.
 fn answer_input<F: Format>(
     alloc: Global,
@@ -73,7 +113,7 @@ fn answer_input<F: Format>(
     ensures err { IfErr result (λ fault. IsFaultOf F.format (asked_shown asked.now) input.now
         fault (F.Fault.cause fault)) }
 {
-    let (graph, names) = load::<F>(alloc, &asked.options, input)?;
+    let (graph, names) = load::<F>(alloc, asked, input)?;
     let text = answer_text::<F>(alloc, &graph, &names, asked);
     // The process ends once the answer is written, and gives all memory back at once; to let go of the
     // parts of a large graph one by one takes some tenths of the whole time.
@@ -114,8 +154,8 @@ fn write_text<W: Sink, F: ProgramFault>(writer: &mut W, text: &str) -> Result<()
     }
 }
 
-/// Reads the whole input, and writes what is asked by `args` of its package graph, with the links of the kinds that are asked
-/// for.
+/// Reads the whole input, and writes what is asked by `args` of its package graph, with the links that are asked
+/// for: those of some kinds, and of some platforms.
 ///
 /// `args` are the arguments without the program's own name. They are judged first: where they give
 /// no command, that is told, and nothing is read and no memory taken. Then all input is read, and kept; then
@@ -187,4 +227,28 @@ pub(crate) fn run_of<F: Format, R: Source, W: Sink>(
         (map string_bytes args.now) reader.old reader.new writer.old writer.new result }
 {
     run_with::<F, R, W>(alloc, args, reader, writer)
+}
+
+/// What is printed for what is asked by `args` of the package graph that the input says, as [`run_with`] has it, for callers
+/// that have the input and want the text. All else is let go of.
+///
+/// Where the arguments give no command, that is told, and no memory is taken. Time grows with the input's length, and with
+/// the packages and links times the logarithm of the packages.
+pub fn answer_bytes<F: Format>(
+    alloc: Global,
+    args: &[String],
+    input: &[u8],
+) -> Result<String, F::Fault>
+    // The text is an answer to the arguments and the input.
+    ensures ok { IfOk result (λ text. IsAnswered F.format (map string_bytes args.now) input.now
+        (λ output. output ≡ string_bytes text)) }
+
+    // The arguments give no command, or the fault is one of the input or of the command on its graph, or memory ran out.
+    ensures fault { IfErr result (λ fault. IsAnswerFault F.format (map string_bytes args.now)
+        input.now fault (F.Fault.cause fault)) }
+{
+    let Some(asked) = F::asked_of(args) else {
+        return Err(F::Fault::of(Fault::BadArguments));
+    };
+    answer_asked::<F>(alloc, &asked, input)
 }

@@ -96,10 +96,13 @@ const TWO_NORMAL: &[u8] = b"package a\npackage b\nlink a b normal\nlink b a norm
 
 const NO_DEV: &[u8] = b"package a\npackage b\nlink a b normal\nlink b a build\n";
 
+const SHORT_CUT: &[u8] = b"package a\npackage b\npackage c\npackage d\n\
+    link a b normal\nlink b c normal\nlink c d build\nlink a c dev\n";
+
 const TWO_SPACES: &[u8] = b"package a\npackage  b\n";
 
 // Case, command line, input, and what is printed.
-const ANSWERS: [(&str, &str, &[u8], &str); 47] = [
+const ANSWERS: [(&str, &str, &[u8], &str); 60] = [
     ("first_run", "reach forward a", FIRST, "a\nb\n"),
     (
         "no_last_newline",
@@ -148,11 +151,41 @@ const ANSWERS: [(&str, &str, &[u8], &str); 47] = [
         LOOP,
         "r a\na c\nc b\nb a\n",
     ),
+    ("one_of_each_name", "duplicates", FIRST, ""),
+    ("one_of_each_name", "duplicates", b"", ""),
+    ("why_itself", "why a a", FIRST, "a\n"),
+    ("why_itself", "why b b", TWO_NORMAL, "b\n"),
+    ("why_one_link", "why a b", FIRST, "a\nb normal\n"),
+    ("why_back", "why D C", BACKS, "D\nC dev\n"),
+    (
+        "why_round_a_loop",
+        "why r b",
+        LOOP,
+        "r\na normal\nc normal\nb normal\n",
+    ),
+    (
+        "why_the_short_way",
+        "why a d",
+        SHORT_CUT,
+        "a\nc dev\nd build\n",
+    ),
+    (
+        "why_of_kinds",
+        "--kinds normal,build --workspace --ids why a d",
+        SHORT_CUT,
+        "a\nb normal\nc normal\nd build\n",
+    ),
     ("verify", "verify", FIRST, "ok\n"),
     ("verify", "verify", BACKS, "ok\n"),
     ("verify", "verify", b"", "ok\n"),
     ("publish_backs", "publish-order", BACKS, "D\nC\nB\nA\n"),
     ("publish_empty", "publish-order", b"", ""),
+    (
+        "publishable",
+        "publish-order --publishable",
+        BACKS,
+        "D\nC\nB\nA\n",
+    ),
     (
         "publish_self",
         "publish-order",
@@ -200,6 +233,24 @@ const ANSWERS: [(&str, &str, &[u8], &str); 47] = [
         b"package a\nlink a z normal\n",
         "a\n",
     ),
+    (
+        "platforms",
+        "--platform x\nunix\n --kinds dev depends B A",
+        BACKS,
+        "true\n",
+    ),
+    (
+        "platforms",
+        "--kinds normal --platform x\n --ids --platform y\na=\"b\" depends B A",
+        BACKS,
+        "false\n",
+    ),
+    (
+        "platforms",
+        "--platform x\n links forward",
+        CHAIN,
+        "a b\nb c\n",
+    ),
     ("members", "--workspace order", CHAIN, "a\nb\nc\n"),
     (
         "ids",
@@ -244,8 +295,64 @@ fn answers(rt: HostRuntime) -> Result<(), Fail> {
     Ok(())
 }
 
+// A cycle, a link from a package to itself, links of each kind, and an ID with a quotation mark and a backslash.
+const DRAWN: &[u8] = b"package app\npackage disk\npackage gen\npackage q\"\\\n\
+    link app disk dev\nlink app gen build\nlink disk app normal\n\
+    link gen gen dev\nlink gen q\"\\ normal\n";
+
+// Case, command line, input, and what is drawn.
+const DRAWINGS: [(&str, &str, &[u8], &str); 4] = [
+    ("empty_graph", "dot", b"", "digraph {\n}\n"),
+    (
+        "drawn_whole",
+        "dot",
+        DRAWN,
+        "digraph {\n\
+        \x20 \"disk\" [shape=box, color=red];\n\
+        \x20 \"app\" [shape=box, color=red];\n\
+        \x20 \"gen\" [shape=box, color=red];\n\
+        \x20 \"q\\\"\\\\\" [shape=box];\n\
+        \x20 \"disk\" -> \"app\" [color=red];\n\
+        \x20 \"app\" -> \"disk\" [style=dashed, color=red];\n\
+        \x20 \"app\" -> \"gen\" [style=dotted];\n\
+        \x20 \"gen\" -> \"gen\" [style=dashed, color=red];\n\
+        \x20 \"gen\" -> \"q\\\"\\\\\";\n\
+        }\n",
+    ),
+    (
+        "drawn_in_part",
+        "dot q\"\\ gen gen",
+        DRAWN,
+        "digraph {\n\
+        \x20 \"gen\" [shape=box, color=red];\n\
+        \x20 \"q\\\"\\\\\" [shape=box];\n\
+        \x20 \"gen\" -> \"gen\" [style=dashed, color=red];\n\
+        \x20 \"gen\" -> \"q\\\"\\\\\";\n\
+        }\n",
+    ),
+    (
+        "drawn_of_kinds",
+        "--kinds normal,build --workspace dot app",
+        DRAWN,
+        "digraph {\n\
+        \x20 \"app\" [shape=box];\n\
+        \x20 \"gen\" [shape=box];\n\
+        \x20 \"q\\\"\\\\\" [shape=box];\n\
+        \x20 \"app\" -> \"gen\" [style=dotted];\n\
+        \x20 \"gen\" -> \"q\\\"\\\\\";\n\
+        }\n",
+    ),
+];
+
+#[test]
+fn drawings(rt: HostRuntime) -> Result<(), Fail> {
+    assert_all(&rt, rt.alloc(), &DRAWINGS, MANY, 0)?;
+    assert_all(&rt, rt.alloc(), &DRAWINGS, 1, 0)?;
+    Ok(())
+}
+
 // Case, command line, input, and the text of the library's fault.
-const REFUSED: [(&str, &str, &[u8], &str); 7] = [
+const REFUSED: [(&str, &str, &[u8], &str); 12] = [
     (
         "no_last_newline",
         "reach forward a z",
@@ -271,6 +378,21 @@ const REFUSED: [(&str, &str, &[u8], &str); 7] = [
         b"package a\npackage a/\n",
         "failed to construct package graph: repeated workspace path at package 1",
     ),
+    ("why_not", "why b a", FIRST, "no links lead from b to a"),
+    (
+        "why_not",
+        "--kinds dev why a b",
+        FIRST,
+        "no links lead from a to b",
+    ),
+    ("why_unknown", "why z y", FIRST, "unknown package ID: z"),
+    ("why_unknown", "why b z", FIRST, "unknown package ID: z"),
+    (
+        "why_repeated",
+        "why b a",
+        b"package a\npackage a\n",
+        "failed to construct package graph: repeated package ID at package 1",
+    ),
     (
         "two_normal",
         "verify",
@@ -286,7 +408,7 @@ const REFUSED: [(&str, &str, &[u8], &str); 7] = [
 ];
 
 // Case, command line, input, and the text of the fault of the arguments or a line.
-const MISREAD: [(&str, &str, &[u8], &str); 39] = [
+const MISREAD: [(&str, &str, &[u8], &str); 48] = [
     ("program_faults", "depends a b", TWO_SPACES, "bad line 2"),
     ("program_faults", "depends a", TWO_SPACES, "bad arguments"),
     (
@@ -298,6 +420,8 @@ const MISREAD: [(&str, &str, &[u8], &str); 39] = [
     ("command_to_come", "reach reverse", FIRST, "bad arguments"),
     ("command_to_come", "reach forward", FIRST, "bad arguments"),
     ("command_to_come", "depends a b c", FIRST, "bad arguments"),
+    ("command_to_come", "why a", FIRST, "bad arguments"),
+    ("command_to_come", "why a b a", FIRST, "bad arguments"),
     ("command_to_come", "order a", FIRST, "bad arguments"),
     ("command_to_come", "roots", FIRST, "bad arguments"),
     ("command_to_come", "roots backward", FIRST, "bad arguments"),
@@ -306,8 +430,21 @@ const MISREAD: [(&str, &str, &[u8], &str); 39] = [
     ("command_to_come", "links backward", FIRST, "bad arguments"),
     ("command_to_come", "links reverse a", FIRST, "bad arguments"),
     ("command_to_come", "cycles a", FIRST, "bad arguments"),
+    ("command_to_come", "duplicates a", FIRST, "bad arguments"),
     ("command_to_come", "verify a", FIRST, "bad arguments"),
     ("command_to_come", "publish-order a", FIRST, "bad arguments"),
+    (
+        "publishable",
+        "publish-order --publishable a",
+        FIRST,
+        "bad arguments",
+    ),
+    (
+        "publishable",
+        "--publishable publish-order",
+        FIRST,
+        "bad arguments",
+    ),
     ("command_to_come", "", FIRST, "bad arguments"),
     ("kinds", "--kinds normal", FIRST, "bad arguments"),
     ("kinds", "--kinds", FIRST, "bad arguments"),
@@ -317,6 +454,20 @@ const MISREAD: [(&str, &str, &[u8], &str); 39] = [
     (
         "kinds",
         "--kinds dev --kinds dev order",
+        FIRST,
+        "bad arguments",
+    ),
+    ("platforms", "--platform order", FIRST, "bad arguments"),
+    ("platforms", "--platform x order", FIRST, "bad arguments"),
+    (
+        "platforms",
+        "--platform x\nunix\n\n order",
+        FIRST,
+        "bad arguments",
+    ),
+    (
+        "platforms",
+        "order --platform x\nunix",
         FIRST,
         "bad arguments",
     ),
@@ -371,10 +522,11 @@ fn faults(rt: HostRuntime) -> Result<(), Fail> {
 const THERE_AND_BACK: &[u8] = b"package a\npackage b\nlink a b normal\nlink b a dev\n";
 
 // What each command prints there.
-const PRINTED: [(&str, &[u8]); 11] = [
+const PRINTED: [(&str, &[u8]); 12] = [
     ("reach forward a", b"a\nb\n"),
     ("reach reverse b", b"a\nb\n"),
     ("depends a b", b"true\n"),
+    ("why b a", b"b\na dev\n"),
     ("order", b"a\nb\n"),
     ("roots forward", b"a\nb\n"),
     ("roots reverse", b"a\nb\n"),

@@ -16,6 +16,13 @@ pub enum RunFault {
     Library(Error),
     /// The arguments are no command.
     BadArguments,
+    /// No links lead from the package with the first ID to that with the second.
+    NoWalk {
+        /// The first ID.
+        from: String,
+        /// The second ID.
+        to: String,
+    },
     /// This line is the first bad one, where all lines are counted from 1.
     BadLine(u64),
     /// The input could not be read.
@@ -25,12 +32,13 @@ pub enum RunFault {
 }
 
 impl RunFault {
-    /// The status that the program ends with: 1 for a fault of the library, else 2. Takes constant time.
+    /// The status that the program ends with: 1 for a fault of the library and where no links lead from one
+    /// package to another, else 2. Takes constant time.
     pub fn status(&self) -> u8
         ensures { result ≡ status_of self.now }
     {
         match self {
-            RunFault::Library(_) => 1,
+            RunFault::Library(_) | RunFault::NoWalk { .. } => 1,
             _ => 2,
         }
     }
@@ -43,6 +51,7 @@ impl fmt::Display for RunFault {
         match self {
             RunFault::Library(error) => write!(f, "{error}"),
             RunFault::BadArguments => write!(f, "bad arguments"),
+            RunFault::NoWalk { from, to } => write!(f, "no links lead from {from} to {to}"),
             RunFault::BadLine(number) => write!(f, "bad line {number}"),
             RunFault::InputFailed => write!(f, "input failed"),
             RunFault::OutputFailed => write!(f, "output failed"),
@@ -63,6 +72,7 @@ impl ProgramFault for RunFault {
         match fault {
             Fault::Library(error) => RunFault::Library(error),
             Fault::BadArguments => RunFault::BadArguments,
+            Fault::NoWalk { from, to } => RunFault::NoWalk { from, to },
             Fault::InputFailed => RunFault::InputFailed,
             Fault::OutputFailed => RunFault::OutputFailed,
         }
