@@ -13,6 +13,8 @@ pub enum Error {
     Metadata(String),
     /// Cargo could not be run, or failed: this is what was said.
     Command(String),
+    /// The library refused what it was asked: this says why.
+    Refused(String),
     /// Links that aren't dev-only lead round through these packages, each to the next, and the last to the
     /// first.
     Cycle(Vec<PackageId>),
@@ -25,7 +27,9 @@ impl fmt::Display for Error {
             Error::UnknownWorkspaceName(name) => {
                 write!(f, "unknown workspace package name: {name}")
             }
-            Error::Metadata(text) | Error::Command(text) => f.write_str(text),
+            Error::Metadata(text) | Error::Command(text) | Error::Refused(text) => {
+                f.write_str(text)
+            }
             Error::Cycle(ids) => {
                 f.write_str("a cycle:")?;
                 ids.iter().try_for_each(|id| write!(f, " {id}"))

@@ -1,6 +1,16 @@
 // Made by scripts/exports.py of crates/guppy_c; not to be edited.
 //
 // A slice is a pointer, which is not null, and how many elements lie there. One that is written overlaps no other.
+/// How a call ended that writes a text.
+#[repr(C)]
+#[derive(Clone, Copy, Debug, PartialEq, Eq)]
+pub(crate) struct Answer {
+    /// 0: answered. 1: refused. 2: there was no room for the text. 3: there was no memory.
+    pub(crate) status: u32,
+    /// How many bytes the text has, 0 where there was no memory.
+    pub(crate) len: usize,
+}
+
 /// How a call ended.
 #[repr(C)]
 #[derive(Clone, Copy, Debug, PartialEq, Eq)]
@@ -35,6 +45,17 @@ pub(crate) struct Ends {
 
 #[allow(dead_code)]
 extern "C" {
+    /// Writes what `guppy-cargo` prints for the arguments, which zero bytes part, of the workspace that the JSON
+    /// describes: what `cargo metadata --format-version 1` prints. Options and commands are those of `guppy-cargo help`, but
+    /// no file is read. A refusal is one line without a newline, which says why.
+    fn guppy_answer(
+        json: *const u8,
+        json_len: usize,
+        args: *const u8,
+        args_len: usize,
+        out: *mut u8,
+        out_len: usize,
+    ) -> Answer;
     /// Writes all positions as `guppy_order` does, and marks the places of the list at which a component
     /// begins. There is a flag for each link, and a mark for each place of the list.
     fn guppy_components(
@@ -95,6 +116,21 @@ extern "C" {
         marks: *mut bool,
         marks_len: usize,
     ) -> Outcome;
+    /// Writes the packages, links and workspace that the JSON describes as one text, in which each part tells how long it is:
+    /// a field is its length in bytes, a colon and the text, or `-` where there is none; a list its length, a semicolon and
+    /// its elements.
+    /// 
+    /// The workspace's root and target directory are fields; then comes the list of packages: ID, name, version, source,
+    /// manifest, edition, description, license and repository, all fields, the source behind `w` where it is the path of a
+    /// member, `p` where it is a path, `x` where it is elsewhere; then the list of links: two IDs, the name in the manifest
+    /// and in code, and for the normal, the build and the dev section where it is required and where it is optional:
+    /// `*` for all platforms, else the list of their texts. A refusal is one line without a newline, which says why.
+    fn guppy_records(
+        json: *const u8,
+        json_len: usize,
+        out: *mut u8,
+        out_len: usize,
+    ) -> Answer;
     /// Marks the roots of the marked set, and no other position: those whose component no link inside the
     /// set enters from another one; a link enters what it leads to where `forward` says so, else what it
     /// leaves. There is a mark for each of the set's positions.

@@ -19,11 +19,23 @@
 mod command;
 mod error;
 pub mod graph;
-mod json;
 mod sys;
 
 pub use command::{CargoMetadata, MetadataCommand};
 pub use error::Error;
+
+/// What `guppy-cargo` prints for these words of the workspace that the JSON describes, as `["why", "app", "core"]`: the
+/// commands and options of docs/PROGRAM.md, but no file is read. `Refused` has its error. Proved.
+pub fn answer<'w>(
+    json: impl AsRef<str>,
+    words: impl IntoIterator<Item = &'w str>,
+) -> Result<String, Error> {
+    let words: Vec<_> = words.into_iter().collect();
+    if words.iter().any(|word| word.contains('\0')) {
+        return Err(Error::Refused("a word has a NUL".to_owned()));
+    }
+    sys::answer(json.as_ref(), &words).map_err(Error::Refused)
+}
 
 /// The ID that Cargo gives a package.
 #[derive(Clone, Debug, PartialEq, Eq, PartialOrd, Ord, Hash)]

@@ -172,6 +172,52 @@ pub(crate) fn links(links: &[Ends], set: &[bool], forward: bool) -> Vec<usize> {
     numbers
 }
 
+// The text that a call writes, or why it refuses, told once more where the first room is too small.
+fn text_of(room: usize, call: impl Fn(&mut [u8]) -> Answer) -> Result<String, String> {
+    let mut out = vec![0; room];
+    loop {
+        let answer = call(&mut out);
+        match answer.status {
+            0 | 1 => {
+                out.truncate(answer.len);
+                let text = String::from_utf8(out).expect("texts are UTF-8");
+                return if answer.status == 0 {
+                    Ok(text)
+                } else {
+                    Err(text)
+                };
+            }
+            2 => out = vec![0; answer.len],
+            _ => out_of_memory(room),
+        }
+    }
+}
+
+/// What `guppy-cargo` prints for these arguments of the workspace that the JSON describes, or the line that says why
+/// it refuses. None of the arguments has a NUL.
+pub(crate) fn answer(json: &str, args: &[&str]) -> Result<String, String> {
+    let args = args.join("\0");
+    // SAFETY: as above, and no slice overlaps `out`.
+    text_of(1 << 12, |out| unsafe {
+        guppy_answer(
+            json.as_ptr(),
+            json.len(),
+            args.as_ptr(),
+            args.len(),
+            out.as_mut_ptr(),
+            out.len(),
+        )
+    })
+}
+
+/// The packages, links and workspace that the JSON describes as one text, or the line that says why there are none.
+pub(crate) fn records(json: &str) -> Result<String, String> {
+    // SAFETY: as above, and no slice overlaps `out`.
+    text_of(json.len(), |out| unsafe {
+        guppy_records(json.as_ptr(), json.len(), out.as_mut_ptr(), out.len())
+    })
+}
+
 /// The memory that the library takes: the C library's, whose blocks fit each alignment that is asked for.
 mod memory {
     use std::ptr::NonNull;
@@ -380,5 +426,75 @@ mod tests {
             assert!(refused.len() <= 1);
         }
         assert!(refusals > 100, "{refusals} refusals");
+    }
+
+    const JSON: &str = include_str!("../../examples/metadata.json");
+
+    // Both calls that write a text with so much room: status, length, and what was written.
+    fn written(json: &str, args: &str, room: usize) -> [(u32, usize, Vec<u8>); 2] {
+        let (p, n) = (json.as_ptr(), json.len());
+        let (mut out, mut records) = (vec![b'?'; room], vec![b'?'; room]);
+        let (o, r) = (out.as_mut_ptr(), records.as_mut_ptr());
+        // SAFETY: as above.
+        let answer = unsafe { guppy_answer(p, n, args.as_ptr(), args.len(), o, room) };
+        // SAFETY: as above.
+        let told = unsafe { guppy_records(p, n, r, room) };
+        assert_eq!(BLOCKS.get(), 0, "all memory is given back");
+        [
+            (answer.status, answer.len, out),
+            (told.status, told.len, records),
+        ]
+    }
+
+    #[test]
+    fn a_text_is_written_where_there_is_room() {
+        for (json, args, statuses) in [
+            (JSON, "affected\0crates/core/x", [0, 0]),
+            (JSON, "affected\0--ids", [0, 0]),
+            (JSON, "reach\0forward\0nobody", [1, 0]),
+            (JSON, "", [1, 0]),
+            ("[", "order", [1, 1]),
+            ("", "order", [1, 1]),
+        ] {
+            let none = written(json, args, 0);
+            for (call, status) in statuses.into_iter().enumerate() {
+                let len = none[call].1;
+                let (_, _, whole) = &written(json, args, len)[call];
+                assert!(std::str::from_utf8(whole).is_ok() && !whole.contains(&b'?'));
+                assert_eq!(written(json, args, len)[call].0, status);
+                let (told, more, wide) = &written(json, args, len + 3)[call];
+                assert_eq!((*told, *more), (status, len));
+                assert_eq!(wide[..len], whole[..]);
+                assert_eq!(wide[len..], *b"???");
+                if len > 0 {
+                    let small = vec![b'?'; len - 1];
+                    assert_eq!(written(json, args, len - 1)[call], (2, len, small));
+                }
+            }
+        }
+        let [answer, _] = written(JSON, "affected\0crates/core/x", 100);
+        assert_eq!(&answer.2[..answer.1], b"core\ntest-support\ncli\napp\n");
+    }
+
+    #[test]
+    fn a_text_that_finds_no_memory_is_not_written() {
+        let whole = written(JSON, "order", 4000);
+        let mut refusals = [0, 0];
+        for granted in 0.. {
+            GRANTED.set(granted);
+            let told = written(JSON, "order", 4000);
+            let is_past_the_last = GRANTED.replace(usize::MAX) < usize::MAX / 2;
+            for call in 0..2 {
+                if told[call] != whole[call] {
+                    assert_eq!(told[call], (3, 0, vec![b'?'; 4000]));
+                    refusals[call] += 1;
+                }
+            }
+            if is_past_the_last {
+                break;
+            }
+        }
+        // Where memory is wanting while the records are read one by one, they are read as a whole.
+        assert!(refusals.iter().all(|it| *it > 10), "{refusals:?}");
     }
 }

@@ -2,11 +2,11 @@
 
 mod common;
 
-use guppy_proved::graph::PackageResolver;
 use guppy_proved::graph::{
-    DependencyDirection, PackageGraph, PackageLink, PackageMetadata, PackageQuery,
+    DependencyDirection, PackageGraph, PackageLink, PackageMetadata, PackageQuery, PackageResolver,
+    PackageSource, PlatformStatus,
 };
-use guppy_proved::{Error, PackageId};
+use guppy_proved::{answer, Error, PackageId};
 use DependencyDirection::{Forward, Reverse};
 
 fn workspace() -> PackageGraph {
@@ -36,10 +36,10 @@ fn packages_and_links_say_what_the_json_says() {
     let core = graph.metadata(id(&graph, "core")).unwrap();
     assert_eq!(
         (core.name(), core.version(), core.source()),
-        ("core", "0.1.0", None)
+        ("core", "0.1.0", PackageSource::Workspace("crates/core"))
     );
     assert_eq!(core.manifest_path(), "/workspace/crates/core/Cargo.toml");
-    assert_eq!(core.edition(), Some("2021"));
+    assert_eq!(core.edition(), "2021");
     assert!(core.in_workspace());
     assert_eq!(
         sorted(core.direct_links().map(PackageLink::to)),
@@ -61,6 +61,27 @@ fn packages_and_links_say_what_the_json_says() {
         .find(|link| link.to().name() == "test-support")
         .unwrap();
     assert!(to_tests.dev().is_present() && to_tests.dev_only());
+    let names = (to_tests.dep_name(), to_tests.resolved_name());
+    assert_eq!(names, ("test-support", "test_support"));
+    let dev = to_tests.dev().status();
+    assert_eq!(dev.required_status(), PlatformStatus::Always);
+    assert_eq!(dev.optional_status(), PlatformStatus::Never);
+    assert!(to_tests.normal().status().is_never());
+}
+
+#[test]
+fn platforms_are_those_of_the_json() {
+    let json = common::json_of(2, &[(0, 1, "normal")])
+        .replace("\"target\":null", "\"target\":\"cfg(windows)\"");
+    let graph = PackageGraph::from_json(json).unwrap();
+    let package = graph.packages().next().unwrap();
+    let link = package.direct_links().next().unwrap();
+    let windows = ["cfg(windows)".to_owned()];
+    assert_eq!(
+        link.normal().status().required_status(),
+        PlatformStatus::PlatformDependent(&windows)
+    );
+    assert!(!link.dev_only());
 }
 
 #[test]
@@ -78,6 +99,45 @@ fn members_are_published_after_what_they_need() {
         assert!(place(first) < place(then), "{order:?}");
     }
     assert_eq!(graph.verify(), Ok(()));
+}
+
+#[test]
+fn members_are_tested_after_their_files_changed() {
+    let graph = workspace();
+    let tested = |paths: &[&'static str], ignored: &[&'static str]| {
+        named(
+            graph
+                .affected(paths.iter().copied(), ignored.iter().copied())
+                .unwrap(),
+        )
+    };
+    let of_core = tested(&["crates/core/src/lib.rs"], &[]);
+    assert_eq!(of_core, ["core", "test-support", "cli", "app"]);
+    assert_eq!(tested(&["crates/cli/--x"], &[]), ["cli", "app"]);
+    assert_eq!(tested(&["Cargo.lock"], &[]).len(), 6);
+    assert!(tested(&["docs/a.md", "docs"], &["docs"]).is_empty() && tested(&[], &[]).is_empty());
+    assert!(matches!(
+        graph.affected(["a\0b"], []),
+        Err(Error::Refused(_))
+    ));
+}
+
+#[test]
+fn each_command_is_answered_as_the_program_answers_it() {
+    let stored = |file| {
+        let folder = concat!(env!("CARGO_MANIFEST_DIR"), "/../crates/guppy_cargo_main");
+        std::fs::read_to_string(format!("{folder}/{file}")).unwrap()
+    };
+    let (json, args) = (stored("stdin"), stored("args"));
+    assert_eq!(answer(&json, args.lines()), Ok(stored("stdout")));
+    let json = include_str!("../../examples/metadata.json");
+    assert_eq!(
+        answer(json, ["depends", "app", "core"]),
+        Ok("true\n".to_owned())
+    );
+    assert_eq!(answer(json, ["verify"]), Ok("ok\n".to_owned()));
+    let unknown = answer(json, ["depends", "app", "nobody"]).err().unwrap();
+    assert_eq!(unknown.to_string(), "unknown package ID: nobody");
 }
 
 #[test]
@@ -218,7 +278,7 @@ fn what_is_no_metadata_is_refused() {
         include_str!("../../examples/metadata.json").replace("\"pkg\":\"path", "\"pkg\":\"other");
     assert!(matches!(
         PackageGraph::from_json(unknown),
-        Err(Error::Metadata(_))
+        Err(Error::UnknownPackageId(_))
     ));
     let links = [(0, 1, "normal"), (0, 1, "dev")];
     let repeated = PackageGraph::from_json(common::json_of(2, &links))

@@ -3,7 +3,9 @@
 //! Nothing is kept from one call to the next, and no call takes or gives a pointer to anything but the
 //! caller's own slices, each a pointer and a length. A call tests what it needs of them, and tells a status.
 //!
+//! - `answer`: answers as text, of the JSON that `cargo metadata` prints;
 //! - `flat`: answers about a graph that the caller holds as slices.
 #![tactic(auto)]
 
+pub mod answer;
 pub mod flat;

@@ -1,129 +1,162 @@
-//! What the JSON says of packages and links, as far as this crate hands it out.
+//! The packages and links that the proved library read off the JSON, out of the one text that has them.
 
-use super::package::{Kinds, Package};
-use crate::json::Value;
-use crate::sys::{Ends, LinkFault};
+use super::package::{Link, Package, Section, Source, Status};
+use crate::sys::{self, Ends, LinkFault};
 use crate::{Error, PackageId};
 use std::collections::HashMap;
 
 /// Packages by position, and links by number.
 pub(super) struct Decoded {
     pub(super) packages: Vec<Package>,
+    pub(super) by_id: HashMap<PackageId, usize>,
     pub(super) ends: Vec<Ends>,
-    pub(super) kinds: Vec<Kinds>,
+    pub(super) links: Vec<Link>,
     // Where a link isn't dev-only.
     pub(super) firm: Vec<bool>,
     pub(super) members: Vec<usize>,
     pub(super) root: String,
 }
 
-// What stands there isn't what Cargo prints.
-fn misread(place: &str) -> Error {
-    Error::Metadata(format!("{place} is not what Cargo prints"))
+// What is left of a text in which each part tells how long it is. The library is proved to write it so.
+struct Parts<'t> {
+    left: &'t str,
 }
 
-fn text(value: &Value, name: &str) -> Result<String, Error> {
-    value
-        .get(name)
-        .and_then(Value::text)
-        .map(str::to_owned)
-        .ok_or_else(|| misread(name))
-}
+impl<'t> Parts<'t> {
+    fn take(&mut self, bytes: usize) -> &'t str {
+        let (front, left) = self.left.split_at(bytes);
+        self.left = left;
+        front
+    }
 
-fn optional(value: &Value, name: &str) -> Option<String> {
-    value.get(name).and_then(Value::text).map(str::to_owned)
-}
+    // The number in front of the mark.
+    fn number(&mut self, mark: u8) -> usize {
+        let end = self.left.bytes().position(|byte| byte == mark);
+        let digits = self.take(end.expect("a mark behind each number"));
+        self.take(1);
+        digits.parse().expect("a number")
+    }
 
-fn package(value: &Value) -> Result<Package, Error> {
-    Ok(Package {
-        id: PackageId::new(text(value, "id")?),
-        name: text(value, "name")?,
-        version: text(value, "version")?,
-        source: optional(value, "source"),
-        manifest_path: text(value, "manifest_path")?,
-        description: optional(value, "description"),
-        license: optional(value, "license"),
-        edition: optional(value, "edition"),
-        repository: optional(value, "repository"),
-        is_member: false,
-    })
-}
+    fn field(&mut self) -> &'t str {
+        let bytes = self.number(b':');
+        self.take(bytes)
+    }
 
-fn kinds(dependency: &Value) -> Result<Kinds, Error> {
-    let mut kinds = Kinds::default();
-    for kind in dependency
-        .get("dep_kinds")
-        .ok_or_else(|| misread("dep_kinds"))?
-        .items()
-    {
-        match kind.get("kind").and_then(Value::text) {
-            None | Some("normal") => kinds.normal = true,
-            Some("build") => kinds.build = true,
-            Some("dev") => kinds.dev = true,
-            Some(_) => return Err(misread("kind")),
+    fn text(&mut self) -> String {
+        self.field().to_owned()
+    }
+
+    fn optional(&mut self) -> Option<String> {
+        if self.left.starts_with('-') {
+            self.take(1);
+            None
+        } else {
+            Some(self.text())
         }
     }
-    Ok(kinds)
+
+    fn list<T>(&mut self, item: impl Fn(&mut Self) -> T) -> Vec<T> {
+        let count = self.number(b';');
+        (0..count).map(|_| item(self)).collect()
+    }
+
+    fn source(&mut self) -> Source {
+        match self.take(1) {
+            "w" => Source::Workspace(self.text()),
+            "p" => Source::Path(self.text()),
+            _ => Source::External(self.text()),
+        }
+    }
+
+    fn package(&mut self) -> Package {
+        Package {
+            id: PackageId::new(self.field()),
+            name: self.text(),
+            version: self.text(),
+            source: self.source(),
+            manifest_path: self.text(),
+            edition: self.text(),
+            description: self.optional(),
+            license: self.optional(),
+            repository: self.optional(),
+        }
+    }
+
+    fn status(&mut self) -> Status {
+        if self.left.starts_with('*') {
+            self.take(1);
+            Status::Always
+        } else {
+            Status::Specs(self.list(Parts::text))
+        }
+    }
+
+    fn section(&mut self) -> Section {
+        Section {
+            required: self.status(),
+            optional: self.status(),
+        }
+    }
+
+    // The IDs of its ends, and the link.
+    fn link(&mut self) -> (&'t str, &'t str, Link) {
+        let (from, to) = (self.field(), self.field());
+        let link = Link {
+            dep_name: self.text(),
+            resolved_name: self.text(),
+            normal: self.section(),
+            build: self.section(),
+            dev: self.section(),
+        };
+        (from, to, link)
+    }
 }
 
 impl Decoded {
     /// What the JSON says.
     pub(super) fn of(json: &str) -> Result<Self, Error> {
-        let value = Value::read(json).map_err(|place| misread(&format!("byte {place}")))?;
-        let listed = value
-            .get("packages")
-            .ok_or_else(|| misread("packages"))?
-            .items();
-        let mut packages = listed.iter().map(package).collect::<Result<Vec<_>, _>>()?;
-        let by_id: HashMap<String, usize> = packages
-            .iter()
-            .enumerate()
-            .map(|(position, it)| (it.id.repr().to_owned(), position))
-            .collect();
-        let position = |value: Option<&Value>, place: &str| {
-            value
-                .and_then(Value::text)
-                .and_then(|id| by_id.get(id).copied())
-                .ok_or_else(|| misread(place))
-        };
-        let mut members = Vec::new();
-        for member in value
-            .get("workspace_members")
-            .ok_or_else(|| misread("workspace_members"))?
-            .items()
-        {
-            members.push(position(Some(member), "workspace_members")?);
-        }
-        let (mut ends, mut links) = (Vec::new(), Vec::new());
-        let nodes = value
-            .get("resolve")
-            .and_then(|it| it.get("nodes"))
-            .ok_or_else(|| misread("resolve"))?;
-        for node in nodes.items() {
-            let from = position(node.get("id"), "resolve.nodes.id")?;
-            for dependency in node
-                .get("deps")
-                .ok_or_else(|| misread("resolve.nodes.deps"))?
-                .items()
-            {
-                let to = position(dependency.get("pkg"), "resolve.nodes.deps.pkg")?;
-                ends.push(Ends {
-                    from: from as u32,
-                    to: to as u32,
-                });
-                links.push(kinds(dependency)?);
+        let text = sys::records(json).map_err(Error::Metadata)?;
+        let mut parts = Parts { left: &text };
+        let root = parts.text();
+        let _target_directory = parts.field();
+        let packages = parts.list(Parts::package);
+        let mut by_id = HashMap::with_capacity(packages.len());
+        for (position, package) in packages.iter().enumerate() {
+            if by_id.insert(package.id.clone(), position).is_some() {
+                return Err(Error::Metadata(format!(
+                    "repeated package ID: {}",
+                    package.id
+                )));
             }
         }
-        for member in &members {
-            packages[*member].is_member = true;
+        let by_text: HashMap<&str, u32> = packages
+            .iter()
+            .zip(0..)
+            .map(|(package, position)| (package.id.repr(), position))
+            .collect();
+        let position = |id: &str| {
+            by_text
+                .get(id)
+                .copied()
+                .ok_or_else(|| Error::UnknownPackageId(PackageId::new(id)))
+        };
+        let (mut ends, mut links) = (Vec::new(), Vec::new());
+        for (from, to, link) in parts.list(Parts::link) {
+            ends.push(Ends {
+                from: position(from)?,
+                to: position(to)?,
+            });
+            links.push(link);
         }
+        let members = (0..packages.len()).filter(|it| packages[*it].is_member());
         Ok(Decoded {
+            members: members.collect(),
+            firm: links.iter().map(|link| !link.is_dev_only()).collect(),
             packages,
+            by_id,
             ends,
-            firm: links.iter().map(|kinds| !kinds.is_dev_only()).collect(),
-            kinds: links,
-            members,
-            root: text(&value, "workspace_root")?,
+            links,
+            root,
         })
     }
 

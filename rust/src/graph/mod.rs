@@ -5,14 +5,16 @@ mod package;
 mod query;
 mod set;
 
-pub use package::{DependencyKind, DependencyReq, PackageLink, PackageMetadata};
+pub use package::{
+    DependencyKind, DependencyReq, EnabledStatus, PackageLink, PackageMetadata, PackageSource,
+    PlatformStatus,
+};
 pub use query::{PackageQuery, PackageResolver};
 pub use set::PackageSet;
 
 use crate::sys::{self, Components};
 use crate::{Error, PackageId};
 use decode::Decoded;
-use std::collections::HashMap;
 use std::fmt;
 
 /// The direction of a walk.
@@ -40,8 +42,8 @@ impl DependencyDirection {
 
 /// The packages of what `cargo metadata` prints, and the links between them.
 pub struct PackageGraph {
+    json: String,
     decoded: Decoded,
-    by_id: HashMap<PackageId, usize>,
     // A flag at each link.
     all: Vec<bool>,
     components: Components,
@@ -51,19 +53,13 @@ pub struct PackageGraph {
 }
 
 impl PackageGraph {
-    /// The graph of what `cargo metadata --format-version 1` printed. No ordered pair of packages may have two
-    /// links, as in what Cargo prints.
+    /// The graph of what `cargo metadata --format-version 1` printed: its packages and links are those that the JSON
+    /// describes, which is proved. No ordered pair of packages may have two links, as in what Cargo prints.
     pub fn from_json(json: impl AsRef<str>) -> Result<Self, Error> {
         let decoded = Decoded::of(json.as_ref())?;
         let count = decoded.packages.len();
         let components = sys::components(&decoded.ends, &decoded.firm, count)
             .map_err(|fault| decoded.told(fault))?;
-        let by_id = decoded
-            .packages
-            .iter()
-            .enumerate()
-            .map(|(p, it)| (it.id.clone(), p))
-            .collect();
         let mut leaving = vec![Vec::new(); count];
         let mut entering = vec![Vec::new(); count];
         for (number, ends) in decoded.ends.iter().enumerate() {
@@ -71,10 +67,10 @@ impl PackageGraph {
             entering[ends.to as usize].push(number);
         }
         Ok(PackageGraph {
+            json: json.as_ref().to_owned(),
             all: vec![true; decoded.ends.len()],
             components,
             decoded,
-            by_id,
             leaving,
             entering,
         })
@@ -95,7 +91,8 @@ impl PackageGraph {
     }
 
     fn position(&self, id: &PackageId) -> Result<usize, Error> {
-        self.by_id
+        self.decoded
+            .by_id
             .get(id)
             .copied()
             .ok_or_else(|| Error::UnknownPackageId(id.clone()))
@@ -259,6 +256,28 @@ impl PackageGraph {
             .resolve_workspace()
             .packages(DependencyDirection::Reverse)
             .collect())
+    }
+
+    /// The members to test when the files at these paths changed, what they depend on first: those whose folder holds
+    /// one of them, where a path that no package's folder holds counts for all, and those that depend on one of these. Paths
+    /// in an ignored folder count for nothing. Paths and folders are relative to the workspace's root.
+    ///
+    /// `Refused` has paths with a NUL, which none has. The JSON is read again. Proved.
+    pub fn affected<'a>(
+        &self,
+        paths: impl IntoIterator<Item = &'a str>,
+        ignored: impl IntoIterator<Item = &'a str>,
+    ) -> Result<Vec<PackageMetadata<'_>>, Error> {
+        let mut words = vec!["--ids".to_owned(), "affected".to_owned()];
+        for folder in ignored {
+            words.extend(["--ignore".to_owned(), format!("./{folder}")]);
+        }
+        words.extend(paths.into_iter().map(|path| format!("./{path}")));
+        let answer = crate::answer(&self.json, words.iter().map(String::as_str))?;
+        answer
+            .lines()
+            .map(|id| self.metadata(&PackageId::new(id)))
+            .collect()
     }
 }
 

@@ -8,26 +8,72 @@ pub(super) struct Package {
     pub(super) id: PackageId,
     pub(super) name: String,
     pub(super) version: String,
-    pub(super) source: Option<String>,
+    pub(super) source: Source,
     pub(super) manifest_path: String,
+    pub(super) edition: String,
     pub(super) description: Option<String>,
     pub(super) license: Option<String>,
-    pub(super) edition: Option<String>,
     pub(super) repository: Option<String>,
-    pub(super) is_member: bool,
 }
 
-/// In which sections a link's dependencies stand.
-#[derive(Clone, Copy, Debug, Default)]
-pub(super) struct Kinds {
-    pub(super) normal: bool,
-    pub(super) build: bool,
-    pub(super) dev: bool,
+impl Package {
+    pub(super) fn is_member(&self) -> bool {
+        matches!(self.source, Source::Workspace(_))
+    }
 }
 
-impl Kinds {
-    pub(super) fn is_dev_only(self) -> bool {
-        !self.normal && !self.build
+/// Where a package comes from, as [`PackageSource`] has it.
+#[derive(Debug)]
+pub(super) enum Source {
+    Workspace(String),
+    Path(String),
+    External(String),
+}
+
+/// What is kept of a link, beside its ends.
+#[derive(Debug)]
+pub(super) struct Link {
+    pub(super) dep_name: String,
+    pub(super) resolved_name: String,
+    pub(super) normal: Section,
+    pub(super) build: Section,
+    pub(super) dev: Section,
+}
+
+impl Link {
+    pub(super) fn is_dev_only(&self) -> bool {
+        self.normal.is_never() && self.build.is_never()
+    }
+}
+
+/// On which platforms a dependency in one section is there.
+#[derive(Debug)]
+pub(super) struct Section {
+    pub(super) required: Status,
+    pub(super) optional: Status,
+}
+
+impl Section {
+    fn is_never(&self) -> bool {
+        self.required.seen() == PlatformStatus::Never
+            && self.optional.seen() == PlatformStatus::Never
+    }
+}
+
+/// All platforms, or those that one of the texts fits.
+#[derive(Debug)]
+pub(super) enum Status {
+    Always,
+    Specs(Vec<String>),
+}
+
+impl Status {
+    fn seen(&self) -> PlatformStatus<'_> {
+        match self {
+            Status::Always => PlatformStatus::Always,
+            Status::Specs(specs) if specs.is_empty() => PlatformStatus::Never,
+            Status::Specs(specs) => PlatformStatus::PlatformDependent(specs),
+        }
     }
 }
 
@@ -43,16 +89,68 @@ pub enum DependencyKind {
 }
 
 /// What a link's dependencies ask for in one section.
-#[derive(Clone, Copy, Debug, PartialEq, Eq)]
-pub struct DependencyReq {
-    is_present: bool,
+#[derive(Clone, Copy, Debug)]
+pub struct DependencyReq<'g> {
+    section: &'g Section,
 }
 
-impl DependencyReq {
-    /// Whether one of them stands in the section.
+impl<'g> DependencyReq<'g> {
+    /// Whether one of them stands in the section, for some platform.
     pub fn is_present(self) -> bool {
-        self.is_present
+        !self.section.is_never()
     }
+
+    /// On which platforms.
+    pub fn status(self) -> EnabledStatus<'g> {
+        EnabledStatus {
+            section: self.section,
+        }
+    }
+}
+
+/// On which platforms a dependency is there.
+#[derive(Clone, Copy, Debug)]
+pub struct EnabledStatus<'g> {
+    section: &'g Section,
+}
+
+impl<'g> EnabledStatus<'g> {
+    /// Whether it is there on none.
+    pub fn is_never(self) -> bool {
+        self.section.is_never()
+    }
+
+    /// Where it is required.
+    pub fn required_status(self) -> PlatformStatus<'g> {
+        self.section.required.seen()
+    }
+
+    /// Where it is optional.
+    pub fn optional_status(self) -> PlatformStatus<'g> {
+        self.section.optional.seen()
+    }
+}
+
+/// Some platforms.
+#[derive(Clone, Copy, Debug, PartialEq, Eq)]
+pub enum PlatformStatus<'g> {
+    /// None.
+    Never,
+    /// All.
+    Always,
+    /// Those that one of these texts fits, as `cfg(windows)` or a target's name.
+    PlatformDependent(&'g [String]),
+}
+
+/// Where a package comes from.
+#[derive(Clone, Copy, Debug, PartialEq, Eq)]
+pub enum PackageSource<'g> {
+    /// It is a member of the workspace, at this path from its root.
+    Workspace(&'g str),
+    /// It lies at this path from the workspace's root, and is no member.
+    Path(&'g str),
+    /// It comes from a registry or a repository, as Cargo writes it.
+    External(&'g str),
 }
 
 /// A package of a graph.
@@ -87,9 +185,13 @@ impl<'g> PackageMetadata<'g> {
         &self.package().version
     }
 
-    /// Where it comes from, as Cargo writes it; none for one from a path.
-    pub fn source(self) -> Option<&'g str> {
-        self.package().source.as_deref()
+    /// Where it comes from.
+    pub fn source(self) -> PackageSource<'g> {
+        match &self.package().source {
+            Source::Workspace(path) => PackageSource::Workspace(path),
+            Source::Path(path) => PackageSource::Path(path),
+            Source::External(source) => PackageSource::External(source),
+        }
     }
 
     /// The path of its manifest.
@@ -108,8 +210,8 @@ impl<'g> PackageMetadata<'g> {
     }
 
     /// Its edition.
-    pub fn edition(self) -> Option<&'g str> {
-        self.package().edition.as_deref()
+    pub fn edition(self) -> &'g str {
+        &self.package().edition
     }
 
     /// Its repository.
@@ -119,7 +221,7 @@ impl<'g> PackageMetadata<'g> {
 
     /// Whether it is a member of the workspace.
     pub fn in_workspace(self) -> bool {
-        self.package().is_member
+        self.package().is_member()
     }
 
     /// The links that leave it.
@@ -187,39 +289,49 @@ impl<'g> PackageLink<'g> {
         (self.from(), self.to())
     }
 
-    fn kinds(self) -> Kinds {
-        self.graph.decoded.kinds[self.number]
+    fn link(self) -> &'g Link {
+        &self.graph.decoded.links[self.number]
+    }
+
+    /// The dependency's name in the manifest.
+    pub fn dep_name(self) -> &'g str {
+        &self.link().dep_name
+    }
+
+    /// The dependency's name in the code.
+    pub fn resolved_name(self) -> &'g str {
+        &self.link().resolved_name
     }
 
     /// What it asks for in the section.
-    pub fn req_for_kind(self, kind: DependencyKind) -> DependencyReq {
-        let kinds = self.kinds();
-        let is_present = match kind {
-            DependencyKind::Normal => kinds.normal,
-            DependencyKind::Development => kinds.dev,
-            DependencyKind::Build => kinds.build,
+    pub fn req_for_kind(self, kind: DependencyKind) -> DependencyReq<'g> {
+        let link = self.link();
+        let section = match kind {
+            DependencyKind::Normal => &link.normal,
+            DependencyKind::Development => &link.dev,
+            DependencyKind::Build => &link.build,
         };
-        DependencyReq { is_present }
+        DependencyReq { section }
     }
 
     /// What it asks for in `[dependencies]`.
-    pub fn normal(self) -> DependencyReq {
+    pub fn normal(self) -> DependencyReq<'g> {
         self.req_for_kind(DependencyKind::Normal)
     }
 
     /// What it asks for in `[build-dependencies]`.
-    pub fn build(self) -> DependencyReq {
+    pub fn build(self) -> DependencyReq<'g> {
         self.req_for_kind(DependencyKind::Build)
     }
 
     /// What it asks for in `[dev-dependencies]`.
-    pub fn dev(self) -> DependencyReq {
+    pub fn dev(self) -> DependencyReq<'g> {
         self.req_for_kind(DependencyKind::Development)
     }
 
     /// Whether it stands in no other section than `[dev-dependencies]`.
     pub fn dev_only(self) -> bool {
-        self.kinds().is_dev_only()
+        self.link().is_dev_only()
     }
 }
 
@@ -239,7 +351,7 @@ impl fmt::Debug for PackageLink<'_> {
             "PackageLink({} -> {}, {:?})",
             from.id(),
             to.id(),
-            self.kinds()
+            self.link()
         )
     }
 }

@@ -1,0 +1,46 @@
+//! Prints how many milliseconds it takes to read the graph of a file and list its packages in their order, and to resolve
+//! what a member needs, the least of nine times each: `how_long metadata.json`.
+
+use guppy_proved::graph::{DependencyDirection, PackageGraph};
+use std::error::Error;
+use std::time::Instant;
+use std::{env, fs};
+
+// The least of nine times that the call takes, in milliseconds.
+fn least<T>(mut call: impl FnMut() -> T) -> f64 {
+    let times = (0..9).map(|_| {
+        let begun = Instant::now();
+        call();
+        begun.elapsed().as_secs_f64() * 1000.0
+    });
+    times.fold(f64::INFINITY, f64::min)
+}
+
+fn main() -> Result<(), Box<dyn Error>> {
+    let file = env::args()
+        .nth(1)
+        .ok_or("give the file that cargo metadata wrote")?;
+    let json = fs::read_to_string(file)?;
+    let graph = PackageGraph::from_json(&json)?;
+    let read = least(|| {
+        let graph = PackageGraph::from_json(&json)?;
+        Ok::<_, guppy_proved::Error>(
+            graph
+                .resolve_all()
+                .packages(DependencyDirection::Forward)
+                .count(),
+        )
+    });
+    println!(
+        "{} packages read and ordered: {read:.3}",
+        graph.package_count()
+    );
+    let member = graph.workspace().iter().next().ok_or("no member")?;
+    let resolved = least(|| {
+        graph
+            .query_forward([member.id()])
+            .map(|it| it.resolve().len())
+    });
+    println!("{} resolved: {resolved:.3}", member.name());
+    Ok(())
+}
