@@ -4,8 +4,8 @@
 They are made in a temporary folder: one with every kind of package and dependency, some that are drawn, and one on
 Debian's packages of Rust sources, which are taken from its archive and unpacked there; where they can't be had a
 line says so. What the program answers is compared with what a few lines here read off the same JSON. Then it is
-given a thousand broken ones. Needs cargo, and the program as built, or one that the argument names. The last line is
-'N passed, M failed'.
+given a thousand broken ones. Needs cargo, and the program as built, or one that the argument names; with Graphviz, that
+reads what is drawn. The last line is 'N passed, M failed'.
 """
 
 import collections
@@ -14,39 +14,47 @@ import json
 import os
 import random
 import re
+import shutil
 import subprocess
 import sys
 import tempfile
 from concurrent.futures import ThreadPoolExecutor
 
 from breaks import broken
-from workspaces import texts_in
+from platforms import cfgs_of
+from workspaces import metadata_of, tree_in, workspaces_in
 
 HERE = os.path.dirname(os.path.realpath(__file__))
 BUILT = os.path.join(os.path.dirname(HERE), "crates", "guppy_cargo_main", "out", "guppy_cargo_main")
 PROGRAM = sys.argv[1] if sys.argv[1:] else BUILT
 SECONDS = 60
+# Graphviz's program, where there is one.
+GRAPHVIZ = shutil.which("dot")
 
 # So many starts are asked about in each graph, and so many broken inputs are tried.
 STARTS, BROKEN = 12, 1000
+
+# The platforms that cargo is asked about, too: this one first, for which it builds what runs while it builds.
+HOST = re.search(r"host: (.*)", subprocess.run(["rustc", "-vV"], capture_output=True, text=True, check=True).stdout)[1]
+TRIPLES = [HOST, "x86_64-pc-windows-msvc", "aarch64-apple-darwin", "wasm32-unknown-unknown"]
 
 # The workspace's own files.
 EVERYONES = ("Cargo.toml", "Cargo.lock", "rust-toolchain", "rust-toolchain.toml")
 
 # What is told of bad arguments.
 BAD_ARGUMENTS = (
-    "bad arguments: give `reach forward|reverse PACKAGE..`, `depends PACKAGE PACKAGE`, `order`, "
-    "`roots forward|reverse`, `links forward|reverse`, `cycles`, `verify`, `publish-order` "
-    "or `affected [--ignore FOLDER].. [--paths-from FILE] PATH..`, "
-    "and with each `--kinds normal,build,dev`, `--workspace` or `--ids`"
+    "bad arguments: give `reach forward|reverse PACKAGE..`, `depends PACKAGE PACKAGE`, `why PACKAGE PACKAGE`, `order`, "
+    "`roots forward|reverse`, `links forward|reverse`, `cycles`, `duplicates`, `dot PACKAGE..`, `verify`, "
+    "`publish-order [--publishable]` or `affected [--ignore FOLDER].. [--paths-from FILE] PATH..`, "
+    "and with each `--kinds normal,build,dev`, `--platform TRIPLE --cfgs FILE`, `--workspace` or `--ids`"
 )
 
 
 class Graph:
     """What is read off the JSON of a workspace, each package under the name that the program is to give it."""
 
-    def __init__(self, text):
-        self.text, self.data = text, json.loads(text)
+    def __init__(self, text, tree=None):
+        self.text, self.data, self.tree = text, json.loads(text), tree
         packages, nodes = self.data["packages"], self.data["resolve"]["nodes"]
         self.forms = {it["id"]: (it["name"], f"{it['name']}@{it['version']}", it["id"]) for it in packages}
         self.meant = {it: [it] for it in self.forms}
@@ -54,7 +62,7 @@ class Graph:
             for text in {it[called] for it in self.forms.values()} - set(self.forms):
                 self.meant[text] = [it for it, forms in self.forms.items() if text in forms[:2]]
         called = {it: next(form for form in forms if self.meant[form] == [it]) for it, forms in self.forms.items()}
-        self.called = called
+        self.called, self.publish = called, {called[it["id"]]: it["publish"] for it in packages}
         self.names, self.ids = sorted(called.values()), {name: it for it, name in called.items()}
         self.repeated = [text for text, ids in self.meant.items() if len(ids) > 1]
         ends = [(called[node["id"]], called[it["pkg"]], it["dep_kinds"]) for node in nodes for it in node["deps"]]
@@ -67,6 +75,7 @@ class Graph:
         paths = {it["id"]: os.path.relpath(it["manifest_path"], root) for it in packages if it["source"] is None}
         self.local = {called[it]: path.split("/")[:-1] for it, path in paths.items()}
         self.folders = {called[it]: self.local[called[it]] for it in paths if it in members}
+        self.on = {}
         self.random = random.Random(len(text))
         self.starts = self.random.sample(self.names, min(STARTS, len(self.names)))
 
@@ -123,6 +132,19 @@ def reached_from(start, follows):
     return reached
 
 
+def distance(start, end, links):
+    """How many links the shortest walk has, where there is one."""
+    follows = collections.defaultdict(set)
+    for a, b in links:
+        follows[a].add(b)
+    reached, near = set(), {start}
+    for links_so_far in itertools.count():
+        if end in near or not near:
+            return links_so_far if near else None
+        reached |= near
+        near = set().union(*(follows[it] for it in near)) - reached
+
+
 def lines_of(output):
     return output.removesuffix("\n").split("\n") if output else []
 
@@ -159,6 +181,22 @@ def try_depends(graph):
         yield f"depends {a} {b}", [str(b in graph.onward[a]).lower()], graph.ask("depends", a, b)
 
 
+def try_why(graph):
+    for a, b in itertools.product(graph.starts[:6], graph.starts[:6]):
+        length = distance(a, b, graph.links)
+        if length is None:
+            told = 1, "", f"error: no links lead from {a} to {b}\n"
+            yield f"why {a} {b}, where there is none", told, run(["why", a, b], graph.text.encode())
+            continue
+        steps = [line.split(" ") for line in graph.ask("why", a, b)]
+        names = [name for name, *_ in steps]
+        yield f"why {a} {b}, from where to where, and by how many links", (a, b, length), (names[0], names[-1], len(steps) - 1)
+        kinds = [sorted(graph.sections.get(ends, ())) for ends in itertools.pairwise(names)]
+        yield f"why {a} {b}, the kinds of links", [[], *kinds], [sorted(kinds) for _, *kinds in steps]
+        order = [[it for it in ("normal", "build", "dev") if it in kinds] for _, *kinds in steps]
+        yield f"why {a} {b}, the order of kinds", order, [kinds for _, *kinds in steps]
+
+
 def try_order(graph):
     order = graph.ask("order")
     yield "order, each once", graph.names, sorted(order)
@@ -190,8 +228,57 @@ def try_publish(graph):
     yield "verify", ["ok"], graph.ask("verify")
     order = graph.ask("publish-order")
     yield "publish-order, each once", sorted(graph.folders), sorted(order)
+    chosen = [it for it in order if graph.publish[it] != []]
+    yield "publish-order --publishable", chosen, graph.ask("publish-order", "--publishable")
     early = [(a, b) for a, b in itertools.combinations(order, 2) if b in graph.firmly.get(a, ())]
     yield "publish-order, the wrong way round", [], early
+
+
+def drawing_of(graph, names):
+    """The packages of these names and the links between them, each with what is to be drawn of it."""
+    on_cycles = {name for name in graph.names if len(graph.component(name)) > 1 or (name, name) in graph.links}
+    nodes, edges = {}, {}
+    for name in names:
+        nodes[name,] = {"shape": "box" if name in graph.folders else "", "color": "red" if name in on_cycles else ""}
+    for a, b in graph.links:
+        if {a, b} <= names:
+            style = "dashed" if (a, b) not in graph.firm else "" if "normal" in graph.sections[a, b] else "dotted"
+            edges[a, b] = {"style": style, "color": "red" if b in graph.component(a) else ""}
+    return {it: {key: value for key, value in told.items() if value} for it, told in (nodes | edges).items()}
+
+
+def drawn_line(names, told):
+    quoted = ['"' + re.sub(r'(["\\])', r"\\\1", it) + '"' for it in names]
+    attributes = ", ".join(f"{key}={value}" for key, value in told.items())
+    return f"  {' -> '.join(quoted)}{f' [{attributes}]' if attributes else ''};"
+
+
+def read_by_graphviz(text):
+    """What Graphviz reads in a drawing, in the form of `drawing_of`, or what it says against it."""
+    ran = subprocess.run([GRAPHVIZ, "-Tdot_json"], input=text, capture_output=True, text=True, check=False)
+    if ran.returncode or ran.stderr:
+        return ran.stderr
+    read = json.loads(ran.stdout)
+    names = [it["name"].replace(r"\\", "\\") for it in read.get("objects", ())]
+    items = [((name,), it) for name, it in zip(names, read.get("objects", ()))]
+    items += [((names[it["tail"]], names[it["head"]]), it) for it in read.get("edges", ())]
+    kept = [(them, {key: it[key] for key in ("shape", "style", "color") if key in it}) for them, it in items]
+    return dict(kept) if len(dict(kept)) == len(kept) else kept
+
+
+def try_dot(graph):
+    chosen = graph.starts[:2]
+    for words, names in (
+        ((), set(graph.names)),
+        (("--workspace",), set(graph.folders)),
+        (chosen, set().union(*(graph.onward[it] for it in chosen))),
+    ):
+        drawing, lines = drawing_of(graph, names), graph.ask("dot", *words)
+        asked = f"dot {' '.join(words)}"
+        yield asked, sorted(drawn_line(*it) for it in drawing.items()), sorted(lines[1:-1])
+        yield f"{asked}, how it begins and ends", ["digraph {", "}"], [lines[0], lines[-1]]
+        if GRAPHVIZ:
+            yield f"{asked}, as Graphviz reads it", drawing, read_by_graphviz("\n".join(lines))
 
 
 def try_affected(graph):
@@ -232,9 +319,16 @@ def try_left_out(graph):
         given = graph.text.encode()
         with open(os.path.join(room, "bytes"), "wb") as held:
             held.write(b"a\0\xff\0")
+        dashed = os.path.join(room, "dashes")
+        with open(dashed, "wb") as held:
+            held.write(b"base/x\0-x\0--ignore\0base/x\0")
+        wanted = graph.ask("affected", "base/x", "./-x", "./--ignore")
+        yield "affected, paths in a file that begin with -", wanted, graph.ask("affected", "--paths-from", dashed)
         for words, fault in (
             (["--ignore"], BAD_ARGUMENTS),
             (["x", "--paths-from"], BAD_ARGUMENTS),
+            (["x", "--sinc", "main"], BAD_ARGUMENTS),
+            (["-x"], BAD_ARGUMENTS),
             (["--paths-from", os.path.join(room, "bytes")], BAD_ARGUMENTS),
             (["--paths-from", "no/such"], "no/such: the paths in it can't be read"),
         ):
@@ -271,6 +365,58 @@ def try_options(graph):
         yield words, (2, "", f"error: {BAD_ARGUMENTS}\n"), run(words.split(), graph.text.encode())
 
 
+class OnPlatform:
+    """What cargo says of a workspace on one platform: its packages and links, by ID, and its tree's packages."""
+
+    def __init__(self, room, folder, flags, triple):
+        data = json.loads(metadata_of(room, folder, f"{flags} --filter-platform {triple}"))
+        nodes = data["resolve"]["nodes"]
+        self.packages = {it["id"] for it in nodes}
+        self.links = {(it["id"], dep["pkg"]) for it in nodes for dep in it["deps"]}
+        # What is built to run while it builds is the host's in the tree, and macros aren't told apart here.
+        self.kinds = "normal,build,dev" if triple == HOST else "normal"
+        is_told = triple == HOST or folder != "debian"
+        self.tree = tree_in(room, folder, flags, triple)("-e", self.kinds) if is_told else None
+
+
+def on_platforms(room, folder, flags):
+    return {} if "--filter-platform" in flags else {it: OnPlatform(room, folder, flags, it) for it in TRIPLES}
+
+
+def try_platforms(graph):
+    """Links that are on on a platform, beside what cargo says of it."""
+    members = sorted(graph.folders)
+    with tempfile.TemporaryDirectory() as room:
+        for triple, there in graph.on.items():
+            file = os.path.join(room, triple)
+            with open(file, "w", encoding="utf-8") as held:
+                held.write(cfgs_of(triple))
+            words = ["--platform", triple, "--cfgs", file]
+            wanted = sorted(graph.called[it] for it in there.packages)
+            reached = graph.ask("reach", "forward", *members, *words)
+            yield f"reach forward on {triple}", wanted, reached
+            walked = [tuple(line.split(" ")) for line in graph.ask(*words, "links", "forward")]
+            yield f"links on {triple}", sorted((graph.called[a], graph.called[b]) for a, b in there.links), sorted(
+                it for it in walked if it[0] in reached
+            )
+            if there.tree is not None:
+                reached = graph.ask("reach", "forward", *members, *words, "--kinds", there.kinds)
+                yield f"cargo tree on {triple}", sorted(there.tree), sorted(graph.forms[graph.ids[it]][1] for it in reached)
+        every = [word for it in graph.on for word in ("--platform", it, "--cfgs", os.path.join(room, it))]
+        both = sorted({graph.called[it] for there in graph.on.values() for it in there.packages})
+        yield "reach forward on each of them", [], sorted(set(both) - set(graph.ask("reach", "forward", *members, *every)))
+        given, bad = graph.text.encode(), os.path.join(room, "bad")
+        with open(bad, "w", encoding="utf-8") as held:
+            held.write("unix\n\nwindows\n")
+        for words, fault in (
+            ("order --platform x", BAD_ARGUMENTS),
+            (f"order --cfgs {bad}", BAD_ARGUMENTS),
+            ("order --platform x --cfgs no/such", "no/such: the cfgs in it can't be read"),
+            (f"--platform x --cfgs {bad} order", "x: line 2 of its cfgs is neither a name nor a key with a value"),
+        ):
+            yield words, (2, "", f"error: {fault}\n"), run(words.split(), given)
+
+
 def named(data, key, old, new):
     """The data with the text under this key, or in the list there, replaced."""
     if isinstance(data, dict):
@@ -282,6 +428,55 @@ def named(data, key, old, new):
     return [named(it, key, old, new) for it in data] if isinstance(data, list) else data
 
 
+def try_tree(graph):
+    """What `cargo tree` shows of the same workspace. It counts a package twice that is built with other features, too, and
+    follows dependencies on packages with no library, of which the JSON has nothing."""
+    if not graph.tree:
+        return
+    full = {name: graph.forms[it][1] for name, it in graph.ids.items()}
+    for kind in ("normal", "build", "dev"):
+        answer = graph.ask("--kinds", kind, "reach", "forward", *sorted(graph.folders))
+        yield f"--kinds {kind}, as cargo tree has it", graph.tree("-e", kind), {full.get(it, it) for it in answer}
+    kinds = {it["id"]: set().union(*(to["kind"] for to in it["targets"])) for it in graph.data["packages"]}
+    others = {name for name, it in graph.ids.items() if not kinds[it] & {"lib", "proc-macro"}}
+    for a in (it for it in graph.starts if not graph.back[it] & others):
+        wanted = graph.tree("-e", "normal,build,dev", "-i", graph.ids[a])
+        yield f"reach reverse {a}, as cargo tree has it", wanted, {full.get(it, it) for it in graph.ask("reach", "reverse", a)}
+        for b in sorted(graph.back[a])[:2]:
+            passed = {full.get(it.split(" ")[0], it) for it in graph.ask("why", b, a)}
+            yield f"why {b} {a}, what cargo tree has not", set(), passed - wanted
+    shown = graph.tree("-e", "normal,build,dev", "-d", "--depth", "0")
+    versions = collections.Counter(it.split("@")[0] for it in shown)
+    wanted = {it for it in shown if versions[it.split("@")[0]] > 1}
+    yield "duplicates, as cargo tree has them", wanted, {full.get(it, it) for it in duplicates_of(graph)}
+
+
+def duplicates_of(graph):
+    """The packages whose name another one has, too."""
+    names = collections.Counter(it for it, _, _ in graph.forms.values())
+    return [name for name, it in graph.ids.items() if names[graph.forms[it][0]] > 1]
+
+
+def try_duplicates(graph):
+    """Each with the packages that have a link to it."""
+    rows = [line.split(" ") for line in graph.ask("duplicates")]
+    wanted = {name: sorted(a for a, b in graph.links if b == name) for name in duplicates_of(graph)}
+    yield "duplicates, what needs each", wanted, {name: sorted(others) for name, *others in rows}
+    yield "duplicates, each once", len(wanted), len(rows)
+    names = [graph.forms[graph.ids[it[0]]][0] if it[0] in graph.ids else it for it in rows]
+    yield "duplicates, ascending by name", sorted(names), names
+
+
+def edits(a, b):
+    """How many letters are left out, put in or changed from one word to the other."""
+    row = list(range(len(b) + 1))
+    for i, letter in enumerate(a):
+        last, row = row, [i + 1]
+        for j, other in enumerate(b):
+            row.append(min(row[j] + 1, last[j + 1] + 1, last[j] + (letter != other)))
+    return row[-1]
+
+
 def try_help(graph):
     """What the program says of itself, with no metadata."""
     for words in ("--help", "-h", "help", "help order", "order --help", "affected -h", "help affected"):
@@ -291,6 +486,11 @@ def try_help(graph):
     told = run(["help"], b"")[1]
     named = re.findall(r"`([a-z][a-z-]+)", BAD_ARGUMENTS)
     yield "help, the commands", sorted(named), sorted(set(re.findall(r"^  ([a-z][a-z-]+)", told, re.M)))
+    for word in (it[1:] for it in named):
+        apart = {it: edits(word, it) for it in named}
+        wanted = {it for it in named if apart[it] == min(apart.values())}
+        message = re.fullmatch("error: (.*) is no command: the nearest is (.*)\n", run([word], b"")[2])
+        yield f"{word}, the nearest command", True, bool(message and message[1] == word and message[2] in wanted)
     yield "--version", (0, "guppy-cargo of guppy 0.19.1, proved\n", ""), run(["--version"], b"")
     for words in ("help no-such", "--help order roots"):
         yield words, (2, "", f"error: {BAD_ARGUMENTS}\n"), run(words.split(), graph.text.encode())
@@ -328,14 +528,19 @@ def try_refused(graph):
 PARTS = {
     "reach": try_reach,
     "depends": try_depends,
+    "why": try_why,
     "order": try_order,
     "cycles": try_cycles,
     "roots and links": try_links,
     "verify and publish-order": try_publish,
+    "dot": try_dot,
     "affected": try_affected,
     "what is left out": try_left_out,
     "names": try_names,
     "options": try_options,
+    "platforms": try_platforms,
+    "what cargo tree shows": try_tree,
+    "duplicates": try_duplicates,
     "help": try_help,
     "refusals": try_refused,
 }
@@ -362,18 +567,31 @@ def tries_of(part, where, graph):
     return [(f"{where}: {asked}", *rest) for asked, *rest in PARTS[part](graph)]
 
 
+def graph_of(room, folder, flags):
+    """The graph of a workspace; `cargo tree` is asked about those that are for all platforms."""
+    tree = None if "platform" in flags else tree_in(room, folder, flags)
+    return Graph(metadata_of(room, folder, flags), tree)
+
+
 def main():
     if not os.access(PROGRAM, os.X_OK):
         return f"cargo: {PROGRAM} is not there"
     with tempfile.TemporaryDirectory() as room:
-        graphs = {where: Graph(text) for where, text in texts_in(room).items()}
-    links = sum(len(it.links) for it in graphs.values())
-    print(f"cargo: {len(graphs)} graphs, of {sum(len(it.names) for it in graphs.values())} packages and {links} links")
-    text = next(iter(graphs.values())).text
-    with ThreadPoolExecutor(4) as workers:
-        trying = {part: [workers.submit(tries_of, part, *it) for it in graphs.items()] for part in PARTS}
-        passed = [tell(part, [it for tried in each for it in tried.result()]) for part, each in trying.items()]
-        passed.append(tell("broken input", list(workers.map(lambda it: try_broken(text, it), range(BROKEN)))))
+        places = workspaces_in(room)
+        graphs = {where: graph_of(room, *place) for where, place in places.items()}
+        with ThreadPoolExecutor(4) as workers:
+            said = list(workers.map(lambda it: on_platforms(room, *it), places.values()))
+        for graph, on in zip(graphs.values(), said, strict=True):
+            graph.on = on
+        links = sum(len(it.links) for it in graphs.values())
+        print(f"cargo: {len(graphs)} graphs, of {sum(len(it.names) for it in graphs.values())} packages and {links} links")
+        if not GRAPHVIZ:
+            print("cargo: Graphviz is not there: what it reads is not tried")
+        text = next(iter(graphs.values())).text
+        with ThreadPoolExecutor(4) as workers:
+            trying = {part: [workers.submit(tries_of, part, *it) for it in graphs.items()] for part in PARTS}
+            passed = [tell(part, [it for tried in each for it in tried.result()]) for part, each in trying.items()]
+            passed.append(tell("broken input", list(workers.map(lambda it: try_broken(text, it), range(BROKEN)))))
     print(f"{passed.count(True)} passed, {passed.count(False)} failed")
     return not all(passed)
 

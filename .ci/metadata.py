@@ -50,6 +50,14 @@ WRONG = [
     ("order --metadata x --locked", "--metadata can't be used with --locked"),
     ("--features=x order --metadata=x", "--metadata can't be used with --features"),
     ("--manifest-path x --metadata - order", "--metadata can't be used with --manifest-path"),
+    ("order --platform", "--platform needs a value"),
+    ("order --platform= --ids", "--platform needs a value"),
+    ("order --platform --cfgs x", "--platform needs a value"),
+    ("order --platform x --cfgs", "--cfgs needs a value"),
+    ("order --cfgs x", "--cfgs goes behind --platform TRIPLE"),
+    ("--platform x --ids --cfgs x order", "--cfgs goes behind --platform TRIPLE"),
+    ("order --platform x --cfgs no/such", "no/such: the cfgs in it can't be read"),
+    ("order --platform x --cfgs - --metadata -", "standard input can't be read for --cfgs and --metadata"),
     ("affected --paths-from", "--paths-from needs a value"),
     ("affected --paths-from - --metadata -", "standard input can't be read for --paths-from and --metadata"),
     ("affected --paths-from no/such", "no/such: the paths in it can't be read"),
@@ -131,12 +139,15 @@ def try_asked(world):
         ("affected c/x -Fd/more", "c"),
         ("affected e/x", "cde"),
         ("affected e/x --filter-platform x86_64-unknown-linux-gnu", "e"),
+        ("affected e/x --platform x86_64-unknown-linux-gnu", "e"),
+        ("affected --platform=x86_64-pc-windows-gnu e/x", "cde"),
+        ("affected e/x --platform x86_64-unknown-linux-gnu --kinds normal --platform x86_64-pc-windows-msvc", "cde"),
         ("reach forward a", "a"),
         ("reach forward a --all-features", "ab"),
         ("--features=a/extra reach reverse b", "ab"),
     ):
         got = ask(*words.split())
-        yield words, sorted(got) == list(wanted), got
+        yield words, sorted(map(str, got)) == list(wanted), got
     places = (world.room, top / "Cargo.toml"), (world.room, "a workspace/d/Cargo.toml"), (top / "b", "../Cargo.toml")
     for where, path in places:
         for words in (["--manifest-path", path, "affected", "b/x"], ["affected", "b/x", f"--manifest-path={path}"]):
@@ -179,6 +190,10 @@ def try_given(world):
         for name in ("-", "/dev/stdin"):
             ran = piped(world, f'printf "b/src/lib.rs\\0" | "$@" --paths-from {name}', words[:2], where=top)
             yield f"{way}: paths from {name}", ran[:2] == (0, "b\na\n"), ran
+        asked = ["guppy-cargo", "reach", "reverse", "e", "--platform", "x"]
+        for cfg, wanted in (("unix", "e\n"), ("windows", "c\ne\n")):
+            ran = piped(world, f'echo {cfg} | "$@" --cfgs -', asked, where=top)
+            yield f"{way}: {cfg} from standard input", ran[:2] == (0, wanted), ran
         for asked in (words, ["guppy-cargo", "--help"], ["guppy-cargo", "no-such"]):
             status = 2 if asked[1] == "no-such" else 0
             with_pipe = with_open_pipe(world, asked, where=top)
@@ -246,6 +261,12 @@ def try_metadata_refused(world):
         old = script(world.room / "old", 'echo "error: unexpected argument" >&2; exit 1\n')
         ran = world.run(["guppy-cargo", *words, "--manifest-path=a/Cargo.toml"], where=top, environment={"CARGO": old})
         yield f"{words} with an old cargo", is_told(ran, 3, "says above why", 1) and "unexpected" in ran[2], ran
+    words = ["guppy-cargo", "order", "--platform", "x"]
+    ran = world.run(words, where=top, environment={"RUSTC": "/no/such", "CARGO": "/no/such"})
+    yield "no rustc", is_told(ran, 3, "rustc is not on the path: put it there, or give what it prints for x"), ran
+    ran = world.run(words, where=top, environment={"CARGO": "/no/such"})
+    is_right = ran[:2] == (3, "") and "rustc does not say what is set for the platform x" in ran[2].splitlines()[-1]
+    yield "an unknown platform", is_right and "error" in ran[2], ran
     ran = world.run(["guppy-cargo", "order"], where=top, environment={"CARGO": "/no/such"})
     yield "no cargo", is_told(ran, 3, "cargo is not on the path: put it there, or give metadata by --metadata FILE"), ran
     yield "no file is left", not world.left(), world.left()

@@ -54,21 +54,32 @@ COMMANDS = [
     "reach reverse a r",
     "depends r c",
     "depends c r",
+    "why r b",
+    "why c r",
     "order",
     "roots forward",
     "roots reverse",
     "links forward",
     "links reverse",
     "cycles",
+    "duplicates",
+    "dot",
+    "dot r",
     "verify",
     "publish-order",
+    "publish-order --publishable",
+    "--platform x\nunix\na=\"b\" --platform y\n order",
 ]
 # The link of the graph that makes a cycle over links that aren't dev-only, and what ends in a fault for that.
 TURNING = "link c b normal\n"
-FAULTED = ["verify", "publish-order"]
+TURNED = ["verify", "publish-order", "publish-order --publishable"]
+# What prints nothing: no two packages of the graph have one name.
+SILENT = ["duplicates"]
+# What ends in a fault, and what is told of it.
+FAULTED = {"why c r": "no links lead from c to r"} | dict.fromkeys(TURNED, "cycle")
 # Each command on the graph, and those on the graph without that link.
 RUNS = {command: (command, LINES) for command in COMMANDS}
-RUNS |= {f"{command} without a cycle": (command, LINES.replace(TURNING, "")) for command in FAULTED}
+RUNS |= {f"{command} without a cycle": (command, LINES.replace(TURNING, "")) for command in TURNED}
 # On the input that is stored with guppy_cargo. All of it is read whatever the command; these show each member, package
 # and link.
 CARGO_RUNS = ["affected base/src/lib.rs ./top/x", "order", "links forward"]
@@ -168,10 +179,11 @@ def outcome_of(words, given):
 
 
 def full_outcome(name, words, given):
-    """What a run is with ample memory, and what is wrong in that: only a cycle is a fault."""
+    """What a run is with ample memory, and what is wrong in that."""
     full = outcome_of(words, given)
-    is_fault = name in FAULTED and full[:2] == [1, ""] and "cycle" in full[2]
-    is_right = is_fault or (name not in FAULTED and full[0] == 0 and full[1] != "" and full[2] == "")
+    is_fault = name in FAULTED and full[:2] == [1, ""] and FAULTED[name] in full[2]
+    is_silent = name in SILENT
+    is_right = is_fault or (name not in FAULTED and full[0] == 0 and is_silent == (full[1] == "") and full[2] == "")
     return full, None if is_right else f"with ample memory status, output and errors are {full}"
 
 
@@ -180,7 +192,7 @@ def try_program(shim, program, name, command, text, rereads=False):
 
     A program that rereads has another way to read its input, and may answer where one request alone is refused.
     """
-    words, given = [program, *command.split()], text.encode()
+    words, given = [program, *command.split(" ")], text.encode()
     full, wrong = full_outcome(name, words, given)
     requests = len(run(shim, words, 0, "main", given)[-1])
 
@@ -208,7 +220,7 @@ def least_room(program):
 def try_limits(program, name):
     """Runs a command with more and more address space, and returns how many runs were refused, and what is wrong."""
     command, lines = RUNS[name]
-    words, least = [program, *command.split()], least_room(program)
+    words, least = [program, *command.split(" ")], least_room(program)
     packages = "".join(f"package p{i}\n" for i in range(SIZE))
     links = "".join(f"link p{i} p{(7 * i + 3) % SIZE} dev\n" for i in range(SIZE))
     given = (lines + packages + links).encode()

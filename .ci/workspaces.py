@@ -111,25 +111,36 @@ def write_debian(room, registry):
     write(room, ".cargo/config.toml", source)
 
 
-def metadata_of(room, folder, flags=""):
-    words = ["cargo", "metadata", "--format-version", "1", "--offline", *flags.split()]
+def cargo_in(room, folder, *words):
+    """What cargo prints in the folder."""
     environment = {**os.environ, "CARGO_HOME": os.path.join(room, "home")}
-    ran = subprocess.run(words, cwd=os.path.join(room, folder), env=environment, capture_output=True, check=False)
+    ways = {"cwd": os.path.join(room, folder), "env": environment, "capture_output": True, "check": False}
+    ran = subprocess.run(["cargo", *words, "--offline"], **ways)
     return ran.stdout.decode() if ran.returncode == 0 else sys.exit(f"cargo: {folder}: {ran.stderr.decode()}")
 
 
-def texts_in(room):
-    """The JSON of each workspace, under its name."""
+def metadata_of(room, folder, flags=""):
+    return cargo_in(room, folder, "metadata", "--format-version", "1", *flags.split())
+
+
+def tree_in(room, folder, flags, triple="all"):
+    """What `cargo tree` shows of the workspace for words, on all platforms or on one: the packages, each as `name@version`."""
+    always = ["tree", "--workspace", "--target", triple, "--prefix", "none", "--format", "{p}", *flags.split()]
+    return lambda *words: {"@".join(it) for it in re.findall(r"^(\S+) v(\S+)", cargo_in(room, folder, *always, *words), re.M)}
+
+
+def workspaces_in(room):
+    """The folder of each workspace and the flags for cargo, under its name."""
     write_made(os.path.join(room, MADE))
-    texts = {f"made {it}": metadata_of(room, f"{MADE}/ws", it) for it in FLAGS}
+    found = {f"made {it}": (f"{MADE}/ws", it) for it in FLAGS}
     for seed in range(DRAWN):
         write_drawn(os.path.join(room, f"drawn{seed}"), seed)
-        texts[f"drawn {seed}"] = metadata_of(room, f"drawn{seed}", FLAGS[seed % len(FLAGS)])
+        found[f"drawn {seed}"] = (f"drawn{seed}", FLAGS[seed % len(FLAGS)])
     archive = os.path.join(room, "archive")
     try:
         take_debian(archive)
         write_debian(os.path.join(room, "debian"), os.path.join(archive, "usr/share/cargo/registry"))
-        texts["Debian"] = metadata_of(room, "debian")
+        found["Debian"] = ("debian", "")
     except (OSError, subprocess.SubprocessError) as error:
         print(f"cargo: without Debian's packages, which can't be had: {error}"[:500])
-    return texts
+    return found

@@ -88,7 +88,7 @@ try_program() {
 }
 
 # Prints each word in a line, the second as "${2}", for which the shell puts that word. The program opens only what rt is
-# told to hand it: each file behind --paths-from gets a copy, and its word is the name of that.
+# told to hand it: each file behind --paths-from or --cfgs gets a copy, and its word is the name of that.
 hand_files() {
     at=0 is_file=
     for word do
@@ -99,7 +99,7 @@ hand_files() {
             echo "\"\${$at}\""
         fi
         is_file=
-        [ "$word" != --paths-from ] || is_file=1
+        case $word in --paths-from | --cfgs) is_file=1 ;; esac
     done
 }
 

@@ -21,14 +21,17 @@ quote() {
 # Prints lines that sort the words: each says of what kind its words are (asked: options of the program), and has the second word as "${2}", for which
 # the shell puts that word. (A list that grows word by word would take minutes with some thousand paths.)
 sort_words() {
-    at=0 option= given= for_cargo= input=
+    at=0 option= given= for_cargo= input= platform=
     for word do
         at=$((at + 1))
+        case $option,$word in ,--cfgs | ,--cfgs=*) ;; ,*) name_platform ;; esac
         case $option,$word in
-        ,--metadata | ,--since | ,--manifest-path | ,--filter-platform | ,--features | ,-F | ,--paths-from | ,--kinds)
+        ,--metadata | ,--since | ,--manifest-path | ,--filter-platform | ,--features | ,-F | ,--paths-from | ,--kinds | \
+            ,--platform | ,--cfgs)
             option=$word
             ;;
-        ,--metadata=* | ,--since=* | ,--manifest-path=* | ,--filter-platform=* | ,--features=* | ,-F=* | ,--kinds=*)
+        ,--metadata=* | ,--since=* | ,--manifest-path=* | ,--filter-platform=* | ,--features=* | ,-F=* | ,--kinds=* | \
+            ,--platform=* | ,--cfgs=*)
             sort_option "${word%%=*}" "${word#*=}" "\"\${$at#*=}\""
             ;;
         ,-F?*) sort_option -F "${word#-F}" "\"\${$at#-F}\"" ;;
@@ -42,9 +45,16 @@ sort_words() {
         esac
     done
     [ -z "$option" ] || refuse "$option needs a value"
+    name_platform
     [ -z "$for_cargo" ] || [ "$given" = "${given#*--metadata}" ] ||
         refuse "--metadata can't be used with $for_cargo: cargo is not asked then"
     case $input in ?*' '?*) refuse "standard input can't be read for $input" ;; esac
+}
+
+# Prints the line for a platform behind which no --cfgs stands, where there is one.
+name_platform() {
+    [ -z "$platform" ] || echo "named $platform"
+    platform=
 }
 
 # Prints the line for one of the options. The second word is its value, and the third stands for that.
@@ -52,7 +62,8 @@ sort_option() {
     value=$3
     case $1,$2 in
     --metadata,- | --metadata,/dev/stdin) input=${input:+$input and }$1 value=- ;;
-    --paths-from,- | --paths-from,/dev/stdin) input=${input:+$input and }$1 value=/dev/fd/3 ;;
+    --paths-from,- | --paths-from,/dev/stdin | --cfgs,- | --cfgs,/dev/stdin) input=${input:+$input and }$1 value=/dev/fd/3 ;;
+    --platform,) refuse "$1 needs a value" ;;
     esac
     case $1 in
     --paths-from)
@@ -61,6 +72,16 @@ sort_option() {
         ;;
     --kinds)
         echo "asked $1 $value"
+        return
+        ;;
+    --platform)
+        platform=$value
+        return
+        ;;
+    --cfgs)
+        [ -n "$platform" ] || refuse "--cfgs goes behind --platform TRIPLE"
+        echo "asked --platform $platform $1 $value"
+        platform=
         return
         ;;
     --workspace | --ids)
@@ -96,8 +117,8 @@ asks_for_help() {
     return 1
 }
 
-# Whether the proved program refuses the words, as it does before it reads its input. It reads paths from a file by then,
-# and those from a pipe or a terminal can't be read twice.
+# Whether the proved program refuses the words, as it does before it reads its input. It reads files by then that the words
+# name, and a pipe or a terminal can't be read twice.
 refuses() {
     [ -n "$program" ] || return 1
     for word do
@@ -114,10 +135,12 @@ answer() {
     manifest=$(eval "quote $(of_kind manifest)")
     features=$(eval "quote $(of_kind features)")
     others=$(eval "quote $(of_kind others)")
+    platforms=
+    eval "take_platforms $(of_kind named)"
     # The command stands first: the program takes its options behind it too.
-    eval "set -- $(of_kind left) $(of_kind asked)"
+    eval "set -- $(of_kind left) $(of_kind asked) $platforms"
     # Nothing else depends on what standard input is.
-    case $sorted in *"left --paths-from /dev/fd/3"*) exec 3<&0 ;; esac
+    case $sorted in *"left --paths-from /dev/fd/3"* | *" --cfgs /dev/fd/3"*) exec 3<&0 ;; esac
     [ "$metadata" = - ] || exec < /dev/null
     ! asks_for_help "$@" || run "$@"
     root= changed=
