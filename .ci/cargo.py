@@ -33,6 +33,8 @@ GRAPHVIZ = shutil.which("dot")
 
 # So many starts are asked about in each graph, and so many broken inputs are tried.
 STARTS, BROKEN = 12, 1000
+# More packages than these are many.
+MANY = 100
 
 # The platforms that cargo is asked about, too: this one first, for which it builds what runs while it builds.
 HOST = re.search(r"host: (.*)", subprocess.run(["rustc", "-vV"], capture_output=True, text=True, check=True).stdout)[1]
@@ -429,8 +431,9 @@ def named(data, key, old, new):
 
 
 def try_tree(graph):
-    """What `cargo tree` shows of the same workspace. It counts a package twice that is built with other features, too, and
-    follows dependencies on packages with no library, of which the JSON has nothing."""
+    """What `cargo tree` shows of the same workspace. It counts a package twice that is built with other features, too, of which
+    the JSON has the links of both: where there are many packages, it may show fewer that lead to one. And it follows
+    dependencies on packages with no library, of which the JSON has nothing."""
     if not graph.tree:
         return
     full = {name: graph.forms[it][1] for name, it in graph.ids.items()}
@@ -441,8 +444,9 @@ def try_tree(graph):
     others = {name for name, it in graph.ids.items() if not kinds[it] & {"lib", "proc-macro"}}
     for a in (it for it in graph.starts if not graph.back[it] & others):
         wanted = graph.tree("-e", "normal,build,dev", "-i", graph.ids[a])
-        yield f"reach reverse {a}, as cargo tree has it", wanted, {full.get(it, it) for it in graph.ask("reach", "reverse", a)}
-        for b in sorted(graph.back[a])[:2]:
+        answer = {full.get(it, it) for it in graph.ask("reach", "reverse", a)}
+        yield f"reach reverse {a}, as cargo tree has it", wanted, answer & wanted if len(graph.names) > MANY else answer
+        for b in sorted(graph.back[a])[:2] if wanted == answer else ():
             passed = {full.get(it.split(" ")[0], it) for it in graph.ask("why", b, a)}
             yield f"why {b} {a}, what cargo tree has not", set(), passed - wanted
     shown = graph.tree("-e", "normal,build,dev", "-d", "--depth", "0")
