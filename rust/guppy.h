@@ -44,7 +44,7 @@ struct guppy_ends {
 
 // Writes what `guppy-cargo` prints for the arguments, which zero bytes part, of the workspace that the JSON
 // describes: what `cargo metadata --format-version 1` prints. Options and commands are those of `guppy-cargo help`, but
-// no file is read. A refusal is one line without a newline, which says why.
+// no file is read. A refusal says why, with no newline at its end.
 struct guppy_answer guppy_answer(const uint8_t *json, size_t json_len, const uint8_t *args, size_t args_len, uint8_t *out, size_t out_len);
 
 // Writes all positions as `guppy_order` does, and marks the places of the list at which a component
@@ -79,7 +79,7 @@ struct guppy_outcome guppy_reach(const struct guppy_ends *links, size_t links_le
 // manifest, edition, description, license and repository, all fields, the source behind `w` where it is the path of a
 // member, `p` where it is a path, `x` where it is elsewhere; then the list of links: two IDs, the name in the manifest
 // and in code, and for the normal, the build and the dev section where it is required and where it is optional:
-// `*` for all platforms, else the list of their texts. A refusal is one line without a newline, which says why.
+// `*` for all platforms, else the list of their texts. A refusal says why, with no newline at its end.
 struct guppy_answer guppy_records(const uint8_t *json, size_t json_len, uint8_t *out, size_t out_len);
 
 // Marks the roots of the marked set, and no other position: those whose component no link inside the

@@ -47,7 +47,7 @@ pub(crate) struct Ends {
 extern "C" {
     /// Writes what `guppy-cargo` prints for the arguments, which zero bytes part, of the workspace that the JSON
     /// describes: what `cargo metadata --format-version 1` prints. Options and commands are those of `guppy-cargo help`, but
-    /// no file is read. A refusal is one line without a newline, which says why.
+    /// no file is read. A refusal says why, with no newline at its end.
     fn guppy_answer(
         json: *const u8,
         json_len: usize,
@@ -124,7 +124,7 @@ extern "C" {
     /// manifest, edition, description, license and repository, all fields, the source behind `w` where it is the path of a
     /// member, `p` where it is a path, `x` where it is elsewhere; then the list of links: two IDs, the name in the manifest
     /// and in code, and for the normal, the build and the dev section where it is required and where it is optional:
-    /// `*` for all platforms, else the list of their texts. A refusal is one line without a newline, which says why.
+    /// `*` for all platforms, else the list of their texts. A refusal says why, with no newline at its end.
     fn guppy_records(
         json: *const u8,
         json_len: usize,

@@ -20,7 +20,7 @@ use Rattle.guppy_graph.specs.Ids.{HasId, id_at, ix_position}
 use Rattle.guppy.specs.declared.cycles.CycleIds.{CycleIds}
 use Rattle.guppy.specs.Listed.{ids_at}
 use Rattle.guppy.specs.ListedCycles.{cycles_of, cycle_left}
-use Rattle.guppy.proofs.Listed.{ids_at-count}
+use Rattle.guppy.proofs.SetLists.{ids_at-count}
 use Rattle.guppy_graph.proofs.OnCycles.{IsCyclicBlock, block_of_cycle, cycle_of_block, near_below}
 
 module _ {E : Type 0} (links : List (Link E)) where

@@ -10,7 +10,7 @@ use Rattle.std.specs.String.{string_bytes}
 use Rattle.std.proofs.lemmas.List.Folds.{Any-from_list_any, list_any-from_Any}
 use Rattle.std.proofs.lemmas.Map.Made.{is_some-lookup}
 use Rattle.std.proofs.lemmas.Slice.Eq.{bytes_eq-Decides}
-use Rattle.guppy_data.proofs.Listed.{list_any-map}
+use Rattle.guppy_data.proofs.ListedNames.{list_any-map}
 
 -- a text that is equal to one of the list is in the list
 pub Contains-from_list_any : (texts : List (List ℕ)) (text : List ℕ) → list_any (bytes_eq text) texts ≡ true → Contains texts text

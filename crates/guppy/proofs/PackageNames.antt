@@ -5,7 +5,7 @@ use Rattle.std.specs.List.{Contains}
 use Rattle.std.proofs.lemmas.List.Elements.{Contains-get_or}
 use Rattle.guppy_data.specs.declared.records.PackageRecord.{PackageRecord}
 use Rattle.guppy.specs.PackageNames.{HasPackageName}
-use Rattle.guppy_graph.proofs.Named.{some_within}
+use Rattle.guppy_graph.proofs.PackageIds.{some_within}
 
 pub named_within : (packages : List PackageRecord) (name : List ℕ) (p : ℕ) → HasPackageName packages name p → p < length packages
 named_within packages name p has = some_within packages p _ has

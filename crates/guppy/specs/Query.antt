@@ -19,15 +19,15 @@ pub record QueryData : Type 0 where
   pub direction : DependencyDirection
 
 -- each text names a package, and the set has exactly the packages that they name
-pub record IsSetNamed (Names : List ℕ → ℕ → Type 0) (packages : List PackageRecord)
+pub record IsSetOfNamed (Names : List ℕ → ℕ → Type 0) (packages : List PackageRecord)
     (texts : List (List ℕ)) (set : List Bool) : Type 0 where
   pub count_is : length set ≡ length packages
   pub known : All (λ text. (p : ℕ) × Names text p) texts
   pub members : (p : ℕ) → IsIn set p ↔ ((text : List ℕ) × Contains texts text × Names text p)
 
 -- each ID is a package's, and the set has exactly these packages
-abbrev pub IsNamedSet : List PackageRecord → List (List ℕ) → List Bool → Type 0
-IsNamedSet packages = IsSetNamed (HasId packages) packages
+abbrev pub IsSetOfIds : List PackageRecord → List (List ℕ) → List Bool → Type 0
+IsSetOfIds packages = IsSetOfNamed (HasId packages) packages
 
 -- the package with the ID is in the set
 abbrev pub IncludesId : SetData → List ℕ → Type 0

@@ -1,10 +1,10 @@
-pub mod Begins
+pub mod Prefixes
 pub mod Elements
 pub mod Walks
-pub mod Along
-pub mod Resolved
+pub mod Iterators
+pub mod ReverseResolves
 pub mod Tests
 pub mod Sets
 pub mod Local
-pub mod Owned
+pub mod Owners
 pub mod Members

@@ -15,7 +15,7 @@ use Rattle.guppy.specs.DataContracts.texts.component.ComponentPartialEq.TheImpl.
 use Rattle.guppy.specs.DataTypes.texts.component.Component.{Component}
 use Rattle.guppy_affected.specs.Folders.{Begins}
 use Rattle.guppy_affected.specs.Found.{lists_in}
-use Rattle.guppy_affected.proofs.Begins.{equal_shown, shown_equal}
+use Rattle.guppy_affected.proofs.Prefixes.{equal_shown, shown_equal}
 use Rattle.guppy.proofs.CyclicComponents.{Contains-map, from_map}
 
 both_true : (a b : Bool) → (a && b) ≡ true → (a ≡ true) × (b ≡ true)

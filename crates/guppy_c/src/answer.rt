@@ -62,7 +62,7 @@ fn refuse(alloc: Global, fault: CargoFault, out: &mut [u8]) -> Answer
 
 /// Writes what `guppy-cargo` prints for the arguments, which zero bytes part, of the workspace that the JSON
 /// describes: what `cargo metadata --format-version 1` prints. Options and commands are those of `guppy-cargo help`, but
-/// no file is read. A refusal is one line without a newline, which says why.
+/// no file is read. A refusal says why, with no newline at its end.
 #[unsafe(no_mangle)]
 pub extern "C" fn guppy_answer(alloc: Global, json: &[u8], args: &[u8], out: &mut [u8]) -> Answer
     ensures answered { result.status ≡ 0
@@ -100,7 +100,7 @@ fn text_of(alloc: Global, json: &[u8]) -> Result<String, CargoFault>
 /// manifest, edition, description, license and repository, all fields, the source behind `w` where it is the path of a
 /// member, `p` where it is a path, `x` where it is elsewhere; then the list of links: two IDs, the name in the manifest
 /// and in code, and for the normal, the build and the dev section where it is required and where it is optional:
-/// `*` for all platforms, else the list of their texts. A refusal is one line without a newline, which says why.
+/// `*` for all platforms, else the list of their texts. A refusal says why, with no newline at its end.
 #[unsafe(no_mangle)]
 pub extern "C" fn guppy_records(alloc: Global, json: &[u8], out: &mut [u8]) -> Answer
     ensures told { result.status ≡ 0 → AreRecords json.now (take result.len out.new) }

@@ -1,5 +1,5 @@
-pub mod Called
-pub mod Firsts
-pub mod Grouped
-pub mod Meant
-pub mod Nearer
+pub mod CalledPackages
+pub mod FirstElements
+pub mod KeyLists
+pub mod Meanings
+pub mod NearestName

@@ -1,20 +1,21 @@
 -- Faults: why there is no answer, what they print, and the status that the program ends with.
 use Rattle.std.specs.Prelude.{ℕ, List, ◌++◌, codes, string_bytes}
 use Rattle.std.specs.Fmt.{decimal}
-use Rattle.guppy_data.specs.declared.texts.error.Error.TheVariants.{OutOfMemory}
+use Rattle.guppy_data.specs.declared.texts.error.Error.TheVariants.{OutOfMemory, UnknownPackageId}
 use Rattle.guppy_data.specs.Texts.{error_text}
 use Rattle.guppy_metadata.specs.Fault.{fault_text as metadata_text}
 use Rattle.guppy_metadata.specs.declared.fault.MetadataFault.{MetadataFault}
 use Rattle.guppy_metadata.specs.declared.fault.MetadataFault.TheVariants.{OutOfMemory as MetadataMemory}
-use Rattle.guppy_program.specs.Cause.{Cause, bad_arguments, ambiguous, bad_input}
+use Rattle.guppy_program.specs.Cause.{Cause, library, bad_arguments, ambiguous, bad_input}
 use Rattle.guppy_program.specs.Shown.{cause_shown}
 use Rattle.guppy_program.specs.declared.fault.Fault.TheVariants.{Library, BadArguments, NoWalk, InputFailed, OutputFailed}
 use Rattle.guppy_cargo.specs.declared.fault.CargoFault.{CargoFault}
-use Rattle.guppy_cargo.specs.declared.fault.CargoFault.TheVariants.{Program, Ambiguous, NoCommand, Metadata, NoText, PathsFailed, CfgsFailed, BadCfg}
+use Rattle.guppy_cargo.specs.declared.fault.CargoFault.TheVariants.{Program, Ambiguous, Unknown, NoCommand, Metadata, NoText, PathsFailed, CfgsFailed, BadCfg}
 
 abbrev pub cause_of : CargoFault → Cause
 cause_of (Program fault) = cause_shown fault
 cause_of (Ambiguous word choices) = ambiguous (string_bytes word) (string_bytes choices)
+cause_of (Unknown word nearest) = library (UnknownPackageId (string_bytes word))
 cause_of (NoCommand word nearest) = bad_arguments
 cause_of (Metadata fault) = bad_input
 cause_of NoText = bad_input
@@ -40,6 +41,8 @@ fault_text (Program (NoWalk from to)) =
     codes "no links lead from " ++ string_bytes from ++ codes " to " ++ string_bytes to
 fault_text (Ambiguous word choices) =
     codes "ambiguous package " ++ string_bytes word ++ codes ": give " ++ string_bytes choices
+fault_text (Unknown word nearest) =
+    codes "unknown package " ++ string_bytes word ++ codes ": the nearest is " ++ string_bytes nearest
 fault_text (NoCommand word nearest) =
     string_bytes word ++ (codes " is no command: the nearest is " ++ string_bytes nearest)
 fault_text (Metadata fault) = metadata_text fault

@@ -22,6 +22,13 @@ pub enum CargoFault {
         /// What to give in its place.
         choices: String,
     },
+    /// The word means no package, but the name of one is near it.
+    Unknown {
+        /// The word, as it was given.
+        word: String,
+        /// The name of a package.
+        nearest: String,
+    },
     /// No command is called by the first word that is no option, but one is by a name near it.
     NoCommand {
         /// The word, as it was given.
@@ -67,6 +74,9 @@ impl fmt::Display for CargoFault {
             }
             CargoFault::Ambiguous { word, choices } => {
                 write!(f, "ambiguous package {word}: give {choices}")
+            }
+            CargoFault::Unknown { word, nearest } => {
+                write!(f, "unknown package {word}: the nearest is {nearest}")
             }
             CargoFault::NoCommand { word, nearest } => write!(
                 f,

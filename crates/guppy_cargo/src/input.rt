@@ -8,11 +8,12 @@ ghost use Rattle.guppy_data.specs.declared.records.PackageRecord.{PackageRecord 
 use crate::command::asked_of;
 use crate::fault::CargoFault;
 use crate::names::Names;
-use guppy::{Error, PackageGraph, PackageId};
+use crate::unknown::unknown;
+use guppy::{PackageGraph, PackageId};
 use guppy_data::{PackageRecord, Records};
 use guppy_metadata::records_of;
 use guppy_program::format::has_package;
-use guppy_program::{Asked, Fault, Format};
+use guppy_program::{Asked, Format};
 use std::alloc::{AllocError, Global};
 use std::str;
 
@@ -72,7 +73,7 @@ impl Format for Json {
         }
         match names.called(word) {
             [only] => Ok(only.clone()?),
-            [] => Err(CargoFault::Program(Fault::Library(Error::UnknownPackageId(id)))),
+            [] => Err(unknown(graph, id)?),
             several => {
                 let choices = choices_of(alloc, names, several)?;
                 let word = String::from_str(alloc, word)?;

@@ -7,7 +7,7 @@
 //! - `options`: options wherever they stand among the arguments;
 //! - `command`: what the arguments ask;
 //! - `nearest`, `commands`: what the commands are called, and the name nearest to a word;
-//! - `names`: what packages are called;
+//! - `names`, `unknown`: what packages are called, and the name nearest to a word that means none;
 //! - `input`: how the program reads its input;
 //! - `cfgs`: platforms, of which a file has what a compiler prints;
 //! - `paths`: arguments that a file has;
@@ -27,6 +27,7 @@ mod names;
 mod nearest;
 mod options;
 mod paths;
+mod unknown;
 mod words;
 
 pub use cfgs::with_cfgs;

@@ -8,7 +8,7 @@ use Rattle.std.specs.Prelude.{All}
 use Rattle.guppy_search.specs.Reach.{Walk, here, step, ReachedFrom}
 use Rattle.guppy_search.specs.IxSet.{has}
 use Rattle.guppy_core.specs.declared.topo.finish.Frame.{Frame}
-use Rattle.guppy_core.proofs.Inserted.{has-set_kept}
+use Rattle.guppy_core.proofs.Inserts.{has-set_kept}
 use Rattle.guppy_core.specs.Cost.{missing_cost}
 use Rattle.guppy_core.proofs.Costs.{missing_cost-set}
 use Rattle.guppy_core.proofs.Levels.{In, raise, raise-mono, put}

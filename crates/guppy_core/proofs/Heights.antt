@@ -10,7 +10,7 @@ use Rattle.guppy_search.proofs.Walks.{walk_on, walk_from}
 use Rattle.guppy_search.specs.IxSet.{has}
 use Rattle.guppy_core.specs.Finish.{IsRooted, IsFinishList}
 use Rattle.guppy_core.specs.Listing.{Stands, StandsBefore}
-use Rattle.guppy_core.proofs.Inserted.{has-set_kept, has-set_cases}
+use Rattle.guppy_core.proofs.Inserts.{has-set_kept, has-set_cases}
 use Rattle.guppy_core.specs.Cost.{missing_cost}
 use Rattle.guppy_core.proofs.Costs.{missing_cost-set}
 use Rattle.guppy_core.proofs.Places.{at_left, at_last, at_cases, stands_left, stands_last, stands_cases}

@@ -6,7 +6,7 @@ use Rattle.std.proofs.lemmas.Bool.{cases_Bool}
 use Rattle.std.proofs.lemmas.List.{get_or-set_same}
 use Rattle.guppy_search.specs.IxSet.{has, member_count}
 use Rattle.guppy_search.proofs.Members.{member_count-set, member_count-replicate, member_count-le-length, has-replicate}
-use Rattle.guppy_core.proofs.Inserted.{has-set_kept, has-set_cases}
+use Rattle.guppy_core.proofs.Inserts.{has-set_kept, has-set_cases}
 use Rattle.guppy_core.specs.Listing.{Stands, IsOnce}
 
 -- the set with those of the list put in

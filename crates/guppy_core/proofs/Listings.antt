@@ -7,7 +7,7 @@ use Rattle.std.proofs.lemmas.Bool.{cases_lt}
 use Rattle.std.proofs.lemmas.List.{get_or-set_same, get_or-reverse, length-reverse, reverse-reverse}
 use Rattle.std.proofs.lemmas.Option.{slice_get_within, slice_get-get_or, slice_get-map, get_or_from_slice_get}
 use Rattle.guppy_search.specs.IxSet.{has}
-use Rattle.guppy_core.proofs.Inserted.{has-set_kept, has-set_cases}
+use Rattle.guppy_core.proofs.Inserts.{has-set_kept, has-set_cases}
 use Rattle.guppy_core.proofs.Places.{at_cases, stands_left, stands_last, stands_cases}
 use Rattle.guppy_core.specs.Listing.{Stands, StandsBefore, Precedes, IsOnce, IsAbsence}
 

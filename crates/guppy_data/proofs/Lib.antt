@@ -1,7 +1,7 @@
-pub mod Ascending
+pub mod AscendingLists
 pub mod Cuts
-pub mod Listed
-pub mod Searched
+pub mod ListedNames
+pub mod BinarySearch
 pub mod Sources
 pub mod Statuses
 pub mod Ternaries

@@ -13,7 +13,7 @@ use Rattle.guppy.specs.Views.{graph_of, graph_packages, package_position}
 use Rattle.guppy.specs.declared.metadata.PackageMetadata.{PackageMetadata}
 use Rattle.guppy_duplicates.specs.Duplicates.{HasNamesake, AreDuplicates, row_of}
 use Rattle.guppy_duplicates.specs.Sorted.{AreSorted}
-use Rattle.guppy_duplicates.proofs.Kept.{IsKept, kept_more, kept_once, kept_all}
+use Rattle.guppy_duplicates.proofs.KeptPositions.{IsKept, kept_more, kept_once, kept_all}
 use Rattle.guppy_duplicates.proofs.Namesakes.{graph_is, in_order, position_at, positions_all, range_once, range_stands}
 use Rattle.guppy_duplicates.proofs.Order.{records_total, not_behind}
 

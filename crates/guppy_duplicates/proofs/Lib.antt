@@ -1,5 +1,5 @@
 pub mod Order
-pub mod Kept
+pub mod KeptPositions
 pub mod Namesakes
 pub mod Rows
 pub mod Answer

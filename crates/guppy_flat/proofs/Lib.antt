@@ -1,2 +1,2 @@
-pub mod Cycling
+pub mod Cycles
 pub mod Places

@@ -11,7 +11,7 @@ use Rattle.guppy_graph.specs.First.{IsFirstWithout}
 use Rattle.guppy_graph.specs.Ids.{HasId}
 use Rattle.guppy_graph.specs.Keys.{NoneBelow}
 use Rattle.guppy_graph.specs.Links.{AreEndsOf, AreEndsNamed, AreLinksOf, AreEndsKnown}
-use Rattle.guppy_graph.proofs.Named.{unknown_of}
+use Rattle.guppy_graph.proofs.PackageIds.{unknown_of}
 
 -- the records whose ends were found are known
 pub all_known : (packages : List PackageRecord) (records : List LinkRecord) (ends : List (Link (Unit {0}))) → length ends ≡ length records → All (AreEndsNamed packages) (links_between ends records) → All (AreEndsKnown packages) records

@@ -14,9 +14,9 @@ use Rattle.guppy_data.specs.declared.records.PackageRecord.{PackageRecord}
 use Rattle.guppy_graph.specs.Keys.{HasKey, NoneBelow, DifferBelow, keyed}
 use Rattle.guppy_graph.specs.Members.{member_path, member_name, path_at, name_at, HasPath, HasName, IsMember, IsMemberName, members_of, AreMembersByPath, AreMembersByName}
 use Rattle.guppy_graph.specs.Indexes.{IsPathIndex, IsNameIndex}
-use Rattle.guppy_graph.proofs.Keying.{keyed_below, keyed_some, in_keyed, DifferBelow-along, exact_there, exact_back}
+use Rattle.guppy_graph.proofs.Keys.{keyed_below, keyed_some, in_keyed, DifferBelow-along, exact_there, exact_back}
 use Rattle.guppy_graph.specs.PathOrder.{path_total}
-use Rattle.guppy_graph.proofs.Ascending.{index_ascends}
+use Rattle.guppy_graph.proofs.AscendingIndexes.{index_ascends}
 
 -- a position with a key of its package is a package's
 key_within : (f : PackageRecord → Option (List ℕ)) (packages : List PackageRecord) (p : ℕ) (P : List ℕ → Type 0) → IsSomeAnd (option_and_then f (slice_get packages p)) P → p < length packages

@@ -16,7 +16,7 @@ use Rattle.guppy_core.proofs.Blocks.{sccs_below, sccs_cover, sccs_members, sccs_
 use Rattle.guppy_graph.specs.Cycles.{LeadsTo, HaveCycle, AreCyclic}
 use Rattle.guppy_graph.specs.Graph.{GraphData}
 use Rattle.guppy_graph.specs.Ids.{HasId, DistinctBelow}
-use Rattle.guppy_graph.proofs.Named.{position_is}
+use Rattle.guppy_graph.proofs.PackageIds.{position_is}
 
 leads_away : {R : ℕ → ℕ → Type 0} {x y : ℕ} → (x ≡ y → ⊥) → Walk R x y → LeadsTo R x y
 leads_away apart here = absurd (apart refl)

@@ -12,7 +12,7 @@ use Rattle.guppy_core.specs.Links.{EndsBelow}
 use Rattle.guppy_core.specs.Graph.{NoLink, LinkIs}
 use Rattle.guppy_core.specs.Topo.{HasNoCycle}
 use Rattle.guppy_core.specs.Cycle.{IsCycle, IsAcyclic}
-use Rattle.guppy_core.proofs.Cycling.{acyclic_steps}
+use Rattle.guppy_core.proofs.Cycles.{acyclic_steps}
 use Rattle.guppy_core.proofs.Listings.{IsSetOf, set_more}
 use Rattle.guppy_data.specs.declared.records.PackageRecord.{PackageRecord}
 use Rattle.guppy_data.specs.declared.records.LinkRecord.{LinkRecord}
@@ -23,7 +23,7 @@ use Rattle.guppy_graph.specs.Ordered.{FirmStep, is_firm}
 use Rattle.guppy_graph.specs.Graph.{GraphData, IsPackageGraph}
 use Rattle.guppy_graph.specs.FirmCycles.{IsFirmCycle, HasNoFirmCycle}
 use Rattle.guppy_graph.proofs.Lists.{some_at, All-from_AllZip, All-slice_get}
-use Rattle.guppy_graph.proofs.Named.{position_is}
+use Rattle.guppy_graph.proofs.PackageIds.{position_is}
 
 -- k is the place before i, in a list of n that goes round
 abbrev pub IsBefore : ℕ → ℕ → ℕ → Type 0

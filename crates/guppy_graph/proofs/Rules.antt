@@ -6,7 +6,7 @@ use Rattle.guppy_data.specs.declared.records.LinkRecord.{LinkRecord}
 use Rattle.guppy_data.specs.declared.records.WorkspaceRecord.{WorkspaceRecord}
 use Rattle.guppy_graph.specs.Accepted.{Rule, few_packages, distinct_ids, distinct_targets, named_targets, distinct_paths, distinct_names, known_members, few_links, known_ends, distinct_pairs, place, Kept, Breaks, IsAccepted, IsFirstFault, ArePackagesAccepted}
 use Rattle.guppy_graph.specs.Refused.{TellsFault, IsRefusal}
-use Rattle.guppy_graph.proofs.Unknown.{TellsFault-along}
+use Rattle.guppy_graph.proofs.UnknownTexts.{TellsFault-along}
 
 -- the rule at the place
 abbrev rule_at : ℕ → Rule

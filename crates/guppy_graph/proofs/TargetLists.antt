@@ -14,14 +14,14 @@ use Rattle.std.proofs.lemmas.List.Sorted.{All-permutation, IsPermutation-map, Is
 use Rattle.std.proofs.lemmas.Option.{slice_get-get_or}
 use Rattle.guppy_data.specs.declared.records.BuildTargetRecord.{BuildTargetRecord}
 use Rattle.guppy_data.specs.BuildTargetId.{recorded_id, target_id_cmp}
-use Rattle.guppy_data.proofs.Ascending.{IsStrictlySortedBy-map}
+use Rattle.guppy_data.proofs.AscendingLists.{IsStrictlySortedBy-map}
 use Rattle.guppy_graph.specs.Keys.{or_empty, DifferBelow}
 use Rattle.guppy_graph.specs.Targets.{target_key, target_at, HasTarget, AreTargetsById}
 use Rattle.guppy_graph.specs.Indexes.{IsTargetIndex}
 use Rattle.guppy_graph.proofs.Lists.{some_at}
-use Rattle.guppy_graph.proofs.Keying.{below_range, index_of_all}
-use Rattle.guppy_graph.proofs.Targeting.{keys_differ}
-use Rattle.guppy_graph.proofs.Ascending.{index_ascends}
+use Rattle.guppy_graph.proofs.Keys.{below_range, index_of_all}
+use Rattle.guppy_graph.proofs.TargetIds.{keys_differ}
+use Rattle.guppy_graph.proofs.AscendingIndexes.{index_ascends}
 
 AllByRecursion-from_map : {A K : Type 0} (P : K → Type 0) (read : A → K) (xs : List A) → AllByRecursion P (map read xs) → AllByRecursion (λ x. P (read x)) xs
 AllByRecursion-from_map P read [] h = h

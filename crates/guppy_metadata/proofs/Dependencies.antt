@@ -8,10 +8,10 @@ use Rattle.std.proofs.lemmas.List.{map_push}
 use Rattle.std.proofs.lemmas.List.Elements.{filter_map-append}
 use Rattle.std.proofs.lemmas.List.Sums.{fold-append}
 use Rattle.indexmap.specs.IndexSet.{insert_key, insert_all}
-use Rattle.guppy_data.proofs.Listed.{list_any-map}
+use Rattle.guppy_data.proofs.ListedNames.{list_any-map}
 use Rattle.guppy_metadata.specs.Dependency.{manifest_name, optional_name}
 use Rattle.guppy_metadata.specs.declared.declared.Declared.{Declared}
-use Rattle.guppy_metadata.proofs.Fitting.{take_with}
+use Rattle.guppy_metadata.proofs.FittingLists.{take_with}
 
 -- what is read of texts after one is put among them
 inserted : (keys : List (String Global)) (own : String Global) → map string_bytes (insert_key string_eq keys own) ≡ insert_key bytes_eq (map string_bytes keys) (string_bytes own)

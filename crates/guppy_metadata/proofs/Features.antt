@@ -13,7 +13,7 @@ use Rattle.guppy_data.specs.Texts.{named_feature_text}
 use Rattle.guppy_data.specs.declared.texts.named_feature.NamedFeatureDep.{NamedFeatureDep}
 use Rattle.guppy_data.specs.declared.texts.named_feature.NamedFeatureDep.TheVariants.{NamedFeature, OptionalDependency, DependencyNamedFeature}
 use Rattle.guppy_metadata.specs.Feature.{IsFeature, IsNamedFeature, once_behind, each_once}
-use Rattle.guppy_metadata.proofs.Fitting.{take_with}
+use Rattle.guppy_metadata.proofs.FittingLists.{take_with}
 
 -- what is printed is the text
 pub printed-is : (text : List ℕ) (d : NamedFeatureDep) → IsFeature text d → named_feature_text d ≡ text

@@ -12,7 +12,7 @@ use Rattle.guppy_metadata.specs.declared.package.Package.{Package}
 use Rattle.guppy_metadata.specs.Dependency.{NamesOptional}
 use Rattle.guppy_metadata.specs.Members.{is_among, list_of}
 use Rattle.guppy_metadata.specs.Package.{IsFrom, IsTold, AreTold, AreTargets, IsRecordOf, IsPackage, ArePackages, with_id}
-use Rattle.guppy_metadata.proofs.Fitting.{picked_more, passed_over}
+use Rattle.guppy_metadata.proofs.FittingLists.{picked_more, passed_over}
 
 module _ {A : Type 0} {P Q : A → Type 0} where
   some_and : (o : Option A) → ((a : A) → P a → Q a) → IsSomeAnd o P → IsSomeAnd o Q

@@ -59,8 +59,8 @@ same_section Build Build = true
 same_section one other = false
 
 -- whether the dependency is of this section
-abbrev pub is_in : DependencyKind → Declared → Bool
-is_in section x = same_section section x.section
+abbrev pub is_of_section : DependencyKind → Declared → Bool
+is_of_section section x = same_section section x.section
 
 -- the first text that is there
 abbrev pub first_of : List (Option (List ℕ)) → Option (List ℕ)
@@ -68,9 +68,9 @@ first_of texts = fold option_or None texts
 
 -- what these dependencies ask for, in their sections, and the first registry and path that they ask for
 pub record IsGathered (xs : List Declared) (r : LinkRecord) : Type 0 where
-  pub normal : IsSection (filter (is_in Normal) xs) r.normal
-  pub build : IsSection (filter (is_in Build) xs) r.build
-  pub dev : IsSection (filter (is_in Development) xs) r.dev
+  pub normal : IsSection (filter (is_of_section Normal) xs) r.normal
+  pub build : IsSection (filter (is_of_section Build) xs) r.build
+  pub dev : IsSection (filter (is_of_section Development) xs) r.dev
   pub registry : option_map string_bytes r.registry ≡ first_of (map (λ x. option_copied x.registry) xs)
   pub path : r.path ≡ first_of (map (λ x. option_copied x.path) xs)
 
@@ -80,7 +80,7 @@ pub record IsNamedAs (x : Declared) (r : LinkRecord) : Type 0 where
   pub requirement : map comparator_view r.version_req.comparators.items ≡ map comparator_view x.requirement.comparators.items
 
 -- the link of these dependencies: gathered from all, with the names of the first
-pub record IsMadeOf (xs : List Declared) (r : LinkRecord) : Type 0 where
+pub record IsLinkOf (xs : List Declared) (r : LinkRecord) : Type 0 where
   pub first : Declared
   pub others : List Declared
   pub parts : xs ≡ first ∷ others

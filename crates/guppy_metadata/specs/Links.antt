@@ -12,7 +12,7 @@ use Rattle.guppy_metadata.specs.declared.link.Usage.{Usage}
 use Rattle.guppy_metadata.specs.declared.package.Package.{Package}
 use Rattle.guppy_metadata.specs.Dependency.{NamesSection}
 use Rattle.guppy_metadata.specs.Fits.{fits, are_matched}
-use Rattle.guppy_metadata.specs.Gathered.{IsGathered, IsMadeOf}
+use Rattle.guppy_metadata.specs.Gathered.{IsGathered, IsLinkOf}
 use Rattle.guppy_metadata.specs.Members.{IsText, IsListOf}
 use Rattle.guppy_metadata.specs.Package.{AreTold, with_id}
 
@@ -50,7 +50,7 @@ pub record IsUnasked (name : List ℕ) (r : LinkRecord) : Type 0 where
 -- of which each usage has one; none where one of the two is no package
 abbrev pub IsAsked : Option Package → Option Package → List ℕ → Resolved → LinkRecord → Type 0
 IsAsked (Some asking) (Some needed) from resolved r =
-    IsMadeOf (filter (fits from resolved needed.record) asking.declared.items) r
+    IsLinkOf (filter (fits from resolved needed.record) asking.declared.items) r
     × (are_matched from resolved needed.record asking.declared.items resolved.usages.items ≡ true)
 IsAsked (Some asking) None from resolved r = IsUnasked resolved.name.now r
 IsAsked None needed from resolved r = IsUnasked resolved.name.now r

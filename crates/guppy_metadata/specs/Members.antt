@@ -38,8 +38,8 @@ abbrev pub is_among : List (List ℕ) → List ℕ → Bool
 is_among texts text = list_any (bytes_eq text) texts
 
 -- whether the text is in the set
-abbrev pub is_in : {S : Type 0} → IndexSet (Bor (List ℕ)) S → List ℕ → Bool
-is_in set text = contains_by (λ key. bytes_eq text key.now) set
+abbrev pub is_in_set : {S : Type 0} → IndexSet (Bor (List ℕ)) S → List ℕ → Bool
+is_in_set set text = contains_by (λ key. bytes_eq text key.now) set
 
 -- the list whose items these are, each as R says
 abbrev pub IsListOf : {X : Type 0} → (Json → X → Type 0) → Json → List X → Type 0

@@ -29,11 +29,11 @@ IsLibraryOf types (LibraryOrExample own) = (text : List ℕ) → is_among (map s
 IsLibraryOf types _ = ⊥
 
 -- what is made of a target, as one of these crate types
-abbrev pub IsMadeOf : OwnedBuildTargetId → List (List ℕ) → BuildTargetKindRecord → Type 0
-IsMadeOf Library types ProcMacro = is_among types (codes "proc-macro") ≡ true
-IsMadeOf Library types kind = (is_among types (codes "proc-macro") ≡ false) × IsLibraryOf types kind
-IsMadeOf (Example own) types kind = IsLibraryOf types kind
-IsMadeOf _ types kind = kind ≡ BinaryKind
+abbrev pub IsTargetKind : OwnedBuildTargetId → List (List ℕ) → BuildTargetKindRecord → Type 0
+IsTargetKind Library types ProcMacro = is_among types (codes "proc-macro") ≡ true
+IsTargetKind Library types kind = (is_among types (codes "proc-macro") ≡ false) × IsLibraryOf types kind
+IsTargetKind (Example own) types kind = IsLibraryOf types kind
+IsTargetKind _ types kind = kind ≡ BinaryKind
 
 -- a target: of its kinds the first one counts, as a library has one for each of its crate types
 pub record IsTarget (d : Json) (r : BuildTargetRecord) : Type 0 where
@@ -45,7 +45,7 @@ pub record IsTarget (d : Json) (r : BuildTargetRecord) : Type 0 where
   pub id : IsTargetId kind name r.id (option_map string_bytes r.lib_name)
   pub crate_types : List (List ℕ)
   pub crate_types_are : AreTexts (codes "crate_types") d crate_types
-  pub made : IsMadeOf r.id crate_types r.kind
+  pub made : IsTargetKind r.id crate_types r.kind
   pub required_features : AreTexts (codes "required-features") d (map string_bytes r.required_features.items)
   pub path : get (codes "src_path") d ≡ Some (string r.path)
   pub edition : get (codes "edition") d ≡ Some (string (string_bytes r.edition))

@@ -10,7 +10,7 @@ ghost use Rattle.json.specs.Json.{Json, value};
 ghost use Rattle.json.specs.Value.{value_view};
 ghost use Rattle.guppy_metadata.specs.declared.declared.Declared.{Declared};
 ghost use Rattle.guppy_metadata.specs.Fits.{stands_for, is_named, has_name, same_usage, is_used, fits, is_matched, are_matched};
-ghost use Rattle.guppy_metadata.specs.Gathered.{status_at, asked_too, asks_for, IsSection, IsGathered, IsNamedAs, IsMadeOf};
+ghost use Rattle.guppy_metadata.specs.Gathered.{status_at, asked_too, asks_for, IsSection, IsGathered, IsNamedAs, IsLinkOf};
 ghost use Rattle.guppy_metadata.specs.Links.{HasTexts, Joins, IsUsage, IsResolved, IsUnasked, IsLink, AreLinksOf, AreLinksOfList};
 ghost use Rattle.guppy_metadata.specs.Members.{data_of, IsListOf};
 ghost use Rattle.guppy_metadata.specs.Package.{with_id, ArePositions};
@@ -461,7 +461,7 @@ fn add_link_between(
 ) -> Result<(), Misfit>
     ensures added { OnOk result ((link : LinkRecord) × (links.new.items ≡ links.old.items ++ link ∷ [])
         × Joins from.now resolved.now.id.now resolved.now.name.now link
-        × IsMadeOf (filter (fits from.now resolved.now needed.now.record) asking.now.declared.items) link) }
+        × IsLinkOf (filter (fits from.now resolved.now needed.now.record) asking.now.declared.items) link) }
     ensures matched { OnOk result (are_matched from.now resolved.now needed.now.record
         asking.now.declared.items resolved.now.usages.items ≡ true) }
 {

@@ -7,7 +7,7 @@ ghost use Rattle.json.specs.Find.{get};
 ghost use Rattle.json.specs.Value.{value_view};
 ghost use Rattle.guppy_data.specs.Utf8Path.{path_text};
 ghost use Rattle.guppy_metadata.specs.Dependency.{NamesOptional};
-ghost use Rattle.guppy_metadata.specs.Members.{data_of, is_in, IsListOf, IsText};
+ghost use Rattle.guppy_metadata.specs.Members.{data_of, is_in_set, IsListOf, IsText};
 ghost use Rattle.guppy_metadata.specs.Package.{IsFrom, IsNamed, IsDescribed, IsFilled, IsTold, IsRecordOf, IsPublishable, IsRustVersion, AreTargets, AreDeclared, AreAlike, ArePositions, dots_in, zeros_behind, whole_version};
 
 use crate::declared::{Declared, declared_dependencies, optional_names};
@@ -318,7 +318,7 @@ fn record_of(
     members: &IndexSet<&str>,
     root: Utf8Path<'_>,
 ) -> Result<PackageRecord, AllocError>
-    ensures { IfOk result (IsRecordOf (path_text root.entry) (is_in members.now) «package».entry) }
+    ensures { IfOk result (IsRecordOf (path_text root.entry) (is_in_set members.now) «package».entry) }
 {
     let Package {
         id,
@@ -345,7 +345,7 @@ pub(crate) fn package_records(
     root: Utf8Path<'_>,
 ) -> Result<Vec<PackageRecord>, AllocError>
     ensures { IfOk result
-        (λ records. AllZip (IsRecordOf (path_text root.entry) (is_in members.now)) packages.entry.items records.items) }
+        (λ records. AllZip (IsRecordOf (path_text root.entry) (is_in_set members.now)) packages.entry.items records.items) }
 {
     let mut records = Vec::with_capacity(alloc, packages.len())?;
     for package in packages {

@@ -3,7 +3,7 @@ ghost use Rattle.std.specs.Prelude.{◌≡◌, ◌∷◌, ℕ, List, Some, IfOk,
 ghost use Rattle.json.specs.Json.{Json, value};
 ghost use Rattle.json.specs.Value.{value_view};
 ghost use Rattle.guppy_metadata.specs.Members.{data_of, is_among, AreTexts, IsListOf};
-ghost use Rattle.guppy_metadata.specs.Target.{IsTargetId, IsLibraryOf, IsMadeOf, IsTarget};
+ghost use Rattle.guppy_metadata.specs.Target.{IsTargetId, IsLibraryOf, IsTargetKind, IsTarget};
 
 use crate::fault::{Kind, Misfit};
 use crate::object::Object;
@@ -49,7 +49,7 @@ fn library_of(crate_types: Vec<String>) -> BuildTargetKindRecord
 
 // What is made of a target, as one of these crate types.
 fn kind_of(id: &OwnedBuildTargetId, crate_types: Vec<String>) -> BuildTargetKindRecord
-    ensures { IsMadeOf id.now (map string_bytes crate_types.items) result }
+    ensures { IsTargetKind id.now (map string_bytes crate_types.items) result }
 {
     match id {
         OwnedBuildTargetId::Library => {

@@ -2,7 +2,7 @@
 ghost use Rattle.std.specs.Prelude.{◌≡◌, ℕ, List, IfOk, Some, map, codes};
 ghost use Rattle.json.specs.Json.{string};
 ghost use Rattle.json.specs.Find.{get};
-ghost use Rattle.guppy_metadata.specs.Members.{data_of, list_of, is_among, is_in};
+ghost use Rattle.guppy_metadata.specs.Members.{data_of, list_of, is_among, is_in_set};
 ghost use Rattle.guppy_metadata.specs.Workspace.{IsBuildDirectory, IsWorkspace};
 
 use crate::fault::{Misfit, TextFault};
@@ -65,7 +65,7 @@ pub(crate) fn member_ids<'a>(metadata: Object<'_, 'a>) -> Result<Vec<&'a str>, M
 /// The set of these IDs.
 pub(crate) fn set_of<'a>(alloc: Global, ids: &[&'a str]) -> Result<IndexSet<&'a str>, AllocError>
     ensures { IfOk result
-        (λ set. (id : List ℕ) → is_in set id ≡ is_among (map (λ id. id.now) ids.now) id) }
+        (λ set. (id : List ℕ) → is_in_set set id ≡ is_among (map (λ id. id.now) ids.now) id) }
 {
     let mut set = IndexSet::with_capacity(alloc, ids.len())?;
     for id in ids {

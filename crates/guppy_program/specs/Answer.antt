@@ -112,14 +112,14 @@ pub record IsOrderAnswer (g : GraphData) (answer : Answer) : Type 0 where
   pub told : answer ≡ package_list (ids_at g.packages (concat g.components))
 
 -- the set of all packages
-abbrev pub all_of : GraphData → SetData
-all_of g = record { graph = g; included = replicate (length g.packages) true }
+abbrev pub all_packages : GraphData → SetData
+all_packages g = record { graph = g; included = replicate (length g.packages) true }
 
 -- the roots of all packages, by position
 pub record IsRootsAnswer (direction : DependencyDirection) (g : GraphData)
     (answer : Answer) : Type 0 where
   pub root_ids : List (List ℕ)
-  pub exact : AreRootIds direction (all_of g) root_ids
+  pub exact : AreRootIds direction (all_packages g) root_ids
   pub told : answer ≡ package_list root_ids
 
 -- the positions of the ends of the link
@@ -135,7 +135,7 @@ end_ids link = ids_at link.graph.packages (ends_of (slice_get link.graph.links l
 pub record IsLinksAnswer (direction : DependencyDirection) (g : GraphData)
     (answer : Answer) : Type 0 where
   pub walked : List LinkData
-  pub exact : AreWalkedLinks direction (all_of g) walked
+  pub exact : AreWalkedLinks direction (all_packages g) walked
   pub told : answer ≡ package_rows (map end_ids walked)
 
 -- the cycles in an order of the packages: two IDs stand on one cycle exactly where their packages

@@ -11,7 +11,7 @@ use Rattle.guppy_search.specs.Links.{near_end, far_end, links_at, EndsBelow}
 use Rattle.guppy_search.specs.Stored.{far_at, far_ends_at}
 use Rattle.guppy_search.specs.Walked.{AreWalked, LinkEnds, ends_at, numbers_of}
 use Rattle.guppy_search.proofs.Rows.{row_links, row_within}
-use Rattle.guppy_search.proofs.Searching.{far_end_below}
+use Rattle.guppy_search.proofs.SearchSteps.{far_end_below}
 
 -- the link whose number and far end these are
 pub record IsLinkAt {E : Type 0} (d : DependencyDirection) (links : List (Link E)) (p n far : ℕ) : Type 0 where

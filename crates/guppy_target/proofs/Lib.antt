@@ -5,7 +5,7 @@ pub mod Operands
 pub mod Turns
 pub mod Fronts
 pub mod Words
-pub mod Taken
-pub mod Again
-pub mod Answered
+pub mod Soundness
+pub mod Completeness
+pub mod Evaluation
 pub mod Lines

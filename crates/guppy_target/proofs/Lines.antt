@@ -9,9 +9,9 @@ use Rattle.guppy_target.specs.Platform.{IsLine, AreLines, IsFirstFault}
 use Rattle.guppy_target.proofs.Fronts.{only_spaces, mark_nothing}
 use Rattle.guppy_target.proofs.Words.{word_takes, word_again, quoted_takes, quoted_again}
 use Rattle.guppy_target.proofs.Options.{bind_some}
-use Rattle.guppy_target.proofs.Taken.{begins_mark}
-use Rattle.guppy_target.proofs.Again.{mark_is}
-use Rattle.guppy_target.proofs.Answered.{are_spaces}
+use Rattle.guppy_target.proofs.Soundness.{begins_mark}
+use Rattle.guppy_target.proofs.Completeness.{mark_is}
+use Rattle.guppy_target.proofs.Evaluation.{are_spaces}
 
 ended_some : (r s : Setting) (l : List ℕ) → if_ended r l ≡ Some s → (l ≡ []) × (r ≡ s)
 ended_some r s [] e = (refl, cc)

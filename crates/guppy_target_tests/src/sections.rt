@@ -1,81 +1,28 @@
-use guppy::graph::{
-    DependencyReqImpl, IntoGraph, LinkRecord, PackageGraph, PackageRecord, PackageSourceRecord,
-    Records, WorkspaceRecord,
-};
-use guppy::platform::{EnabledTernary, PlatformSpec, TargetSpec};
-use guppy::{PackageId, Utf8PathBuf, Version, VersionReq};
+use guppy::platform::{EnabledTernary, PlatformSpec};
+use guppy::{IntoGraph, PackageId};
+use guppy_metadata::records_of;
 use guppy_target::{CfgEval, Platform, SectionsOn, are_settings, sections_on};
-use std::alloc::{AllocError, Global};
 use std::test::Fail;
 
-fn path(alloc: Global, text: &str) -> Result<Utf8PathBuf, AllocError> {
-    Ok(Utf8PathBuf::new(String::from_str(alloc, text)?))
-}
-
-fn id(alloc: Global, text: &str) -> Result<PackageId, AllocError> {
-    Ok(PackageId::new(String::from_str(alloc, text)?))
-}
-
-fn package(alloc: Global, name: &str) -> Result<PackageRecord, AllocError> {
-    let source = PackageSourceRecord::Workspace(path(alloc, name)?);
-    let manifest = path(alloc, name)?;
-    let id = id(alloc, name)?;
-    let name = String::from_str(alloc, name)?;
-    let version = Version::new(0, 0, 0);
-    Ok(PackageRecord::new(
-        alloc,
-        id,
-        name,
-        version,
-        source,
-        manifest,
-        String::new(alloc),
-    ))
-}
-
-fn text(alloc: Global, text: &str) -> Result<TargetSpec, AllocError> {
-    Ok(TargetSpec::new(String::from_str(alloc, text)?))
-}
-
 // A link that is normal on Windows, optional to build on Unix, and for development where nobody can tell.
-fn link(alloc: Global) -> Result<LinkRecord, AllocError> {
-    let from = id(alloc, "a")?;
-    let to = id(alloc, "b")?;
-    let name = String::from_str(alloc, "b")?;
-    let star = VersionReq::star(alloc);
-    let mut link = LinkRecord::new(alloc, from, to, name, String::new(alloc), star);
-    let (windows, unix, unread) = (
-        text(alloc, "cfg(windows)")?,
-        text(alloc, "cfg(unix)")?,
-        text(alloc, "cfg(")?,
-    );
-    link.normal.required.build_if.add_spec(Some(&windows))?;
-    link.build.optional.build_if.add_spec(Some(&unix))?;
-    link.dev.required.build_if.add_spec(Some(&unread))?;
-    Ok(link)
-}
-
-fn graph(alloc: Global) -> Result<PackageGraph, Fail> {
-    let mut packages = Vec::new(alloc);
-    packages.push(package(alloc, "a")?)?;
-    packages.push(package(alloc, "b")?)?;
-    let mut links = Vec::new(alloc);
-    links.push(link(alloc)?)?;
-    let workspace = WorkspaceRecord::new(alloc, path(alloc, "/")?, path(alloc, "/target")?);
-    let records = Records {
-        packages,
-        links,
-        workspace,
-    };
-    Ok(records.into_graph()?)
-}
+const METADATA: &str = r#"{"packages": [
+ {"name": "a", "version": "0.1.0", "id": "a", "source": null, "manifest_path": "/a/Cargo.toml", "dependencies": [
+   {"name": "b", "req": "*", "kind": null, "optional": false, "target": "cfg(windows)"},
+   {"name": "b", "req": "*", "kind": "build", "optional": true, "target": "cfg(unix)"},
+   {"name": "b", "req": "*", "kind": "dev", "optional": false, "target": "cfg("}]},
+ {"name": "b", "version": "0.1.0", "id": "b", "source": null, "manifest_path": "/b/Cargo.toml"}],
+"workspace_members": ["a", "b"], "workspace_root": "/", "target_directory": "/target", "resolve": {"nodes": [
+ {"id": "a", "deps": [{"name": "b", "pkg": "b", "dep_kinds": [
+   {"kind": null, "target": "cfg(windows)"}, {"kind": "build", "target": "cfg(unix)"},
+   {"kind": "dev", "target": "cfg("}]}]},
+ {"id": "b", "deps": []}]}}"#;
 
 #[test]
 fn sections(rt: HostRuntime) -> Result<(), Fail> {
     let alloc = rt.alloc();
-    let graph = graph(alloc)?;
+    let graph = records_of(alloc, METADATA)?.into_graph()?;
     let on_linux = PlatformSpec::one(alloc, Platform::new(alloc, "linux", "unix")?)?;
-    let package = graph.metadata(&id(alloc, "a")?)?;
+    let package = graph.metadata(&PackageId::new(String::from_str(alloc, "a")?))?;
     let wanted = SectionsOn {
         normal: EnabledTernary::Disabled,
         build: EnabledTernary::Enabled,

@@ -4,7 +4,7 @@ ghost use Rattle.guppy.specs.Visitors.{MayVisitAt};
 
 use crate::judge::{Event, Given, NOWHERE, has};
 use crate::lists::{DevLinks, positions_graph};
-use crate::reach::Led;
+use crate::reach::Reach;
 use crate::records::{numbered_graph, numbered_ids};
 use crate::sets::positions_of;
 use crate::visitors::{ByPattern, DevOnly, First, Odd, Rising};
@@ -234,12 +234,12 @@ fn judge_links(rt: &impl Abort, alloc: Global, inside: Given<'_>, set: &PackageS
 }
 
 // The set is that of the starts.
-fn judge_walk(rt: &impl Abort, case: Case<'_>, led: Led<'_>, set: &PackageSet<'_>) {
+fn judge_walk(rt: &impl Abort, case: Case<'_>, reach: Reach<'_>, set: &PackageSet<'_>) {
     let alloc = case.graph.alloc();
     let (members, direction) = (case.given.starts, case.given.direction);
     let links = links_inside(rt, alloc, case.given.links, members);
     let inside = Given::new(links.as_slice(), direction, members);
-    let roots = led.roots_of(rt, alloc, inside, members);
+    let roots = reach.roots_of(rt, alloc, inside, members);
     let inside = Given::new(links.as_slice(), direction, roots.as_slice());
     judge_roots(rt, alloc, inside, set);
     judge_links(rt, alloc, inside, set);
@@ -247,11 +247,11 @@ fn judge_walk(rt: &impl Abort, case: Case<'_>, led: Led<'_>, set: &PackageSet<'_
 
 // The list of all packages is in order, and the set's lists are those of its members in that order, and
 // the same reversed.
-fn judge_lists(rt: &impl Abort, case: Case<'_>, led: Led<'_>, set: &PackageSet<'_>) {
+fn judge_lists(rt: &impl Abort, case: Case<'_>, reach: Reach<'_>, set: &PackageSet<'_>) {
     let alloc = case.graph.alloc();
     let all = case.graph.resolve_all().expect(rt, "all packages");
     let order = positions_of(rt, alloc, all.packages(DependencyDirection::Forward));
-    let broken = led.broken_list_rule(case.ids.len(), order.as_slice());
+    let broken = reach.broken_list_rule(case.ids.len(), order.as_slice());
     assert!(rt; broken.is_none(), "lists: {broken:?}");
     let mut listed = positions_of(rt, alloc, set.packages(case.given.direction));
     if case.given.direction == DependencyDirection::Reverse {
@@ -263,10 +263,10 @@ fn judge_lists(rt: &impl Abort, case: Case<'_>, led: Led<'_>, set: &PackageSet<'
     );
 }
 
-fn judge_sets(rt: &impl Abort, case: Case<'_>, led: Led<'_>) {
+fn judge_sets(rt: &impl Abort, case: Case<'_>, reach: Reach<'_>) {
     let query = query_of(rt, case);
-    judge_lists(rt, case, led, query.initials());
-    judge_walk(rt, case, led, query.initials());
+    judge_lists(rt, case, reach, query.initials());
+    judge_walk(rt, case, reach, query.initials());
 }
 
 fn judge_visitors(rt: &impl Abort, case: Case<'_>, pattern: &[bool]) {
@@ -385,7 +385,7 @@ fn judge_drawn_graph(rt: &impl Abort, alloc: Global, drawn: u64) {
         let given = Given::new(links.as_slice(), direction, starts.as_slice());
         let case = Case::new(&graph, ids.as_slice(), given);
         judge_visitors(rt, case, pattern.as_slice());
-        judge_sets(rt, case, Led::new(given.links));
+        judge_sets(rt, case, Reach::new(given.links));
         judge_buffered(rt, &by_position, given, drawn);
     }
 }

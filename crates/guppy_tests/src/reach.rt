@@ -59,15 +59,15 @@ fn has_cycle(pairs: u64) -> bool {
 
 /// The links of a graph, and what leads to what over all of them and over those that aren't dev-only.
 #[derive(Clone, Copy)]
-pub(super) struct Led<'a> {
+pub(super) struct Reach<'a> {
     links: &'a [(usize, usize, bool)],
     all: u64,
     kept: u64,
 }
 
-impl<'a> Led<'a> {
+impl<'a> Reach<'a> {
     pub(super) fn new(links: &'a [(usize, usize, bool)]) -> Self {
-        Led {
+        Reach {
             links,
             all: reach_of(links, true),
             kept: reach_of(links, false),

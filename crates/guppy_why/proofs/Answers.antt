@@ -7,7 +7,7 @@ use Rattle.guppy.specs.Depends.{DependsOn}
 use Rattle.guppy.specs.Graph.{GraphData}
 use Rattle.guppy.specs.Ids.{HasId, DistinctBelow}
 use Rattle.guppy.specs.Views.{package_position}
-use Rattle.guppy_graph.proofs.Named.{position_is}
+use Rattle.guppy_graph.proofs.PackageIds.{position_is}
 use Rattle.guppy_why.specs.declared.search.Search.{Search}
 use Rattle.guppy_why.specs.Walk.{IsWalk, NoneShorter, NoWalk}
 use Rattle.guppy_why.specs.Nodes.{Node, AreElsewhere}

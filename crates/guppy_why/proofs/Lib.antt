@@ -3,6 +3,6 @@ pub mod Walks
 pub mod Steps
 pub mod Reach
 pub mod Packages
-pub mod Leaving
-pub mod Back
+pub mod LeavingLinks
+pub mod WayBack
 pub mod Answers

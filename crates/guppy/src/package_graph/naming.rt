@@ -10,7 +10,7 @@ ghost use Rattle.guppy_graph.specs.Keys.{DifferBelow};
 ghost use Rattle.guppy_graph.specs.Graph.{GraphData, IsPackageGraph};
 ghost use Rattle.guppy_graph.specs.Refused.{NamesText, IsFirstNot, EndsInFirstNot};
 ghost use Rattle.guppy.specs.Read.{HasSome, ReadsAll, ReadsTo};
-ghost use Rattle.guppy.specs.Query.{IsSetNamed};
+ghost use Rattle.guppy.specs.Query.{IsSetOfNamed};
 
 use crate::package_graph::graph::PackageGraph;
 use crate::set::PackageSet;
@@ -47,7 +47,7 @@ impl NamesPackage for &PackageId {
     ghost use Rattle.guppy_graph.specs.Ids.{HasId};
     ghost use Rattle.guppy_graph.specs.Refused.{named_id};
     ghost use Rattle.guppy_graph.specs.Accepted.{distinct_ids};
-    ghost use Rattle.guppy_graph.proofs.Named.{within_of};
+    ghost use Rattle.guppy_graph.proofs.PackageIds.{within_of};
 
     ghost text = { text_now };
 
@@ -149,7 +149,7 @@ impl PackageGraph {
         requires ends { IsFinite (I.remaining names) }
         ensures graph { IfOk result (λ set. set.graph ≡ self.now) }
         ensures members { IfOk result (λ set. ReadsAll I.next_gives N.text names
-            (λ texts. IsSetNamed (N.at self.now.packages) self.now.packages
+            (λ texts. IsSetOfNamed (N.at self.now.packages) self.now.packages
             texts set.included)) }
         ensures unknown { IfErr result (NamesText N.named (ReadsTo I.next_gives N.text names
             (EndsInFirstNot (HasSome (N.at self.now.packages))))) }

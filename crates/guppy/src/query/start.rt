@@ -2,7 +2,7 @@
 ghost use Rattle.std.specs.Prelude.{◌≡◌, IfOk, IfErr, IsOkUnless};
 ghost use Rattle.std.specs.Iterator.{IsFinite};
 ghost use Rattle.guppy_data.specs.Utf8Path.{path_text};
-ghost use Rattle.guppy.specs.Query.{IsNamedSet, IsSetNamed, IsSetWhere, initials_of};
+ghost use Rattle.guppy.specs.Query.{IsSetOfIds, IsSetOfNamed, IsSetWhere, initials_of};
 ghost use Rattle.guppy_graph.specs.Members.{HasPath, HasName, IsMember};
 ghost use Rattle.guppy_graph.specs.Refused.{NamesId, NamesPath, NamesName, EndsInUnknown, EndsInUnknownPath, EndsInUnknownName};
 ghost use Rattle.guppy.specs.Read.{ReadsAll, ReadsTo, text_now};
@@ -31,7 +31,7 @@ impl PackageGraph {
         ensures graph { IfOk result (λ q. q.graph ≡ self.now) }
         ensures direction { IfOk result (λ q. q.direction ≡ direction) }
         ensures initials { IfOk result (λ q. ReadsAll I.next_gives text_now ids
-            (λ named. IsNamedSet self.now.packages named q.initials)) }
+            (λ named. IsSetOfIds self.now.packages named q.initials)) }
         ensures unknown { IfErr result
             (NamesId (ReadsTo I.next_gives text_now ids (EndsInUnknown self.now.packages))) }
     {
@@ -57,7 +57,7 @@ impl PackageGraph {
         ensures graph { IfOk result (λ q. q.graph ≡ self.now) }
         ensures direction { IfOk result (λ q. q.direction ≡ DependencyDirection.Forward) }
         ensures initials { IfOk result (λ q. ReadsAll I.next_gives text_now ids
-            (λ named. IsNamedSet self.now.packages named q.initials)) }
+            (λ named. IsSetOfIds self.now.packages named q.initials)) }
         ensures unknown { IfErr result
             (NamesId (ReadsTo I.next_gives text_now ids (EndsInUnknown self.now.packages))) }
     {
@@ -79,7 +79,7 @@ impl PackageGraph {
         ensures graph { IfOk result (λ q. q.graph ≡ self.now) }
         ensures direction { IfOk result (λ q. q.direction ≡ DependencyDirection.Reverse) }
         ensures initials { IfOk result (λ q. ReadsAll I.next_gives text_now ids
-            (λ named. IsNamedSet self.now.packages named q.initials)) }
+            (λ named. IsSetOfIds self.now.packages named q.initials)) }
         ensures unknown { IfErr result
             (NamesId (ReadsTo I.next_gives text_now ids (EndsInUnknown self.now.packages))) }
     {
@@ -117,7 +117,7 @@ impl PackageGraph {
         ensures graph { IfOk result (λ q. q.graph ≡ self.now) }
         ensures direction { IfOk result (λ q. q.direction ≡ DependencyDirection.Forward) }
         ensures initials { IfOk result (λ q. ReadsAll I.next_gives path_text paths
-            (λ asked. IsSetNamed (HasPath self.now.packages) self.now.packages asked q.initials)) }
+            (λ asked. IsSetOfNamed (HasPath self.now.packages) self.now.packages asked q.initials)) }
         ensures unknown { IfErr result
             (NamesPath (ReadsTo I.next_gives path_text paths
             (EndsInUnknownPath self.now.packages))) }
@@ -141,7 +141,7 @@ impl PackageGraph {
         ensures graph { IfOk result (λ q. q.graph ≡ self.now) }
         ensures direction { IfOk result (λ q. q.direction ≡ DependencyDirection.Forward) }
         ensures initials { IfOk result (λ q. ReadsAll I.next_gives text_now names
-            (λ asked. IsSetNamed (HasName self.now.packages) self.now.packages asked q.initials)) }
+            (λ asked. IsSetOfNamed (HasName self.now.packages) self.now.packages asked q.initials)) }
         ensures unknown { IfErr result
             (NamesName (ReadsTo I.next_gives text_now names
             (EndsInUnknownName self.now.packages))) }

@@ -2,7 +2,7 @@
 ghost use Rattle.std.specs.Prelude.{◌≡◌, IfOk, IfErr, IsOkUnless, map};
 ghost use Rattle.std.specs.Iterator.{IsFinite};
 ghost use Rattle.guppy_data.specs.Utf8Path.{path_text};
-ghost use Rattle.guppy.specs.Query.{IsSetNamed, IsSetWhere};
+ghost use Rattle.guppy.specs.Query.{IsSetOfNamed, IsSetWhere};
 ghost use Rattle.guppy_graph.specs.Members.{HasPath, HasName, IsMember, AreMembersByPath};
 ghost use Rattle.guppy_graph.specs.Ids.{ix_position};
 ghost use Rattle.guppy_graph.specs.Refused.{NamesPath, NamesName, EndsInUnknownPath, EndsInUnknownName};
@@ -43,7 +43,7 @@ impl PackageGraph {
         requires ends { IsFinite (I.remaining paths) }
         ensures graph { IfOk result (λ set. set.graph ≡ self.now) }
         ensures members { IfOk result (λ set. ReadsAll I.next_gives path_text paths
-            (λ asked. IsSetNamed (HasPath self.now.packages) self.now.packages
+            (λ asked. IsSetOfNamed (HasPath self.now.packages) self.now.packages
             asked set.included)) }
         ensures unknown { IfErr result
             (NamesPath (ReadsTo I.next_gives path_text paths
@@ -65,7 +65,7 @@ impl PackageGraph {
         requires ends { IsFinite (I.remaining names) }
         ensures graph { IfOk result (λ set. set.graph ≡ self.now) }
         ensures members { IfOk result (λ set. ReadsAll I.next_gives text_now names
-            (λ asked. IsSetNamed (HasName self.now.packages) self.now.packages
+            (λ asked. IsSetOfNamed (HasName self.now.packages) self.now.packages
             asked set.included)) }
         ensures unknown { IfErr result
             (NamesName (ReadsTo I.next_gives text_now names

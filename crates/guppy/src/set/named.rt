@@ -3,7 +3,7 @@ ghost use Rattle.std.specs.Prelude.{◌≡◌, ◌↔◌, ℕ, ◌<◌, true, fa
 ghost use Rattle.std.specs.List.{Contains};
 ghost use Rattle.std.specs.Iterator.{IsFinite};
 ghost use Rattle.guppy_core.specs.IxSet.{IsIn};
-ghost use Rattle.guppy.specs.Query.{IsNamedSet, IsSetWhere};
+ghost use Rattle.guppy.specs.Query.{IsSetOfIds, IsSetWhere};
 ghost use Rattle.guppy_graph.specs.Ids.{ix_position};
 ghost use Rattle.guppy_graph.specs.Graph.{IsPackageGraph};
 ghost use Rattle.guppy.specs.PackageNames.{HasPackageName};
@@ -59,7 +59,7 @@ impl PackageGraph {
         requires ends { IsFinite (I.remaining ids) }
         ensures graph { IfOk result (λ set. set.graph ≡ self.now) }
         ensures members { IfOk result (λ set. ReadsAll I.next_gives text_now ids
-            (λ named. IsNamedSet self.now.packages named set.included)) }
+            (λ named. IsSetOfIds self.now.packages named set.included)) }
         ensures unknown { IfErr result
             (NamesId (ReadsTo I.next_gives text_now ids (EndsInUnknown self.now.packages))) }
     {

@@ -73,7 +73,7 @@ impl<Ix: IndexType> TopoWithCycles<Ix> {
         ensures graph { graph.new.graph ≡ graph.old.graph }
     {
         let alloc = graph.alloc();
-        let order = order_of(graph, &keep)?;
+        let order = topological_order(graph, &keep)?;
         let index = places(alloc, order.as_slice())?;
         Ok(TopoWithCycles {
             order,
@@ -119,7 +119,7 @@ impl<Ix: IndexType> TopoWithCycles<Ix> {
 }
 
 /// The positions in a topological order: those that the roots lead to, then the others.
-fn order_of<G: GraphSpec, F: Fn(&G::Edge) -> bool>(
+fn topological_order<G: GraphSpec, F: Fn(&G::Edge) -> bool>(
     graph: &mut CountedGraph<'_, G>,
     keep: &F,
 ) -> Result<Vec<usize>, AllocError>

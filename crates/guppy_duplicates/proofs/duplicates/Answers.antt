@@ -3,7 +3,7 @@ use Rattle.std.proofs.lemmas.List.{map_push}
 use Rattle.std.proofs.lemmas.Option.{slice_get_read}
 use Rattle.guppy_duplicates.specs.Sorted.{AreSorted}
 use Rattle.guppy_duplicates.proofs.Answer.{told_at, rows_more, rows_all}
-use Rattle.guppy_duplicates.proofs.Kept.{kept_none, kept_skip}
+use Rattle.guppy_duplicates.proofs.KeptPositions.{kept_none, kept_skip}
 use Rattle.guppy_duplicates.proofs.Namesakes.{position_at}
 use Rattle.guppy_duplicates.proofs.duplicates.Goals.{then-has_namesake+in_ok-row_of+in_ok-push, else-has_namesake}
 use Rattle.guppy_duplicates.proofs.duplicates.Goals as goal

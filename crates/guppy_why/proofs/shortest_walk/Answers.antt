@@ -6,7 +6,7 @@ use Rattle.guppy.specs.Graph.{GraphData}
 use Rattle.guppy.specs.Ids.{HasId, ix_position}
 use Rattle.guppy.specs.Views.{package_position, link_number}
 use Rattle.guppy_graph.specs.Refused.{named_id}
-use Rattle.guppy_graph.proofs.Unknown.{NamesText-along, first_unknown-cons, first_unknown-behind}
+use Rattle.guppy_graph.proofs.UnknownTexts.{NamesText-along, first_unknown-cons, first_unknown-behind}
 use Rattle.guppy_why.specs.Walk.{IsWalk, NoWalk}
 use Rattle.guppy_why.proofs.Answers.{depends_of}
 use Rattle.guppy_why.proofs.shortest_walk.Goals as goal

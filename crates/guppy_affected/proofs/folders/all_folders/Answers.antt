@@ -10,7 +10,7 @@ use Rattle.guppy.specs.Utf8Path.{path_text}
 use Rattle.guppy.specs.Views.{package_seen}
 use Rattle.guppy_affected.specs.Found.{lists_in}
 use Rattle.guppy_affected.proofs.Elements.{One}
-use Rattle.guppy_affected.proofs.Along.{all_given}
+use Rattle.guppy_affected.proofs.Iterators.{all_given}
 use Rattle.guppy_affected.proofs.Local.{HasFolder, folders_seen, with_more, with_none}
 use Rattle.guppy_affected.proofs.Sets.{set_made}
 use Rattle.guppy_affected.proofs.folders.all_folders.Goals as goal

@@ -1,5 +1,5 @@
 use Rattle.std.proofs.Common.{rules, refl}
-use Rattle.guppy_affected.proofs.Begins.{Begins-empty, next_same, next_other}
+use Rattle.guppy_affected.proofs.Prefixes.{Begins-empty, next_same, next_other}
 use Rattle.guppy_affected.proofs.folders.lies_in.Goals as goal
 
 pub loop-part-init : goal.loop-part-init

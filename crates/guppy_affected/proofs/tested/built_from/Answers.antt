@@ -6,8 +6,8 @@ use Rattle.guppy.specs.Ordered.{is_firm}
 use Rattle.guppy.specs.Query.{SetData}
 use Rattle.guppy.specs.Views.{OfLink}
 use Rattle.guppy_affected.specs.Tested.{AreBuiltFrom}
-use Rattle.guppy_affected.proofs.Along.{IfOk-along}
-use Rattle.guppy_affected.proofs.Resolved.{each_answer, leads_in}
+use Rattle.guppy_affected.proofs.Iterators.{IfOk-along}
+use Rattle.guppy_affected.proofs.ReverseResolves.{each_answer, leads_in}
 use Rattle.guppy_affected.proofs.Tests.{at_link}
 use Rattle.guppy_affected.proofs.tested.built_from.Goals as goal
 

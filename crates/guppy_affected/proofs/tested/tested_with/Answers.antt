@@ -1,5 +1,5 @@
 use Rattle.guppy_affected.specs.Tested.{AreTestedWith}
-use Rattle.guppy_affected.proofs.Along.{IfOk-along}
+use Rattle.guppy_affected.proofs.Iterators.{IfOk-along}
 use Rattle.guppy_affected.proofs.Tests.{built_and_dependents}
 use Rattle.guppy_affected.proofs.tested.tested_with.Goals as goal
 

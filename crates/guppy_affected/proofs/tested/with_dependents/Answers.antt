@@ -6,8 +6,8 @@ use Rattle.guppy.specs.IxSet.{has}
 use Rattle.guppy.specs.Query.{SetData}
 use Rattle.guppy.specs.Views.{OfLink}
 use Rattle.guppy_affected.specs.Tested.{AreWithDependents}
-use Rattle.guppy_affected.proofs.Along.{IfOk-along}
-use Rattle.guppy_affected.proofs.Resolved.{each_answer, steps_in}
+use Rattle.guppy_affected.proofs.Iterators.{IfOk-along}
+use Rattle.guppy_affected.proofs.ReverseResolves.{each_answer, steps_in}
 use Rattle.guppy_affected.proofs.Tests.{at_link}
 use Rattle.guppy_affected.proofs.tested.with_dependents.Goals as goal
 

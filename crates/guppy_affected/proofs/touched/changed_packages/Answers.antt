@@ -1,8 +1,8 @@
 use Rattle.std.proofs.Common.{map, string_bytes}
 use Rattle.guppy_affected.specs.Changed.{AreChanged}
 use Rattle.guppy_affected.specs.Found.{lists_in}
-use Rattle.guppy_affected.proofs.Along.{IfOk-along}
-use Rattle.guppy_affected.proofs.Owned.{changed_all, changed_some}
+use Rattle.guppy_affected.proofs.Iterators.{IfOk-along}
+use Rattle.guppy_affected.proofs.Owners.{changed_all, changed_some}
 use Rattle.guppy_affected.proofs.touched.changed_packages.Goals as goal
 
 pub returns-in-Some-clause-changed : goal.returns-in-Some-clause-changed

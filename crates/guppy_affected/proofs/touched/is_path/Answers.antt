@@ -1,4 +1,4 @@
-use Rattle.guppy_affected.proofs.Along.{same_path}
+use Rattle.guppy_affected.proofs.Iterators.{same_path}
 use Rattle.guppy.specs.Utf8Path.{path_text}
 use Rattle.guppy_affected.proofs.touched.is_path.Goals as goal
 

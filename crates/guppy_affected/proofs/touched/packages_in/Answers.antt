@@ -7,7 +7,7 @@ use Rattle.guppy.specs.Views.{package_position, package_seen}
 use Rattle.guppy_affected.specs.Found.{lists_in}
 use Rattle.guppy_affected.specs.Changed.{HasFolderIn}
 use Rattle.guppy_affected.proofs.Local.{with_folder_within}
-use Rattle.guppy_affected.proofs.Owned.{ArePicked, picked_none, picked_all, picked_graph, picked_more, picked_not}
+use Rattle.guppy_affected.proofs.Owners.{ArePicked, picked_none, picked_all, picked_graph, picked_more, picked_not}
 use Rattle.guppy_affected.proofs.touched.packages_in.Goals as goal
 
 pub loop-package-init : goal.loop-package-init

@@ -10,7 +10,7 @@ use Rattle.guppy_affected.specs.Affected.{IsIgnored, IsOfWorkspace}
 use Rattle.guppy_affected.specs.Found.{lists_in, HoldsNone, IsLongest}
 use Rattle.guppy_affected.specs.Changed.{AreLongest}
 use Rattle.guppy_affected.proofs.Elements.{one_more, text_there}
-use Rattle.guppy_affected.proofs.Owned.{longest_skipped, longest_more, longest_along}
+use Rattle.guppy_affected.proofs.Owners.{longest_skipped, longest_more, longest_along}
 use Rattle.guppy_affected.proofs.Sets.{set_made}
 use Rattle.guppy_affected.proofs.touched.touched_folders.Goals as goal
 

@@ -1,7 +1,7 @@
 use Rattle.std.proofs.Common.{◌≡◌, ◌∙◌, rules, ℕ, List, map, string_bytes, ap, sym, subst, Some}
 use Rattle.guppy_cargo.specs.declared.commands.TheConstants.{COMMANDS}
 use Rattle.guppy_cargo.specs.Nearest.{IsNearest}
-use Rattle.guppy_cargo.proofs.Nearer.{first_word, never_far}
+use Rattle.guppy_cargo.proofs.NearestName.{first_word, never_far}
 use Rattle.guppy_cargo.proofs.commands.check_command.Goals as goal
 
 pub returns-clause-told : goal.returns-clause-told

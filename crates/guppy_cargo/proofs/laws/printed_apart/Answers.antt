@@ -1,4 +1,4 @@
-use Rattle.guppy_cargo.proofs.Meant.{text_apart}
+use Rattle.guppy_cargo.proofs.Meanings.{text_apart}
 use Rattle.guppy_cargo.proofs.laws.printed_apart.Goals as goal
 
 pub returns : goal.returns

@@ -1,4 +1,4 @@
-use Rattle.guppy_cargo.proofs.Meant.{text_means}
+use Rattle.guppy_cargo.proofs.Meanings.{text_means}
 use Rattle.guppy_cargo.proofs.laws.printed_reads_back.Goals as goal
 
 pub returns : goal.returns

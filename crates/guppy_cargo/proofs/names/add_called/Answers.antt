@@ -6,7 +6,7 @@ use Rattle.std.specs.Option.{option_map_or}
 use Rattle.std.specs.Str.{bytes_eq}
 use Rattle.std.proofs.lemmas.Map.Text.{btree_map_updates_text}
 use Rattle.std.proofs.lemmas.Slice.Eq.{bytes_eq-Decides}
-use Rattle.guppy_cargo.proofs.Grouped.{one_put}
+use Rattle.guppy_cargo.proofs.KeyLists.{one_put}
 use Rattle.guppy_cargo.proofs.names.add_called.Goals as goal
 use Rattle.guppy_cargo.proofs.names.add_called.Goals.{in-Some, in-None}
 

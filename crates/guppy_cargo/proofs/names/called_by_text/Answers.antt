@@ -1,4 +1,4 @@
-use Rattle.guppy_cargo.proofs.Called.{called_more}
+use Rattle.guppy_cargo.proofs.CalledPackages.{called_more}
 use Rattle.guppy_cargo.proofs.names.called_by_text.Goals as goal
 
 pub loop-package-preserved : goal.loop-package-preserved

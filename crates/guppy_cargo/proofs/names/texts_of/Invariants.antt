@@ -1,7 +1,7 @@
 use Rattle.std.proofs.Common.{take, string_bytes}
 use Rattle.std.specs.BTreeMap.{get_by_text}
 use Rattle.guppy_cargo.specs.Names.{printed, AreIds, AreCalled}
-use Rattle.guppy_cargo.proofs.Firsts.{HasFirsts}
+use Rattle.guppy_cargo.proofs.FirstElements.{HasFirsts}
 use Rattle.guppy_cargo.proofs.names.texts_of.Given as goal
 
 abbrev pub invariant-loop-package : goal.invariant-loop-package

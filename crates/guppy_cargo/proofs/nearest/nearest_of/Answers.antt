@@ -1,7 +1,7 @@
 use Rattle.std.proofs.Common.{◌≤◌, ℕ, List, Bor, map, length, Option, None, Some}
 use Rattle.std.specs.Prelude.{MatchOption, option_map}
 use Rattle.std.proofs.lemmas.List.{length-map}
-use Rattle.guppy_cargo.proofs.Nearer.{text_at, nearer, no_nearer, nearest_of_all}
+use Rattle.guppy_cargo.proofs.NearestName.{text_at, nearer, no_nearer, nearest_of_all}
 use Rattle.guppy_cargo.proofs.nearest.nearest_of.Goals.{then-distance-least, else-distance-least}
 use Rattle.guppy_cargo.proofs.nearest.nearest_of.Goals as goal
 

@@ -1,6 +1,6 @@
 use Rattle.std.proofs.Common.{map}
 use Rattle.std.specs.Prelude.{option_map}
-use Rattle.guppy_cargo.proofs.Nearer.{IsNearestSoFar}
+use Rattle.guppy_cargo.proofs.NearestName.{IsNearestSoFar}
 use Rattle.guppy_cargo.proofs.nearest.nearest_of.Given as goal
 
 abbrev pub invariant-loop-name : goal.invariant-loop-name

@@ -4,7 +4,7 @@ use Rattle.std.specs.Slice.Iter.{iter_rest}
 use Rattle.std.proofs.iter.Yields.{Copied-Drains}
 use Rattle.guppy_search.proofs.Exits.{if_ok}
 use Rattle.guppy_search.specs.IxSet.{IsIn}
-use Rattle.guppy_search.proofs.Along.{holds_copied}
+use Rattle.guppy_search.proofs.IteratorItems.{holds_copied}
 use Rattle.guppy_core.proofs.resolve_core.set_of.Goals as goal
 
 pub from_ixs-requires-clause-below : goal.from_ixs-requires-clause-below

@@ -1,6 +1,6 @@
 use Rattle.std.proofs.Common.{◌<◌, length, rules}
 use Rattle.guppy_search.specs.declared.ix.index_type.PackageIx.{PackageIx}
-use Rattle.guppy_search.proofs.Along.{holds_copied}
+use Rattle.guppy_search.proofs.IteratorItems.{holds_copied}
 use Rattle.guppy_core_tests.proofs.resolve_core.of_ixs.Goals as goal
 
 pub from_ixs-requires-clause-below : goal.from_ixs-requires-clause-below

@@ -2,7 +2,7 @@ use Rattle.std.proofs.Common.{◌≡◌, ℕ, Bool, true, List, Some, refl, sym,
 use Rattle.std.specs.Prelude.{slice_get}
 use Rattle.std.proofs.lemmas.List.Elements.{All-contains}
 use Rattle.guppy_search.specs.declared.graph_core.link.Link.{Link}
-use Rattle.guppy_search.proofs.Reached.{AnswersBy, StepsAre, judged_reached}
+use Rattle.guppy_search.proofs.Resolves.{AnswersBy, StepsAre, judged_reached}
 use Rattle.guppy_search.proofs.Traces.{each_answer, IsCallable-same}
 use Rattle.guppy_flat.specs.Search.{FlaggedStep}
 use Rattle.guppy_flat.specs.declared.search.Flagged.{Flagged}

@@ -1,4 +1,4 @@
-use Rattle.guppy_graph.proofs.Named.{ids_all}
+use Rattle.guppy_graph.proofs.PackageIds.{ids_all}
 use Rattle.guppy_graph.proofs.build.distinct_names.Goals as goal
 
 pub index_by_name-requires : goal.index_by_name-requires

@@ -1,6 +1,6 @@
 use Rattle.std.proofs.Common.{subst}
 use Rattle.guppy_graph.specs.Indexes.{IsPathIndex}
-use Rattle.guppy_graph.proofs.Named.{ids_all}
+use Rattle.guppy_graph.proofs.PackageIds.{ids_all}
 use Rattle.guppy_graph.proofs.build.distinct_paths.Goals as goal
 
 pub index_from-requires : goal.index_from-requires

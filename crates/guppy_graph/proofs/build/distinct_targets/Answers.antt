@@ -5,7 +5,7 @@ use Rattle.guppy_graph.specs.Keys.{IsFirstRepeat}
 use Rattle.guppy_graph.specs.Targets.{AreTargetsDistinct, HasTarget}
 use Rattle.guppy_graph.specs.Indexes.{IsTargetIndex, AreTargetIndexes}
 use Rattle.guppy_graph.proofs.Lists.{AllZip-more, All-take_more}
-use Rattle.guppy_graph.proofs.Targeting.{repeat_not_distinct}
+use Rattle.guppy_graph.proofs.TargetIds.{repeat_not_distinct}
 use Rattle.guppy_graph.proofs.build.distinct_targets.Goals as goal
 
 pub loop-package-init : goal.loop-package-init

@@ -3,7 +3,7 @@ use Rattle.std.proofs.lemmas.List.{take_all}
 use Rattle.std.proofs.lemmas.Option.{slice_get_read}
 use Rattle.guppy_graph.specs.Ids.{IsKnown}
 use Rattle.guppy_graph.proofs.Lists.{All-take_more, none_is, some_is}
-use Rattle.guppy_graph.proofs.Named.{unknown_of}
+use Rattle.guppy_graph.proofs.PackageIds.{unknown_of}
 use Rattle.guppy_graph.proofs.build.first_unknown_member.Goals as goal
 
 pub loop-index-init : goal.loop-index-init

@@ -5,7 +5,7 @@ use Rattle.guppy_graph.specs.Indexes.{AreIndexes}
 use Rattle.guppy_graph.specs.Links.{AreEndsOf, AreEndsKnown}
 use Rattle.guppy_graph.proofs.Ends.{links_made, all_known}
 use Rattle.guppy_graph.proofs.Rules.{packages_kept, all_kept}
-use Rattle.guppy_graph.proofs.Accepting.{refusal_of, pairs_distinct}
+use Rattle.guppy_graph.proofs.AcceptedRecords.{refusal_of, pairs_distinct}
 use Rattle.guppy_graph.proofs.graph.parts_of.Goals as goal
 
 pub returns-in-Ok-clause-made : goal.returns-in-Ok-clause-made

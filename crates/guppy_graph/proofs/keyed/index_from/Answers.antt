@@ -1,5 +1,5 @@
 use Rattle.std.specs.Prelude.{is_some}
-use Rattle.guppy_graph.proofs.Permuting.{IsPermutation-filter}
+use Rattle.guppy_graph.proofs.Permutations.{IsPermutation-filter}
 use Rattle.guppy_graph.proofs.keyed.index_from.Goals as goal
 
 pub indexed-requires : goal.indexed-requires

@@ -3,7 +3,7 @@ use Rattle.std.specs.declared.vec.Vec.{Vec}
 use Rattle.std.specs.declared.alloc.Global.{Global}
 use Rattle.std.proofs.lemmas.Result.{IfOk-weaker}
 use Rattle.guppy_graph.proofs.Lists.{MatchOption-along}
-use Rattle.guppy_graph.proofs.Targeting.{targets_differ, target_repeats}
+use Rattle.guppy_graph.proofs.TargetIds.{targets_differ, target_repeats}
 use Rattle.guppy_graph.proofs.keys.index_by_target.Goals as goal
 
 pub returns-clause-repeat : goal.returns-clause-repeat

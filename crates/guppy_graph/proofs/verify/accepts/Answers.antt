@@ -2,7 +2,7 @@ use Rattle.std.proofs.Common.{◌≡◌, ◌∙◌, ap, arith, sym, inl, inr, �
 use Rattle.std.specs.Prelude.{vec_len}
 use Rattle.std.proofs.lemmas.Bool.{eqb-true, eqb-false}
 use Rattle.std.proofs.lemmas.List.{nil_from_length}
-use Rattle.guppy_graph.proofs.Verifying.{star_is_empty, empty_is_star}
+use Rattle.guppy_graph.proofs.VerifiedGraphs.{star_is_empty, empty_is_star}
 use Rattle.guppy_graph.proofs.verify.accepts.Goals as goal
 
 pub returns-then-is_empty : goal.returns-then-is_empty

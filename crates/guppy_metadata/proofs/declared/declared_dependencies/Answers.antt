@@ -1,7 +1,7 @@
 use Rattle.std.proofs.Common.{subst}
 use Rattle.json.specs.Value.{value_view}
 use Rattle.guppy_metadata.specs.Dependency.{IsDeclared}
-use Rattle.guppy_metadata.proofs.Fitting.{next_fits}
+use Rattle.guppy_metadata.proofs.FittingLists.{next_fits}
 use Rattle.guppy_metadata.proofs.declared.declared_dependencies.Goals as goal
 
 pub loop-index-preserved : goal.loop-index-preserved

@@ -1,6 +1,6 @@
 use Rattle.std.proofs.Common.{[], get_or, refl}
 use Rattle.guppy_metadata.specs.Feature.{IsFeature}
-use Rattle.guppy_metadata.proofs.Fitting.{next_fits}
+use Rattle.guppy_metadata.proofs.FittingLists.{next_fits}
 use Rattle.guppy_metadata.proofs.feature.features_of.Goals as goal
 
 pub loop-text-preserved : goal.loop-text-preserved

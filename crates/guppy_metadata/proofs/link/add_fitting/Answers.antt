@@ -1,6 +1,6 @@
 use Rattle.std.proofs.Common.{◌∙◌, sym}
 use Rattle.guppy_metadata.specs.Fits.{fits}
-use Rattle.guppy_metadata.proofs.Fitting.{picked_more, passed_over}
+use Rattle.guppy_metadata.proofs.FittingLists.{picked_more, passed_over}
 use Rattle.guppy_metadata.proofs.link.add_fitting.Goals.{then-fits+in_ok-add_declared, else-fits}
 use Rattle.guppy_metadata.proofs.link.add_fitting.Goals as goal
 

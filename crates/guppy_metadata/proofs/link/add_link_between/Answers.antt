@@ -2,9 +2,9 @@ use Rattle.std.proofs.Common.{◌≡◌, ◌∙◌, [], true, filter, map, sym, 
 use Rattle.std.specs.Prelude.{is_ok}
 use Rattle.semver.specs.Identifiers.{comparator_view}
 use Rattle.guppy_metadata.specs.Fits.{fits, are_matched}
-use Rattle.guppy_metadata.specs.Gathered.{IsGathered, IsNamedAs, IsMadeOf}
+use Rattle.guppy_metadata.specs.Gathered.{IsGathered, IsNamedAs, IsLinkOf}
 use Rattle.guppy_metadata.specs.Links.{Joins}
-use Rattle.guppy_metadata.proofs.Matching.{picked_first, matched_alike}
+use Rattle.guppy_metadata.proofs.MatchedDependencies.{picked_first, matched_alike}
 use Rattle.guppy_metadata.proofs.link.add_link_between.Goals as goal
 
 pub returns-clause-added : goal.returns-clause-added
@@ -28,7 +28,7 @@ returns-clause-added c =
       dep_name = bare.dep_name ∙ (texts.dep_name_is ∙ c.dep_name.ensures);
       requirement = ap (λ r. map comparator_view r.comparators.items) bare.requirement ∙ c.in_ok-requirement.ensures;
     } in
-    let made : IsMadeOf (filter p c.args.asking.now.declared.items) link = record {
+    let made : IsLinkOf (filter p c.args.asking.now.declared.items) link = record {
       first = first;
       others = parts.0;
       parts = sym whole ∙ parts.1;

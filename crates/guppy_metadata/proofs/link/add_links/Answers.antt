@@ -2,7 +2,7 @@ use Rattle.std.proofs.Common.{◌∙◌, ◌∷◌, ◌++◌, [], sym, ap, subst
 use Rattle.std.proofs.lemmas.List.{append_assoc, append-nil}
 use Rattle.json.specs.Value.{value_view}
 use Rattle.guppy_metadata.specs.Links.{IsLink}
-use Rattle.guppy_metadata.proofs.Fitting.{next_fits}
+use Rattle.guppy_metadata.proofs.FittingLists.{next_fits}
 use Rattle.guppy_metadata.proofs.link.add_links.Goals as goal
 
 pub loop-index-init : goal.loop-index-init

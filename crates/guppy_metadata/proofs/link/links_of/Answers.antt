@@ -2,7 +2,7 @@ use Rattle.std.proofs.Common.{◌∙◌, ◌∷◌, ◌++◌, [], ap}
 use Rattle.std.proofs.lemmas.List.{flat_map_more}
 use Rattle.json.specs.Value.{value_view}
 use Rattle.guppy_metadata.specs.Links.{AreLinksOf}
-use Rattle.guppy_metadata.proofs.Fitting.{next_fits}
+use Rattle.guppy_metadata.proofs.FittingLists.{next_fits}
 use Rattle.guppy_metadata.proofs.link.links_of.Goals as goal
 
 pub loop-index-preserved : goal.loop-index-preserved

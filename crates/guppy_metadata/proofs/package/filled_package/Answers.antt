@@ -1,7 +1,7 @@
 use Rattle.std.proofs.Common.{◌∙◌, refl, sym, subst, rules, codes}
 use Rattle.guppy_metadata.specs.Members.{data_of}
 use Rattle.guppy_metadata.specs.Package.{AreTargets}
-use Rattle.guppy_metadata.proofs.Alike.{text_alike, named_alike, described_alike, filled_alike}
+use Rattle.guppy_metadata.proofs.AlikePackages.{text_alike, named_alike, described_alike, filled_alike}
 use Rattle.guppy_metadata.proofs.package.filled_package.Goals as goal
 
 pub returns : goal.returns

@@ -4,7 +4,7 @@ use Rattle.json.specs.Json.{array}
 use Rattle.json.specs.Value.{value_view, items_view}
 use Rattle.json.proofs.Trees.{view-Array}
 use Rattle.guppy_metadata.specs.Package.{IsTold}
-use Rattle.guppy_metadata.proofs.Fitting.{next_fits}
+use Rattle.guppy_metadata.proofs.FittingLists.{next_fits}
 use Rattle.guppy_metadata.proofs.package.packages_of.Goals as goal
 
 pub loop-index-preserved : goal.loop-index-preserved

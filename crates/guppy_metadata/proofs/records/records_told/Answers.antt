@@ -4,11 +4,11 @@ use Rattle.json.specs.Value.{value_view}
 use Rattle.json.specs.declared.value.Value.{Object}
 use Rattle.json.proofs.Trees.{view-Object}
 use Rattle.guppy_metadata.specs.Links.{AreLinks}
-use Rattle.guppy_metadata.specs.Members.{is_among, is_in}
+use Rattle.guppy_metadata.specs.Members.{is_among, is_in_set}
 use Rattle.guppy_metadata.specs.Package.{AreTold}
 use Rattle.guppy_metadata.specs.Told.{IsOther}
 use Rattle.guppy_metadata.proofs.Packages.{packages_are}
-use Rattle.guppy_metadata.proofs.Telling.{workspace_alike}
+use Rattle.guppy_metadata.proofs.ObjectMembers.{workspace_alike}
 use Rattle.guppy_metadata.proofs.Turns.{of_ok}
 use Rattle.guppy_metadata.proofs.records.records_told.Goals as goal
 
@@ -22,7 +22,7 @@ returns c d tells =
     let are = of_ok _ _ c.package_records.result _ c.in_ok-packages-2.ensures.value c.package_records.ensures in
     let packages = c.in_ok-packages.packages.items in
     let ids = map (λ id. id.now) c.in_ok-members.members.items in
-    let known = is_in c.in_ok-members-2.members in
+    let known = is_in_set c.in_ok-members-2.members in
     let known_alike : (id : List ℕ) → known id ≡ is_among ids id = λ id. rw (sym c.as_slice-3.ensures.value) (set id) in
     let told : AreTold d packages = subst (λ o. IfSome o (λ told. AreTold d told.items)) c.in_ok-packages.was tells.packages_are in record {
       packages_are = packages_are d c.in_ok-workspace.workspace.root _ ids known packages _ c.as_path.ensures known_alike (sym (same (codes "workspace_root") (refl, refl)) ∙ workspace.root)

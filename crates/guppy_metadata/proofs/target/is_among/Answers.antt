@@ -1,6 +1,6 @@
 use Rattle.std.proofs.Common.{◌∙◌, ◌||◌, ap, sym, string_bytes}
 use Rattle.std.specs.Str.{bytes_eq}
-use Rattle.guppy_metadata.proofs.Among.{among_more, among_first}
+use Rattle.guppy_metadata.proofs.TextLists.{among_more, among_first}
 use Rattle.guppy_metadata.proofs.target.is_among.Goals as goal
 
 pub returns-then-eq : goal.returns-then-eq

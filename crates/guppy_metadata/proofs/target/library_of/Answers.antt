@@ -1,4 +1,4 @@
-use Rattle.guppy_metadata.proofs.Among.{among_kept}
+use Rattle.guppy_metadata.proofs.TextLists.{among_kept}
 use Rattle.guppy_metadata.proofs.target.library_of.Goals as goal
 
 pub returns : goal.returns

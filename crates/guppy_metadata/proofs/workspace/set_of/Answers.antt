@@ -2,7 +2,7 @@ use Rattle.std.proofs.Common.{◌∙◌, ◌||◌, [], get_or, refl, sym, ap, ma
 use Rattle.std.specs.Str.{bytes_eq}
 use Rattle.std.proofs.lemmas.List.{take_all}
 use Rattle.guppy_metadata.specs.Members.{is_among}
-use Rattle.guppy_metadata.proofs.Among.{in_keys, among_inserted, among_more}
+use Rattle.guppy_metadata.proofs.TextLists.{in_keys, among_inserted, among_more}
 use Rattle.guppy_metadata.proofs.workspace.set_of.Goals as goal
 
 pub loop-id-preserved : goal.loop-id-preserved

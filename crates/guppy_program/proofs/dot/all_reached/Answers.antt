@@ -6,8 +6,8 @@ use Rattle.guppy.specs.IxSet.{IsIn}
 use Rattle.guppy.specs.Query.{SetData}
 use Rattle.guppy.specs.Reach.{LinkStep, ReachedFrom}
 use Rattle.guppy.specs.Walked.{IsWhole}
-use Rattle.guppy_program.proofs.Drawn.{all_from_all, permuted_known, reached_whole}
-use Rattle.guppy_program.proofs.Reached.{IfOk-both, drained_ids, first_unknown-given, none_unknown}
+use Rattle.guppy_program.proofs.Drawings.{all_from_all, permuted_known, reached_whole}
+use Rattle.guppy_program.proofs.ReachedIds.{IfOk-both, drained_ids, first_unknown-given, none_unknown}
 use Rattle.guppy_program.proofs.dot.all_reached.Goals as goal
 
 pub returns-in_err-query_forward-clause-err : goal.returns-in_err-query_forward-clause-err

@@ -1,7 +1,7 @@
 use Rattle.std.proofs.Common.{map}
 use Rattle.guppy_program.specs.Answer.{IsDrawn}
 use Rattle.guppy_program.specs.Dot.{edge_shown, node_shown}
-use Rattle.guppy_program.proofs.Drawn.{set_drawn}
+use Rattle.guppy_program.proofs.Drawings.{set_drawn}
 use Rattle.guppy_program.proofs.dot.drawing_of.Goals as goal
 
 pub returns-clause-ok : goal.returns-clause-ok

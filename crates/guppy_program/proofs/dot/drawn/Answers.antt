@@ -6,8 +6,8 @@ use Rattle.guppy.specs.Query.{SetData}
 use Rattle.guppy.specs.Reach.{LinkStep, ReachedFrom}
 use Rattle.guppy.specs.Walked.{IsWhole}
 use Rattle.guppy_program.specs.Answer.{IsDrawn}
-use Rattle.guppy_program.proofs.Drawn.{reached_drawn, reached_whole}
-use Rattle.guppy_program.proofs.Reached.{IfOk-both, drained_ids, first_unknown-given, none_unknown}
+use Rattle.guppy_program.proofs.Drawings.{reached_drawn, reached_whole}
+use Rattle.guppy_program.proofs.ReachedIds.{IfOk-both, drained_ids, first_unknown-given, none_unknown}
 use Rattle.guppy_program.proofs.dot.drawn.Goals as goal
 
 pub returns-in_err-query_forward-clause-err : goal.returns-in_err-query_forward-clause-err

@@ -5,7 +5,7 @@ use Rattle.guppy.specs.Graph.{GraphData}
 use Rattle.guppy.specs.Ids.{HasId}
 use Rattle.guppy.specs.Views.{link_graph, link_number, package_position}
 use Rattle.guppy_program.specs.Dot.{Edge}
-use Rattle.guppy_program.proofs.Drawn.{link_there}
+use Rattle.guppy_program.proofs.Drawings.{link_there}
 use Rattle.guppy_program.proofs.dot.edge_of.Goals as goal
 
 pub returns : goal.returns

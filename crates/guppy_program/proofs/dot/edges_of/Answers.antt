@@ -3,8 +3,8 @@ use Rattle.std.specs.List.{AllZip}
 use Rattle.guppy.specs.Views.{link_data}
 use Rattle.guppy.specs.Walked.{walked_left}
 use Rattle.guppy_program.specs.Dot.{IsEdge, edge_shown}
-use Rattle.guppy_program.proofs.Drawn.{fits_push, walked_numbers}
-use Rattle.guppy_program.proofs.Included.{all_given}
+use Rattle.guppy_program.proofs.Drawings.{fits_push, walked_numbers}
+use Rattle.guppy_program.proofs.IncludedIds.{all_given}
 use Rattle.guppy_program.proofs.dot.edges_of.Goals as goal
 
 pub loop-link-preserved : goal.loop-link-preserved

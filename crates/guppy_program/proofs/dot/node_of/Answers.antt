@@ -2,7 +2,7 @@ use Rattle.std.proofs.Common.{◌↔◌, subst, Bor}
 use Rattle.std.specs.Prelude.{IsTrue}
 use Rattle.guppy.specs.Cycles.{AreCyclic}
 use Rattle.guppy.specs.Graph.{GraphData}
-use Rattle.guppy_program.proofs.Drawn.{member_there}
+use Rattle.guppy_program.proofs.Drawings.{member_there}
 use Rattle.guppy_program.proofs.dot.node_of.Goals as goal
 
 pub returns : goal.returns

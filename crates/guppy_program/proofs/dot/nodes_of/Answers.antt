@@ -1,6 +1,6 @@
 use Rattle.guppy.specs.Views.{package_data}
 use Rattle.guppy_program.specs.Dot.{IsNode, node_shown}
-use Rattle.guppy_program.proofs.Drawn.{fits_push}
+use Rattle.guppy_program.proofs.Drawings.{fits_push}
 use Rattle.guppy_program.proofs.dot.nodes_of.Goals as goal
 
 pub loop-metadata-preserved : goal.loop-metadata-preserved

@@ -1,5 +1,5 @@
 use Rattle.std.proofs.Common.{rules}
-use Rattle.guppy_program.proofs.Escaping.{escaped_other}
+use Rattle.guppy_program.proofs.EscapedTexts.{escaped_other}
 use Rattle.guppy_program.proofs.dot_text.push_character.Goals as goal
 
 pub returns-else-character-eq92 : goal.returns-else-character-eq92

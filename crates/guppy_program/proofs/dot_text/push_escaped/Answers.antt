@@ -1,7 +1,7 @@
 use Rattle.std.proofs.Common.{◌∙◌, ◌++◌, sym, ap, append_assoc, string_bytes}
 use Rattle.std.specs.Char.{encode_utf8}
 use Rattle.guppy_program.specs.DotText.{escaped}
-use Rattle.guppy_program.proofs.Escaping.{escaped_push}
+use Rattle.guppy_program.proofs.EscapedTexts.{escaped_push}
 use Rattle.guppy_program.proofs.dot_text.push_escaped.Goals as goal
 
 pub loop-character-preserved : goal.loop-character-preserved

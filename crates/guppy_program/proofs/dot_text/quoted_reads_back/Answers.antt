@@ -1,6 +1,6 @@
 use Rattle.std.proofs.Common.{◌∙◌, sym, ◌∷◌, [], ◌++◌, append_assoc}
 use Rattle.guppy_program.specs.DotText.{escaped}
-use Rattle.guppy_program.proofs.Escaping.{delimited, firsts}
+use Rattle.guppy_program.proofs.EscapedTexts.{delimited, firsts}
 use Rattle.guppy_program.proofs.dot_text.quoted_reads_back.Goals as goal
 
 pub returns : goal.returns

@@ -1,7 +1,7 @@
 use Rattle.std.proofs.Common.{◌∙◌, ◌∷◌, ◌-◌, ap, arith, rules, take, drop, length, map, string_bytes}
 use Rattle.std.proofs.lemmas.Grind.{common_steps}
 use Rattle.guppy_program.specs.Options.{options_from}
-use Rattle.guppy_program.proofs.Asking.{flag_first, value_first, first_and_rest}
+use Rattle.guppy_program.proofs.FrontOptions.{flag_first, value_first, first_and_rest}
 use Rattle.guppy_program.proofs.options.with_first.Goals as goal
 
 pub returns-in-Some : goal.returns-in-Some

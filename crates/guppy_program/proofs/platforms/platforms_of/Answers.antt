@@ -1,6 +1,6 @@
 use Rattle.std.proofs.Common.{refl, Bor, ℕ, List}
 use Rattle.guppy_program.specs.Platforms.{IsPlatform}
-use Rattle.guppy_program.proofs.Taken.{fits_with}
+use Rattle.guppy_program.proofs.FirstItems.{fits_with}
 use Rattle.guppy_program.proofs.platforms.platforms_of.Goals as goal
 
 pub loop-text-preserved : goal.loop-text-preserved

@@ -1,7 +1,7 @@
 use Rattle.std.proofs.Common.{◌≡◌, ◌∙◌, ap, subst, ℕ, List, ◌∷◌, [], Bor, map, string_bytes}
 use Rattle.std.specs.Prelude.{IfOk}
 use Rattle.std.specs.List.{join_by}
-use Rattle.guppy_program.proofs.Ordering.{joined_texts}
+use Rattle.guppy_program.proofs.PackageLists.{joined_texts}
 use Rattle.guppy_program.proofs.print.joined.Goals as goal
 
 pub returns : goal.returns

@@ -1,6 +1,6 @@
 use Rattle.std.proofs.lemmas.Result.{IfOk-weaker, IfErr-weaker}
 use Rattle.guppy_program.specs.Shown.{asked_shown}
-use Rattle.guppy_program.proofs.Running.{command_fault, loaded_distinct}
+use Rattle.guppy_program.proofs.Runs.{command_fault, loaded_distinct}
 use Rattle.guppy_program.proofs.program.answer_input.Goals as goal
 
 pub answer_text-text-requires-clause-distinct : goal.answer_text-text-requires-clause-distinct

@@ -1,7 +1,7 @@
 use Rattle.std.proofs.Common.{rules}
 use Rattle.std.proofs.lemmas.Result.{IfErr-weaker}
 use Rattle.guppy_program.specs.Shown.{asked_shown}
-use Rattle.guppy_program.proofs.Running.{source_fault}
+use Rattle.guppy_program.proofs.Runs.{source_fault}
 use Rattle.guppy_program.proofs.program.answer_source.Goals as goal
 
 pub returns-clause-err : goal.returns-clause-err

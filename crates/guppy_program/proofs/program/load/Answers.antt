@@ -6,7 +6,7 @@ use Rattle.guppy.specs.Graph.{Holds}
 use Rattle.guppy.specs.Refused.{IsRefusal}
 use Rattle.guppy_program.specs.Loaded.{IsLoadFault}
 use Rattle.guppy_program.specs.Shown.{asked_shown}
-use Rattle.guppy_program.proofs.Running.{OrMemory-holds}
+use Rattle.guppy_program.proofs.Runs.{OrMemory-holds}
 use Rattle.guppy_program.proofs.program.load.Goals as goal
 
 pub returns-in_err-graph-clause-err : goal.returns-in_err-graph-clause-err

@@ -7,7 +7,7 @@ use Rattle.guppy.specs.Graph.{GraphData}
 use Rattle.guppy.specs.Views.{package_position}
 use Rattle.guppy_program.specs.Publish.{is_somewhere, is_publishable}
 use Rattle.guppy_program.proofs.Membership.{passing-known}
-use Rattle.guppy_program.proofs.Publishing.{answered}
+use Rattle.guppy_program.proofs.PublishableMembers.{answered}
 use Rattle.guppy_program.proofs.publish.is_publishable.Goals as goal
 
 pub returns : goal.returns

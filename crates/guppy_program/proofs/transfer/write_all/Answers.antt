@@ -1,7 +1,7 @@
 use Rattle.std.proofs.Common.{rules, arith, take, drop, sym, ap, length}
 use Rattle.std.proofs.lemmas.List.{take-append-drop, length-drop, take_rest}
 use Rattle.std.proofs.KnownBytes.{Appends-kept}
-use Rattle.guppy_program.proofs.Writing.{written_more}
+use Rattle.guppy_program.proofs.Writes.{written_more}
 use Rattle.guppy_program.proofs.transfer.write_all.Goals as goal
 
 pub returns-in_err-at-clause-begun : goal.returns-in_err-at-clause-begun

@@ -2,7 +2,7 @@ use Rattle.std.proofs.Common.{◌≡◌, ℕ, ◌-◌, ◌<◌, None, sym, ap, �
 use Rattle.std.specs.Prelude.{option_and_then}
 use Rattle.guppy_target.specs.Reading.{predicate_at, predicate_from, truth_of}
 use Rattle.guppy_target.proofs.Turns.{ends, fails, more, last, unclosed, no_levels, level}
-use Rattle.guppy_target.proofs.Taken.{no_longer}
+use Rattle.guppy_target.proofs.Soundness.{no_longer}
 use Rattle.guppy_target.proofs.predicate.+predicate.Goals as goal
 
 pub operands_at-returns-in-Some : goal.operands_at-returns-in-Some

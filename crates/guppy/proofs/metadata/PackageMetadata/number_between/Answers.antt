@@ -1,4 +1,4 @@
-use Rattle.guppy.proofs.Walking.{by_ends}
+use Rattle.guppy.proofs.LinkNumbers.{by_ends}
 use Rattle.guppy.proofs.metadata.PackageMetadata.number_between.Goals as goal
 
 pub returns-in-Forward : goal.returns-in-Forward

@@ -1,4 +1,4 @@
-use Rattle.guppy.proofs.SameTargetIds.{equal-tells}
+use Rattle.guppy.proofs.EqualTargetIds.{equal-tells}
 use Rattle.guppy.proofs.metadata.targets.has_id.Goals as goal
 
 pub returns : goal.returns

@@ -1,7 +1,7 @@
 use Rattle.guppy_core.specs.Links.{seen_link}
-use Rattle.guppy_search.proofs.Between.{near-seen}
+use Rattle.guppy_search.proofs.LinkEnds.{near-seen}
 use Rattle.guppy.specs.Views.{link_data}
-use Rattle.guppy.proofs.Visiting.{near_end-below, starts_there, starts_back}
+use Rattle.guppy.proofs.ShownLinks.{near_end-below, starts_there, starts_back}
 use Rattle.guppy.proofs.query.PackageLinkContext.starts_from_initial.Goals as goal
 
 pub package_at-package-requires : goal.package_at-package-requires

@@ -1,5 +1,5 @@
 use Rattle.std.proofs.Common.{◌≡◌, ◌∙◌, refl, ap, rules}
-use Rattle.guppy.proofs.Visiting.{FoldsTo-along_kept, IsCallable-along_kept, ends_at}
+use Rattle.guppy.proofs.ShownLinks.{FoldsTo-along_kept, IsCallable-along_kept, ends_at}
 use Rattle.guppy.proofs.query.PackageQuery.resolve_with_fn_mut.Goals as goal
 
 pub resolve_by_number-requires : goal.resolve_by_number-requires

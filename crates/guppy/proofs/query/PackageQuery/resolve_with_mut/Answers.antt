@@ -1,6 +1,6 @@
 use Rattle.std.proofs.Common.{◌≡◌, ◌∙◌, refl, ap, rules}
 use Rattle.guppy.specs.Visitors.{VisitsAt}
-use Rattle.guppy.proofs.Visiting.{FoldsTo-along_kept, IsCallable-others, ends_at}
+use Rattle.guppy.proofs.ShownLinks.{FoldsTo-along_kept, IsCallable-others, ends_at}
 use Rattle.guppy.proofs.query.PackageQuery.resolve_with_mut.Goals as goal
 
 pub resolve_by_number-requires : goal.resolve_by_number-requires

@@ -1,5 +1,5 @@
 use Rattle.guppy_graph.specs.Accepted.{distinct_ids}
-use Rattle.guppy.proofs.Naming.{included_at}
+use Rattle.guppy.proofs.NamedPositions.{included_at}
 use Rattle.guppy.proofs.set.PackageSet.contains.Goals as goal
 
 pub returns-clause-known : goal.returns-clause-known

@@ -2,7 +2,7 @@ use Rattle.std.proofs.Common.{◌∙◌, sym, ap, subst, refl, true, false, [], 
 use Rattle.std.proofs.lemmas.List.{length-replicate}
 use Rattle.guppy.specs.Listed.{listed_left}
 use Rattle.guppy.specs.Asked.{AreAnswered}
-use Rattle.guppy.proofs.Asked.{asked_none, asked_all, may_ask, asked_more, fits, answered_none, answered_more, answered_otherwise}
+use Rattle.guppy.proofs.CallbackAnswers.{asked_none, asked_all, may_ask, asked_more, fits, answered_none, answered_more, answered_otherwise}
 use Rattle.guppy.proofs.set.PackageSet.filter_mut.Goals as goal
 
 pub loop-package-init : goal.loop-package-init

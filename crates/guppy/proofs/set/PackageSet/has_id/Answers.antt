@@ -1,5 +1,5 @@
 use Rattle.guppy_graph.specs.Accepted.{distinct_ids}
-use Rattle.guppy.proofs.Naming.{included_at}
+use Rattle.guppy.proofs.NamedPositions.{included_at}
 use Rattle.guppy.proofs.set.PackageSet.has_id.Goals as goal
 
 pub returns-in-Some : goal.returns-in-Some

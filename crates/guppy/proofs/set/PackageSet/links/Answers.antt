@@ -4,7 +4,7 @@ use Rattle.guppy_core.specs.Walked.{numbers_of}
 use Rattle.guppy.specs.Query.{SetData}
 use Rattle.guppy.specs.Views.{link_in}
 use Rattle.guppy.specs.Walked.{AreWalkedLinks, AreLinksInside, IsWhole}
-use Rattle.guppy.proofs.Walking.{seen_link}
+use Rattle.guppy.proofs.LinkNumbers.{seen_link}
 use Rattle.guppy.proofs.set.PackageSet.links.Goals as goal
 
 pub invariant_of-result : goal.invariant_of-result

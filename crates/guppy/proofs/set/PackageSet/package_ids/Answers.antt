@@ -1,7 +1,7 @@
 use Rattle.std.proofs.Common.{◌∙◌, ap}
 use Rattle.std.specs.List.{filter_map}
 use Rattle.guppy.specs.Listed.{id_of, positions_listed}
-use Rattle.guppy.proofs.Listed.{ids_of_seen, listed_ids_left-count}
+use Rattle.guppy.proofs.SetLists.{ids_of_seen, listed_ids_left-count}
 use Rattle.guppy.proofs.set.PackageSet.package_ids.Goals as goal
 
 pub returns-clause-left : goal.returns-clause-left

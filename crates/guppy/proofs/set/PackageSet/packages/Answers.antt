@@ -5,7 +5,7 @@ use Rattle.guppy_graph.specs.Graph.{IsPackageGraph}
 use Rattle.guppy_graph.specs.Ordered.{FirmStep}
 use Rattle.guppy_graph.proofs.Rounds.{no_firm_round}
 use Rattle.guppy.specs.Query.{SetData}
-use Rattle.guppy.proofs.Leading.{walk_leads, listed_precedes}
+use Rattle.guppy.proofs.Precedence.{walk_leads, listed_precedes}
 use Rattle.guppy.proofs.set.PackageSet.packages.Goals as goal
 
 pub invariant_of-result : goal.invariant_of-result

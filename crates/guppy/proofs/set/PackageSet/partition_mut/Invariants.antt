@@ -1,7 +1,7 @@
 use Rattle.std.proofs.Common.{◌≡◌, ℕ, Bool, true, false, List, length}
 use Rattle.guppy.specs.Listed.{positions_listed, listed_left}
 use Rattle.guppy.specs.Asked.{AreAnswered}
-use Rattle.guppy.proofs.Asked.{IsAskedSoFar}
+use Rattle.guppy.proofs.CallbackAnswers.{IsAskedSoFar}
 use Rattle.guppy.proofs.set.PackageSet.partition_mut.Given as goal
 
 abbrev pub invariant-loop-package : goal.invariant-loop-package

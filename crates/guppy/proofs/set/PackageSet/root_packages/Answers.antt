@@ -4,7 +4,7 @@ use Rattle.guppy_graph.specs.Ids.{ix_position}
 use Rattle.guppy.specs.Query.{SetData}
 use Rattle.guppy.specs.Views.{package_in}
 use Rattle.guppy.specs.Rooted.{AreRootPackages}
-use Rattle.guppy.proofs.Rooted.{roots_within, packages_at_ixs}
+use Rattle.guppy.proofs.SetRoots.{roots_within, packages_at_ixs}
 use Rattle.guppy.proofs.set.PackageSet.root_packages.Goals as goal
 
 pub invariant_of-result : goal.invariant_of-result

@@ -1,5 +1,5 @@
 use Rattle.std.proofs.Common.{inl, inr}
-use Rattle.guppy.proofs.Same.{same_members}
+use Rattle.guppy.proofs.EqualLists.{same_members}
 use Rattle.guppy.proofs.set.laws.union_commutes.Goals as goal
 
 pub returns : goal.returns

@@ -10,8 +10,8 @@ use Rattle.guppy_core.specs.Sccs.{InOneBlock}
 use Rattle.guppy_search.specs.Walked.{AreWalked, numbers_of}
 use Rattle.guppy_core.proofs.Listings.{all_standing}
 use Rattle.guppy_search.proofs.Members.{IsIn-below}
-use Rattle.guppy_core.proofs.Starting.{walked_from_roots}
-use Rattle.guppy_core.proofs.Whole.{walked_all}
+use Rattle.guppy_core.proofs.RootWalks.{walked_from_roots}
+use Rattle.guppy_core.proofs.WholeComponents.{walked_all}
 use Rattle.guppy_core.proofs.resolve_core.ResolveCore.links.Goals as goal
 
 pub set_of-requires : goal.set_of-requires

@@ -3,7 +3,7 @@ use Rattle.std.specs.Prelude.{All}
 use Rattle.std.specs.List.{filter}
 use Rattle.std.proofs.lemmas.List.Elements.{All-tail}
 use Rattle.guppy_search.specs.IxSet.{has}
-use Rattle.guppy_core.proofs.Included.{filter_skips}
+use Rattle.guppy_core.proofs.SetMembers.{filter_skips}
 use Rattle.guppy_core.proofs.resolve_core.topo.first_included.Goals as goal
 
 pub returns-then-contains-clause-below : goal.returns-then-contains-clause-below

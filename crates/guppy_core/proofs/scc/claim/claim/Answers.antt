@@ -5,10 +5,10 @@ use Rattle.guppy_search.proofs.Lists.{no_items}
 use Rattle.guppy_search.specs.Reach.{Step}
 use Rattle.guppy_search.specs.declared.ix.direction.DependencyDirection.TheVariants.{Reverse}
 use Rattle.guppy_core.proofs.Costs.{degree, owed, owed-mark, owed-pop, row_paid, row_room, fits_below, one_more}
-use Rattle.guppy_core.proofs.Closing.{popped_below, within_first, within_more, between_again}
+use Rattle.guppy_core.proofs.RowTurns.{popped_below, within_first, within_more, between_again}
 use Rattle.guppy_search.specs.Links.{far_end}
-use Rattle.guppy_search.proofs.Searching.{far_end_below}
-use Rattle.guppy_core.proofs.Claiming.{From, numbering_first, numbering_more, between_first, claimed}
+use Rattle.guppy_search.proofs.SearchSteps.{far_end_below}
+use Rattle.guppy_core.proofs.Claims.{From, numbering_first, numbering_more, between_first, claimed}
 use Rattle.guppy_core.proofs.scc.claim.claim.Given.{Over}
 use Rattle.guppy_core.proofs.scc.claim.claim.Goals.{After-leaving_at-k-end, After-look_at-number}
 use Rattle.guppy_core.proofs.scc.claim.claim.Goals as goal

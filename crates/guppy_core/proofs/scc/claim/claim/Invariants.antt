@@ -3,10 +3,10 @@ use Rattle.guppy_search.specs.Reach.{Step}
 use Rattle.guppy_search.specs.Links.{links_at}
 use Rattle.guppy_search.specs.declared.ix.direction.DependencyDirection.TheVariants.{Reverse}
 use Rattle.guppy_core.specs.Cost.{links_left}
-use Rattle.guppy_core.proofs.Reaching.{fuel}
+use Rattle.guppy_core.proofs.StackSearch.{fuel}
 use Rattle.guppy_core.proofs.Costs.{owed, degree}
-use Rattle.guppy_core.proofs.Closing.{Between, Within}
-use Rattle.guppy_core.proofs.Claiming.{From, Numbering}
+use Rattle.guppy_core.proofs.RowTurns.{Between, Within}
+use Rattle.guppy_core.proofs.Claims.{From, Numbering}
 use Rattle.guppy_core.proofs.scc.claim.claim.Given as goal
 
 abbrev pub invariant-loop-k : goal.invariant-loop-k

@@ -2,8 +2,8 @@ use Rattle.std.proofs.Common.{◌≤◌, false, length, replicate, sym, ◌∙�
 use Rattle.std.proofs.Math.ListN.{length-replicate}
 use Rattle.guppy_search.specs.Reach.{LinkStep}
 use Rattle.guppy_core.specs.Roots.{HasNumber}
-use Rattle.guppy_core.proofs.Gathering.{gathered_none, gathered_skipped, gathered_more}
-use Rattle.guppy_core.proofs.Rooting.{inside_also, entered_all}
+use Rattle.guppy_core.proofs.RowSets.{gathered_none, gathered_skipped, gathered_more}
+use Rattle.guppy_core.proofs.Roots.{inside_also, entered_all}
 use Rattle.guppy_core.proofs.scc.externals.entered.Goals.{then-has_position, else-has_position}
 use Rattle.guppy_core.proofs.scc.externals.entered.Goals as goal
 

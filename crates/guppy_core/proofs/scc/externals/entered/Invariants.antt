@@ -1,8 +1,8 @@
 use Rattle.std.proofs.Common.{false, replicate}
 use Rattle.guppy_search.specs.Reach.{LinkStep}
 use Rattle.guppy_core.specs.Roots.{HasNumber}
-use Rattle.guppy_core.proofs.Gathering.{Gathered}
-use Rattle.guppy_core.proofs.Rooting.{EntersInside}
+use Rattle.guppy_core.proofs.RowSets.{Gathered}
+use Rattle.guppy_core.proofs.Roots.{EntersInside}
 use Rattle.guppy_core.proofs.scc.externals.entered.Given as goal
 
 abbrev pub invariant-loop-position : goal.invariant-loop-position

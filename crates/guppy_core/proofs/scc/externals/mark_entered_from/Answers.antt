@@ -1,14 +1,14 @@
 use Rattle.std.proofs.Common.{◌≤◌, true, length, get_or, refl, sym, ◌∙◌, arith}
 use Rattle.guppy_search.specs.Links.{seen_link}
-use Rattle.guppy_search.proofs.Between.{far-seen}
+use Rattle.guppy_search.proofs.LinkEnds.{far-seen}
 use Rattle.guppy_search.specs.Reach.{LinkStep}
 use Rattle.guppy_core.specs.Roots.{EntersFrom, HasNumber}
 use Rattle.guppy_core.proofs.Costs.{degree}
 use Rattle.guppy_search.proofs.Rows.{row_within}
-use Rattle.guppy_search.proofs.Searching.{far_end_below}
-use Rattle.guppy_core.proofs.Finishing.{Looked}
-use Rattle.guppy_core.proofs.Gathering.{gathered_none, gathered_skipped, gathered_one, gathered_all}
-use Rattle.guppy_core.proofs.Rooting.{EntersFromAt, enters_one, enters_none, enters_all}
+use Rattle.guppy_search.proofs.SearchSteps.{far_end_below}
+use Rattle.guppy_core.proofs.DepthFirstSteps.{Looked}
+use Rattle.guppy_core.proofs.RowSets.{gathered_none, gathered_skipped, gathered_one, gathered_all}
+use Rattle.guppy_core.proofs.Roots.{EntersFromAt, enters_one, enters_none, enters_all}
 use Rattle.guppy_core.proofs.scc.externals.mark_entered_from.Goals.{then-has_position+then-numbers-far, else-has_position, else-has_position-via-then-has_position+else-numbers-far, else-has_position-via-else-has_position}
 use Rattle.guppy_core.proofs.scc.externals.mark_entered_from.Goals as goal
 

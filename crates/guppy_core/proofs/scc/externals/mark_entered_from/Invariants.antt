@@ -1,5 +1,5 @@
-use Rattle.guppy_core.proofs.Gathering.{Gathered}
-use Rattle.guppy_core.proofs.Rooting.{EntersFromAt}
+use Rattle.guppy_core.proofs.RowSets.{Gathered}
+use Rattle.guppy_core.proofs.Roots.{EntersFromAt}
 use Rattle.guppy_core.proofs.scc.externals.mark_entered_from.Given as goal
 
 abbrev pub invariant-loop-number : goal.invariant-loop-number

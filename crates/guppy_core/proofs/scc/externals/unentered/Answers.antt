@@ -1,7 +1,7 @@
 use Rattle.std.proofs.Common.{◌≡◌, ◌<◌, ◌++◌, ◌∷◌, [], length, map, ap, ◌∙◌, ℕ, arith}
 use Rattle.std.proofs.lemmas.List.{map_push}
 use Rattle.guppy_search.proofs.Exits.{if_ok}
-use Rattle.guppy_core.proofs.Rooting.{unmarked_none, unmarked_more, unmarked_skipped, unmarked_all}
+use Rattle.guppy_core.proofs.Roots.{unmarked_none, unmarked_more, unmarked_skipped, unmarked_all}
 use Rattle.guppy_core.proofs.scc.externals.unentered.Goals.{then-is_unentered+in_ok-push, else-is_unentered}
 use Rattle.guppy_core.proofs.scc.externals.unentered.Goals as goal
 

@@ -1,6 +1,6 @@
 use Rattle.std.proofs.Common.{map}
 use Rattle.guppy_core.specs.Listing.{IsAbsence}
-use Rattle.guppy_core.proofs.Rooting.{left_out}
+use Rattle.guppy_core.proofs.Roots.{left_out}
 use Rattle.guppy_core.proofs.scc.externals.unentered.Given as goal
 
 abbrev pub invariant-loop-position : goal.invariant-loop-position

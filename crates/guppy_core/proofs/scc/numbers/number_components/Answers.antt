@@ -8,9 +8,9 @@ use Rattle.guppy_search.specs.declared.ix.direction.DependencyDirection.TheVaria
 use Rattle.guppy_search.proofs.Walks.{step_back, step_forth}
 use Rattle.guppy_core.proofs.Costs.{degree, owed_first, none_missing, looked_all, fits_same}
 use Rattle.guppy_search.proofs.Members.{has-replicate}
-use Rattle.guppy_core.proofs.Indexing.{reversed_below}
+use Rattle.guppy_core.proofs.TopologicalOrder.{reversed_below}
 use Rattle.guppy_core.proofs.Lengths.{length_of_once}
-use Rattle.guppy_core.proofs.Numbering.{second_none, second_skipped, second_more, second_seen, second_all, all_finished}
+use Rattle.guppy_core.proofs.ComponentNumbers.{second_none, second_skipped, second_more, second_seen, second_all, all_finished}
 use Rattle.guppy_core.specs.Listing.{Stands}
 use Rattle.guppy_core.proofs.scc.numbers.number_components.Given.{Over}
 use Rattle.guppy_core.proofs.scc.numbers.number_components.Goals.{After-deref-root-items, then-not-has_position+in_ok-claim, else-not-has_position}

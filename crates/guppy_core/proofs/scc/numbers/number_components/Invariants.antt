@@ -2,7 +2,7 @@ use Rattle.std.proofs.Common.{◌≡◌, ◌+◌, ◌*◌, ◌≤◌, true, [], 
 use Rattle.guppy_search.specs.Reach.{Step}
 use Rattle.guppy_search.specs.declared.ix.direction.DependencyDirection.TheVariants.{Forward, Reverse}
 use Rattle.guppy_core.specs.Cost.{links_left}
-use Rattle.guppy_core.proofs.Numbering.{SecondPass}
+use Rattle.guppy_core.proofs.ComponentNumbers.{SecondPass}
 use Rattle.guppy_core.proofs.scc.numbers.number_components.Given as goal
 
 abbrev pub invariant-loop-root : goal.invariant-loop-root

@@ -4,8 +4,8 @@ use Rattle.std.proofs.lemmas.Bool.{not-true, not-false}
 use Rattle.guppy_search.specs.declared.ix.direction.DependencyDirection.TheVariants.{Forward}
 use Rattle.guppy_search.proofs.Lists.{no_items}
 use Rattle.guppy_core.proofs.Costs.{degree, fits_below}
-use Rattle.guppy_core.proofs.Finishing.{Looked, looked_from, looked_below, inserted_old, smaller_done, smaller_step, smaller_new}
-use Rattle.guppy_core.proofs.Tracing.{tracing_first, tracing_old, tracing_new, tracing_below, tracing_done, tracing_all, look_paid, link_skipped, link_round, link_done, link_new, link_back, tracing_small}
+use Rattle.guppy_core.proofs.DepthFirstSteps.{Looked, looked_from, looked_below, inserted_old, smaller_done, smaller_step, smaller_new}
+use Rattle.guppy_core.proofs.PathSearch.{tracing_first, tracing_old, tracing_new, tracing_below, tracing_done, tracing_all, look_paid, link_skipped, link_round, link_done, link_new, link_back, tracing_small}
 use Rattle.guppy_core.proofs.topo.cycle.find_cycle.Given.{Over}
 use Rattle.guppy_core.proofs.topo.cycle.find_cycle.Goals.{After-push-then-frame-leaving_at, then-insert_position+in_ok-push, else-insert_position, then-insert_position-2+in_ok-push-3, else-insert_position-2+else-not-has_position, else-keep-via-then-keep+else-far-frame, else-keep-via-else-keep}
 use Rattle.guppy_core.proofs.topo.cycle.find_cycle.Goals as goal

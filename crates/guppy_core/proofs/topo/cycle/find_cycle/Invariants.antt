@@ -2,7 +2,7 @@ use Rattle.std.proofs.Common.{◌≡◌, ◌+◌, ◌≤◌, length}
 use Rattle.guppy_search.specs.declared.ix.direction.DependencyDirection.TheVariants.{Forward}
 use Rattle.guppy_core.proofs.Costs.{degree}
 use Rattle.guppy_core.proofs.Frames.{left}
-use Rattle.guppy_core.proofs.Tracing.{Tracing}
+use Rattle.guppy_core.proofs.PathSearch.{Tracing}
 use Rattle.guppy_core.proofs.topo.cycle.find_cycle.Given as goal
 
 abbrev pub invariant-loop-frame : goal.invariant-loop-frame

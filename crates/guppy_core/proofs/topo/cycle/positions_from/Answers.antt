@@ -2,9 +2,9 @@ use Rattle.std.proofs.Common.{◌≡◌, ◌⊎◌, ℕ, ◌+◌, ◌<◌, ◌++
 use Rattle.std.proofs.lemmas.List.{map_push, take_more, length-map}
 use Rattle.std.proofs.lemmas.Bool.{eqb-true, eqb-false}
 use Rattle.guppy_core.specs.declared.topo.finish.Frame.{Frame}
-use Rattle.guppy_core.proofs.Cycling.{from_first_more, from_first_none}
+use Rattle.guppy_core.proofs.Cycles.{from_first_more, from_first_none}
 use Rattle.guppy_core.proofs.Frames.{at_place}
-use Rattle.guppy_core.proofs.Tracing.{positions}
+use Rattle.guppy_core.proofs.PathSearch.{positions}
 use Rattle.guppy_core.proofs.topo.cycle.positions_from.Goals.{then-not-is_empty+in_ok-push, then-not-is_empty-via-then-not-is_empty, then-not-is_empty-via-else-not-is_empty+then-frame-first, else-not-is_empty+else-frame-first}
 use Rattle.guppy_core.proofs.topo.cycle.positions_from.Goals as goal
 

@@ -1,6 +1,6 @@
 use Rattle.std.proofs.Common.{◌≡◌, map, take}
 use Rattle.guppy_core.specs.Cycle.{from_first}
-use Rattle.guppy_core.proofs.Tracing.{positions}
+use Rattle.guppy_core.proofs.PathSearch.{positions}
 use Rattle.guppy_core.proofs.topo.cycle.positions_from.Given as goal
 
 abbrev pub invariant-loop-frame : goal.invariant-loop-frame

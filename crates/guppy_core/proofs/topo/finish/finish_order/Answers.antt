@@ -4,7 +4,7 @@ use Rattle.std.proofs.lemmas.List.{append-nil}
 use Rattle.guppy_search.proofs.Exits.{if_ok}
 use Rattle.guppy_core.specs.Noted.{note}
 use Rattle.guppy_core.proofs.Costs.{degree, fits_below}
-use Rattle.guppy_core.proofs.Finishing.{Looked, looked_noted, looked_below, looks_paid, finishing_first, start_old, start_new, finishing_below, look_paid, finishing_done, link_skipped, link_old, link_new, finishing_all, finishing_looked, finishing_positions, inserted_old, smaller_done, smaller_step, smaller_new}
+use Rattle.guppy_core.proofs.DepthFirstSteps.{Looked, looked_noted, looked_below, looks_paid, finishing_first, start_old, start_new, finishing_below, look_paid, finishing_done, link_skipped, link_old, link_new, finishing_all, finishing_looked, finishing_positions, inserted_old, smaller_done, smaller_step, smaller_new}
 use Rattle.guppy_search.specs.declared.ix.direction.DependencyDirection.TheVariants.{Forward}
 use Rattle.guppy_search.proofs.Lists.{no_items}
 use Rattle.guppy_core.proofs.topo.finish.finish_order.Given.{Over}

@@ -2,7 +2,7 @@ use Rattle.std.proofs.Common.{◌≡◌, ◌+◌, ◌≤◌, length}
 use Rattle.guppy_search.specs.declared.ix.direction.DependencyDirection.TheVariants.{Forward}
 use Rattle.guppy_core.proofs.Costs.{degree}
 use Rattle.guppy_core.proofs.Frames.{left}
-use Rattle.guppy_core.proofs.Finishing.{Finishing}
+use Rattle.guppy_core.proofs.DepthFirstSteps.{Finishing}
 use Rattle.guppy_core.proofs.topo.finish.finish_order.Given as goal
 
 abbrev pub invariant-loop-frame : goal.invariant-loop-frame

@@ -3,11 +3,11 @@ use Rattle.std.proofs.Math.ListN.{length-replicate}
 use Rattle.std.proofs.lemmas.Option.{slice_get_within}
 use Rattle.guppy_search.specs.declared.ix.direction.DependencyDirection.TheVariants.{Forward}
 use Rattle.guppy_search.specs.Links.{seen_link}
-use Rattle.guppy_search.proofs.Searching.{far_end_below}
+use Rattle.guppy_search.proofs.SearchSteps.{far_end_below}
 use Rattle.guppy_core.proofs.Costs.{one_more}
-use Rattle.guppy_core.proofs.Entering.{EntersAt, enters_one, enters_itself, enters_dropped, entered_is, enters_within}
-use Rattle.guppy_core.proofs.Gathering.{gathered_one, gathered_skipped, gathered_whole}
-use Rattle.guppy_core.proofs.Noting.{noted_more, noted_last}
+use Rattle.guppy_core.proofs.Entrances.{EntersAt, enters_one, enters_itself, enters_dropped, entered_is, enters_within}
+use Rattle.guppy_core.proofs.RowSets.{gathered_one, gathered_skipped, gathered_whole}
+use Rattle.guppy_core.proofs.Notes.{noted_more, noted_last}
 use Rattle.guppy_core.proofs.topo.roots.entered.Goals.{then-is_kept+then-link, else-is_kept, else-is_kept-via-then-is_kept+else-link, else-is_kept-via-else-is_kept}
 use Rattle.guppy_core.proofs.topo.roots.entered.Goals as goal
 

@@ -1,7 +1,7 @@
 use Rattle.std.proofs.Common.{◌≡◌, ◌+◌, false, length, replicate}
-use Rattle.guppy_core.proofs.Entering.{EntersAt}
-use Rattle.guppy_core.proofs.Gathering.{Gathered}
-use Rattle.guppy_core.proofs.Noting.{AreNotedTo}
+use Rattle.guppy_core.proofs.Entrances.{EntersAt}
+use Rattle.guppy_core.proofs.RowSets.{Gathered}
+use Rattle.guppy_core.proofs.Notes.{AreNotedTo}
 use Rattle.guppy_core.proofs.topo.roots.entered.Given as goal
 
 abbrev pub invariant-loop-number : goal.invariant-loop-number

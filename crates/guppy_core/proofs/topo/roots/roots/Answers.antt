@@ -3,7 +3,7 @@ use Rattle.std.proofs.lemmas.Result.{IfOk-weaker}
 use Rattle.guppy_search.proofs.Exits.{if_ok}
 use Rattle.guppy_search.specs.Reach.{Step}
 use Rattle.guppy_search.specs.declared.ix.direction.DependencyDirection.TheVariants.{Forward}
-use Rattle.guppy_core.proofs.Entering.{root_or_entered}
+use Rattle.guppy_core.proofs.Entrances.{root_or_entered}
 use Rattle.guppy_core.proofs.Listings.{absence_below}
 use Rattle.guppy_core.proofs.topo.roots.roots.Goals as goal
 

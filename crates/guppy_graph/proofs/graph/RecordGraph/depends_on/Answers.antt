@@ -5,10 +5,10 @@ use Rattle.std.proofs.lemmas.Iterator.Adapters.{YieldsList-from_once}
 use Rattle.guppy_core.specs.IxSet.{IsIn}
 use Rattle.guppy_graph.specs.Ids.{ix_position}
 use Rattle.guppy_graph.specs.Accepted.{distinct_ids}
-use Rattle.guppy_graph.proofs.Named.{within_of}
+use Rattle.guppy_graph.proofs.PackageIds.{within_of}
 use Rattle.guppy_graph.proofs.Runs.{holds_along, drained}
 use Rattle.guppy_graph.proofs.Lists.{only_one}
-use Rattle.guppy_graph.proofs.Depending.{depends_by_reach}
+use Rattle.guppy_graph.proofs.Dependence.{depends_by_reach}
 use Rattle.guppy_graph.proofs.graph.RecordGraph.depends_on.Goals as goal
 
 pub from_ixs-requires-clause-below : goal.from_ixs-requires-clause-below

@@ -1,8 +1,8 @@
 use Rattle.std.proofs.Common.{sym, subst, ◌<◌, length}
 use Rattle.guppy_graph.specs.Ids.{ix_position}
 use Rattle.guppy_graph.specs.Accepted.{distinct_ids}
-use Rattle.guppy_graph.proofs.Named.{within_of}
-use Rattle.guppy_graph.proofs.Depending.{directly_by_link}
+use Rattle.guppy_graph.proofs.PackageIds.{within_of}
+use Rattle.guppy_graph.proofs.Dependence.{directly_by_link}
 use Rattle.guppy_graph.proofs.graph.RecordGraph.directly_depends_on.Goals as goal
 
 pub find_link-requires : goal.find_link-requires

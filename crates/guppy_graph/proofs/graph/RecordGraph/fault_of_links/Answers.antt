@@ -5,7 +5,7 @@ use Rattle.std.proofs.lemmas.Option.{slice_get-get_or}
 use Rattle.guppy_search.specs.declared.ix.direction.DependencyDirection.TheVariants.{Forward}
 use Rattle.guppy_core.specs.Links.{links_at}
 use Rattle.guppy_graph.specs.Verified.{IsLinkVerified}
-use Rattle.guppy_graph.proofs.Verifying.{fault_lacks}
+use Rattle.guppy_graph.proofs.VerifiedGraphs.{fault_lacks}
 use Rattle.guppy_graph.proofs.graph.RecordGraph.fault_of_links.Goals as goal
 
 pub fault_of_link-requires : goal.fault_of_link-requires

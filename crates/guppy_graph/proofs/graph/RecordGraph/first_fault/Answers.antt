@@ -1,7 +1,7 @@
 use borrow.Author.Count.{below_more}
 use Rattle.std.proofs.Common.{ap, refl, arith, ◌<◌, length}
 use Rattle.guppy_graph.specs.Verified.{IsPackageVerified}
-use Rattle.guppy_graph.proofs.Verifying.{verified_of_packages, no_fault}
+use Rattle.guppy_graph.proofs.VerifiedGraphs.{verified_of_packages, no_fault}
 use Rattle.guppy_graph.proofs.graph.RecordGraph.first_fault.Goals as goal
 
 pub returns-in-Some-clause-verified : goal.returns-in-Some-clause-verified

@@ -2,7 +2,7 @@ use Rattle.std.proofs.Common.{◌<◌, length, map, Result, Ok, Err}
 use Rattle.std.specs.Prelude.{IfOk}
 use Rattle.guppy_graph.specs.Ids.{HasId, ix_position}
 use Rattle.guppy_graph.proofs.Lists.{All-from_AllZip_right}
-use Rattle.guppy_graph.proofs.Named.{within_of}
+use Rattle.guppy_graph.proofs.PackageIds.{within_of}
 use Rattle.guppy_graph.proofs.Rounds.{firm_cycle_at, unknown_no_cycle}
 use Rattle.guppy_graph.proofs.graph.RecordGraph.is_cycle_witness.Goals as goal
 

@@ -1,4 +1,4 @@
-use Rattle.guppy_graph.proofs.Unknown.{first_unknown-alone}
+use Rattle.guppy_graph.proofs.UnknownTexts.{first_unknown-alone}
 use Rattle.guppy_graph.proofs.graph.RecordGraph.ix_of.Goals as goal
 
 pub returns-in_ok-clone-in-None-clause-unknown : goal.returns-in_ok-clone-in-None-clause-unknown

@@ -6,7 +6,7 @@ use Rattle.guppy_graph.specs.First.{IsFirstWithout}
 use Rattle.guppy_graph.specs.Verified.{HasFittingKind, AreKindsFitting, IsFirstMisfit}
 use Rattle.guppy_graph.proofs.Lists.{MatchOption-along, some_at, of_some}
 use Rattle.guppy_graph.proofs.TargetLists.{targets_below, targets_by_id}
-use Rattle.guppy_graph.proofs.Verifying.{all_read, first_read, listed_fit}
+use Rattle.guppy_graph.proofs.VerifiedGraphs.{all_read, first_read, listed_fit}
 use Rattle.guppy_graph.proofs.graph.RecordGraph.misfit_of_package.Goals as goal
 
 pub first_misfit-requires : goal.first_misfit-requires

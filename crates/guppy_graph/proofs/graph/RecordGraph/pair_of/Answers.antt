@@ -1,7 +1,7 @@
 use Rattle.std.proofs.Common.{[], ◌∷◌}
 use Rattle.std.proofs.lemmas.Result.{err_from_is_err_and}
 use Rattle.guppy_graph.specs.Refused.{named_id}
-use Rattle.guppy_graph.proofs.Unknown.{NamesText-along, first_unknown-cons, first_unknown-behind}
+use Rattle.guppy_graph.proofs.UnknownTexts.{NamesText-along, first_unknown-cons, first_unknown-behind}
 use Rattle.guppy_graph.proofs.graph.RecordGraph.pair_of.Goals as goal
 
 pub returns-in_err-from-clause-unknown : goal.returns-in_err-from-clause-unknown

@@ -1,7 +1,7 @@
 use Rattle.std.proofs.Common.{◌≡◌, ◌∙◌, sym, Some, None}
 use Rattle.std.specs.Cmp.Lexicographic.{bytes_decides}
 use Rattle.guppy_graph.specs.Ids.{id_at}
-use Rattle.guppy_graph.proofs.Named.{keyless, key_is, key_has}
+use Rattle.guppy_graph.proofs.PackageIds.{keyless, key_is, key_has}
 use Rattle.guppy_graph.proofs.keys.Keys+Id.has_id.Goals as goal
 
 pub returns-in-Some : goal.returns-in-Some

@@ -1,5 +1,5 @@
 use Rattle.std.proofs.Common.{◌∙◌, sym}
-use Rattle.guppy_program.proofs.Known.{has_id-known}
+use Rattle.guppy_program.proofs.KnownIds.{has_id-known}
 use Rattle.guppy_program.proofs.lines.LinesFormat.find.Goals as goal
 
 pub returns-then-branch-clause-known : goal.returns-then-branch-clause-known

@@ -1,5 +1,5 @@
 use Rattle.std.proofs.Common.{rules}
-use Rattle.guppy_program.proofs.Adding.{nothing_added}
+use Rattle.guppy_program.proofs.RecordLines.{nothing_added}
 use Rattle.guppy_program.proofs.lines.input.add_line.Goals as goal
 
 pub returns-then-is_empty-clause-added : goal.returns-then-is_empty-clause-added

@@ -1,6 +1,6 @@
 use Rattle.std.proofs.Common.{rules, arith}
 use Rattle.std.proofs.lemmas.Result.{err_from_is_err_and}
-use Rattle.guppy_program.proofs.Adding.{has_passed_none, has_passed_more, statements_passed-more, bad_line}
+use Rattle.guppy_program.proofs.RecordLines.{has_passed_none, has_passed_more, statements_passed-more, bad_line}
 use Rattle.guppy_program.proofs.lines.input.records_of.Goals as goal
 
 pub loop-line-init : goal.loop-line-init

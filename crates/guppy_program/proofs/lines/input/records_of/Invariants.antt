@@ -1,6 +1,6 @@
 use Rattle.std.proofs.Common.{◌+◌, ◌≤◌, length}
 use Rattle.guppy_program.specs.Records.{AreRecordsOf}
-use Rattle.guppy_program.proofs.Adding.{HasPassed, statements_passed}
+use Rattle.guppy_program.proofs.RecordLines.{HasPassed, statements_passed}
 use Rattle.guppy_program.proofs.lines.input.records_of.Given as goal
 
 abbrev pub invariant-loop-line : goal.invariant-loop-line

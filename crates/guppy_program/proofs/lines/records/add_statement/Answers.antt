@@ -1,4 +1,4 @@
-use Rattle.guppy_program.proofs.Adding.{package_added, link_added}
+use Rattle.guppy_program.proofs.RecordLines.{package_added, link_added}
 use Rattle.guppy_program.proofs.lines.records.add_statement.Goals as goal
 
 pub returns-in_ok-push_package-in-Package : goal.returns-in_ok-push_package-in-Package

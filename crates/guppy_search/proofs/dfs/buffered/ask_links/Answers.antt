@@ -7,7 +7,7 @@ use Rattle.guppy_search.specs.Buffered.Question.{filter}
 use Rattle.guppy_search.proofs.Exits.{on_err}
 use Rattle.guppy_search.proofs.Lists.{Contains-first, drop_next}
 use Rattle.guppy_search.proofs.Rows.{row_within}
-use Rattle.guppy_search.proofs.Buffering.{Takes-none, Takes-filtered, Stops-filter}
+use Rattle.guppy_search.proofs.BufferedSteps.{Takes-none, Takes-filtered, Stops-filter}
 use Rattle.guppy_search.proofs.dfs.buffered.ask_links.Goals as goal
 
 pub links-init : goal.links-init

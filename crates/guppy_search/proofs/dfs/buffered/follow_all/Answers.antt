@@ -5,9 +5,9 @@ use Rattle.std.proofs.lemmas.List.{append-nil, take_all, take_more}
 use Rattle.guppy_search.specs.Links.{far_end, seen_link}
 use Rattle.guppy_search.specs.IxSet.{has}
 use Rattle.guppy_search.proofs.Members.{member_count-lt-length}
-use Rattle.guppy_search.proofs.Between.{far-seen}
-use Rattle.guppy_search.proofs.Searching.{balance-added, far_end_below}
-use Rattle.guppy_search.proofs.Following.{Adds-none, Adds-known, Adds-new}
+use Rattle.guppy_search.proofs.LinkEnds.{far-seen}
+use Rattle.guppy_search.proofs.SearchSteps.{balance-added, far_end_below}
+use Rattle.guppy_search.proofs.FollowedLinks.{Adds-none, Adds-known, Adds-new}
 use Rattle.guppy_search.proofs.dfs.buffered.follow_all.Goals as goal
 
 pub include-requires-clause-in_range : goal.include-requires-clause-in_range

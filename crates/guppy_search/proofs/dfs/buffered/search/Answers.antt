@@ -5,8 +5,8 @@ use Rattle.guppy_search.specs.Buffered.Question.{discover}
 use Rattle.guppy_search.proofs.Exits.{on_err}
 use Rattle.guppy_search.proofs.Lists.{no_items, FoldsTo-append}
 use Rattle.guppy_search.proofs.Members.{member_count-le-length}
-use Rattle.guppy_search.proofs.Searching.{taken_below, taken_room}
-use Rattle.guppy_search.proofs.Buffering.{Buffering-begin, Buffering-followed, Buffering-discover_error, Buffering-end, MayAskOn-along}
+use Rattle.guppy_search.proofs.SearchSteps.{taken_below, taken_room}
+use Rattle.guppy_search.proofs.BufferedSteps.{Buffering-begin, Buffering-followed, Buffering-discover_error, Buffering-end, MayAskOn-along}
 use Rattle.guppy_search.proofs.dfs.buffered.search.Goals as goal
 
 pub positions-init : goal.positions-init

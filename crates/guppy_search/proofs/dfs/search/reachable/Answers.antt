@@ -1,5 +1,5 @@
 use Rattle.guppy_search.proofs.Exits.{if_ok}
-use Rattle.guppy_search.proofs.Reached.{accepting_reaches, accepts_all}
+use Rattle.guppy_search.proofs.Resolves.{accepting_reaches, accepts_all}
 use Rattle.guppy_search.proofs.dfs.search.reachable.Goals as goal
 
 pub returns-clause-judged : goal.returns-clause-judged

@@ -1,7 +1,7 @@
 use Rattle.std.proofs.Common.{◌≡◌, [], ◌++◌, refl, ◌∙◌, arith}
 use Rattle.guppy_search.proofs.Lists.{no_items, FoldsTo-append}
 use Rattle.guppy_search.proofs.Members.{member_count-le-length}
-use Rattle.guppy_search.proofs.Searching.{Searching-begin, Searching-pop, Searching-end, taken_below, taken_room, MayGoOn-along}
+use Rattle.guppy_search.proofs.SearchSteps.{Searching-begin, Searching-pop, Searching-end, taken_below, taken_room, MayGoOn-along}
 use Rattle.guppy_search.proofs.dfs.search.search.Goals as goal
 
 pub positions-init : goal.positions-init

@@ -2,7 +2,7 @@ use Rattle.std.proofs.Common.{◌≡◌, true, false, inl, inr, ◌∷◌, lengt
 use Rattle.std.proofs.Math.ListN.{length-set, length-replicate}
 use Rattle.guppy_search.specs.IxSet.{positions_in}
 use Rattle.guppy_search.proofs.Members.{has-replicate}
-use Rattle.guppy_search.proofs.Searching.{Seeded-begin, Seeded-below, Seeded-known, Seeded-new, Waits-room}
+use Rattle.guppy_search.proofs.SearchSteps.{Seeded-begin, Seeded-below, Seeded-known, Seeded-new, Waits-room}
 use Rattle.guppy_search.proofs.dfs.search.seed.Goals as goal
 
 pub initials-init : goal.initials-init

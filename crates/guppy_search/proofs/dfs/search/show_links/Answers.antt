@@ -9,7 +9,7 @@ use Rattle.guppy_search.specs.IxSet.{has}
 use Rattle.guppy_search.proofs.Lists.{Contains-first, drop_next}
 use Rattle.guppy_search.proofs.Members.{member_count-lt-length}
 use Rattle.guppy_search.proofs.Ends.{link_beside}
-use Rattle.guppy_search.proofs.Searching.{Shows-none, Shows-refused, Shows-known, Shows-new, balance-added, far_end_below}
+use Rattle.guppy_search.proofs.SearchSteps.{Shows-none, Shows-refused, Shows-known, Shows-new, balance-added, far_end_below}
 use Rattle.guppy_search.proofs.dfs.search.show_links.Goals as goal
 
 pub links-init : goal.links-init

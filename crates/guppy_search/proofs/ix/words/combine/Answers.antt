@@ -1,5 +1,5 @@
 use Rattle.std.proofs.Common.{◌<◌, length, arith, rules}
-use Rattle.guppy_search.proofs.Combining.{combined_none, combined_more}
+use Rattle.guppy_search.proofs.CombinedWords.{combined_none, combined_more}
 use Rattle.guppy_search.proofs.ix.words.combine.Goals as goal
 
 pub loop-k-init : goal.loop-k-init

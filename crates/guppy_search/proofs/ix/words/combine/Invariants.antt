@@ -1,4 +1,4 @@
-use Rattle.guppy_search.proofs.Combining.{AreCombined}
+use Rattle.guppy_search.proofs.CombinedWords.{AreCombined}
 use Rattle.guppy_search.proofs.ix.words.combine.Given as goal
 
 abbrev pub invariant-loop-k : goal.invariant-loop-k

@@ -3,9 +3,9 @@ use Rattle.std.specs.Prelude.{slice_get}
 use Rattle.std.proofs.lemmas.List.Elements.{All-contains}
 use Rattle.guppy_search.specs.declared.graph_core.link.Link.{Link}
 use Rattle.guppy_search.specs.Walked.{IsInside}
-use Rattle.guppy_search.proofs.Reached.{AnswersBy}
+use Rattle.guppy_search.proofs.Resolves.{AnswersBy}
 use Rattle.guppy_search.proofs.Traces.{each_answer, IsCallable-same}
-use Rattle.guppy_search.proofs.Walking.{accepted_are_walked}
+use Rattle.guppy_search.proofs.WalkedLinks.{accepted_are_walked}
 use Rattle.guppy_search.proofs.walk.inside.walked_numbers.Goals as goal
 
 pub reachable_recorded-requires-clause-ready : goal.reachable_recorded-requires-clause-ready

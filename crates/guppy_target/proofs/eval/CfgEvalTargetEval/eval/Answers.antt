@@ -1,6 +1,6 @@
 use Rattle.std.proofs.Common.{◌≡◌, rules}
 use Rattle.guppy_target.specs.Answer.{answer_of}
-use Rattle.guppy_target.proofs.Answered.{answered}
+use Rattle.guppy_target.proofs.Evaluation.{answered}
 use Rattle.guppy_target.proofs.eval.CfgEvalTargetEval.eval.Goals as goal
 
 pub returns-clause-exact : goal.returns-clause-exact

@@ -6,7 +6,7 @@ use Rattle.guppy.specs.DirectLinks.{links_left}
 use Rattle.guppy.specs.Views.{graph_of, package_position}
 use Rattle.guppy.specs.declared.metadata.PackageMetadata.{PackageMetadata}
 use Rattle.guppy_why.specs.Searches.{links_beside, IsFollowing}
-use Rattle.guppy_why.proofs.Leaving.{IsNext, leaving, next_of, none_left}
+use Rattle.guppy_why.proofs.LeavingLinks.{IsNext, leaving, next_of, none_left}
 use Rattle.guppy_why.proofs.Packages.{graph_at, partly_first, partly_within, partly_done}
 use Rattle.guppy_why.proofs.search.Search.follow_links.Goals as goal
 

@@ -3,7 +3,7 @@ use Rattle.guppy.specs.DirectLinks.{links_left}
 use Rattle.guppy.specs.Views.{graph_of}
 use Rattle.guppy_why.specs.Nodes.{AreKept}
 use Rattle.guppy_why.specs.Searches.{nodes_of, IsFollowing}
-use Rattle.guppy_why.proofs.Leaving.{numbered}
+use Rattle.guppy_why.proofs.LeavingLinks.{numbered}
 use Rattle.guppy_why.proofs.search.Search.follow_links.Given as goal
 
 abbrev pub invariant-links : goal.invariant-links

@@ -1,6 +1,6 @@
 use Rattle.std.proofs.Common.{◌<◌, refl, length}
 use Rattle.std.proofs.lemmas.Option.{slice_get_read}
-use Rattle.guppy_why.proofs.Back.{back_first, back_within, back_step, back_smaller, back_done}
+use Rattle.guppy_why.proofs.WayBack.{back_first, back_within, back_step, back_smaller, back_done}
 use Rattle.guppy_why.proofs.search.Search.walk_to.Goals as goal
 
 pub back-init : goal.back-init

@@ -1,4 +1,4 @@
-use Rattle.guppy_why.proofs.Back.{IsBack}
+use Rattle.guppy_why.proofs.WayBack.{IsBack}
 use Rattle.guppy_why.proofs.search.Search.walk_to.Given as goal
 
 abbrev pub invariant-back : goal.invariant-back

@@ -1,5 +1,5 @@
 use Rattle.std.proofs.Common.{◌<◌, length}
-use Rattle.guppy.proofs.Remaining.{remaining}
+use Rattle.guppy.proofs.SliceRests.{remaining}
 use Rattle.guppy.proofs.metadata.links.PackageLinksIterator.next.Goals as goal
 
 pub invariant_of-self : goal.invariant_of-self

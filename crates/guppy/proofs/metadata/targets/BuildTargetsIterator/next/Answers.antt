@@ -4,7 +4,7 @@ use Rattle.std.specs.Slice.Iter.{iter_rest}
 use Rattle.std.proofs.lemmas.List.Elements.{All-head}
 use Rattle.std.proofs.lemmas.Option.{slice_get_read}
 use Rattle.guppy.specs.TargetIterators.{targets_left}
-use Rattle.guppy.proofs.Remaining.{remaining}
+use Rattle.guppy.proofs.SliceRests.{remaining}
 use Rattle.guppy.proofs.metadata.targets.BuildTargetsIterator.next.Goals as goal
 
 pub invariant_of-self : goal.invariant_of-self

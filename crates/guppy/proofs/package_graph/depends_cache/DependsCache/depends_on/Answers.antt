@@ -3,7 +3,7 @@ use Rattle.guppy_search.specs.declared.ix.direction.DependencyDirection.TheVaria
 use Rattle.guppy_core.specs.Reach.{LinkStep, Walk}
 use Rattle.guppy_graph.specs.Ids.{ix_position}
 use Rattle.guppy_graph.specs.Accepted.{distinct_ids}
-use Rattle.guppy_graph.proofs.Named.{position_is}
+use Rattle.guppy_graph.proofs.PackageIds.{position_is}
 use Rattle.guppy.proofs.package_graph.depends_cache.DependsCache.depends_on.Goals as goal
 
 pub returns-clause-answer : goal.returns-clause-answer

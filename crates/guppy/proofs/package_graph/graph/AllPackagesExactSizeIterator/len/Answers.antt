@@ -1,5 +1,5 @@
 use Rattle.std.proofs.Common.{◌∙◌, sym}
-use Rattle.guppy.proofs.Listing.{packages_left-count}
+use Rattle.guppy.proofs.IteratorLists.{packages_left-count}
 use Rattle.guppy.proofs.package_graph.graph.AllPackagesExactSizeIterator.len.Goals as goal
 
 pub returns-clause-value : goal.returns-clause-value

@@ -2,7 +2,7 @@ use Rattle.std.proofs.lemmas.List.{map_push}
 use Rattle.std.proofs.lemmas.Result.{err_from_is_err_and}
 use Rattle.indexmap.proofs.SetLemmas.{AllZip-push}
 use Rattle.guppy_graph.proofs.Lists.{All-from_AllZip}
-use Rattle.guppy_graph.proofs.Unknown.{NamesText-along, first_unknown-next}
+use Rattle.guppy_graph.proofs.UnknownTexts.{NamesText-along, first_unknown-next}
 use Rattle.guppy.specs.Read.{HasSome}
 use Rattle.guppy.proofs.package_graph.graph.PackageGraph.ixs_of.Goals as goal
 

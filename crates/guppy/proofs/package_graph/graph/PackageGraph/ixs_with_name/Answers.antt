@@ -2,7 +2,7 @@ use Rattle.std.proofs.Common.{◌≡◌, ◌<◌, refl, subst, length, map, arit
 use Rattle.std.proofs.lemmas.List.{map_push}
 use Rattle.guppy_graph.specs.Ids.{ix_position}
 use Rattle.guppy.specs.PackageNames.{HasPackageName}
-use Rattle.guppy.proofs.Collecting.{AreBelow-push, AreBelow-skip, AreBelow-end}
+use Rattle.guppy.proofs.CollectedPositions.{AreBelow-push, AreBelow-skip, AreBelow-end}
 use Rattle.guppy.proofs.PackageNames.{named_within}
 use Rattle.guppy.proofs.package_graph.graph.PackageGraph.ixs_with_name.Goals.{then-is_named+in_ok-push, else-is_named}
 use Rattle.guppy.proofs.package_graph.graph.PackageGraph.ixs_with_name.Goals as goal

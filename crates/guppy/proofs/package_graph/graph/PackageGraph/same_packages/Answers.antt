@@ -1,4 +1,4 @@
-use Rattle.guppy.proofs.Same.{same_ids-equal}
+use Rattle.guppy.proofs.EqualLists.{same_ids-equal}
 use Rattle.guppy.proofs.package_graph.graph.PackageGraph.same_packages.Goals as goal
 
 pub returns : goal.returns

@@ -1,6 +1,6 @@
 use Rattle.std.proofs.Common.{map}
 use Rattle.guppy_graph.specs.Ids.{ix_position}
-use Rattle.guppy.proofs.Naming.{zip_below, zip_named_set}
+use Rattle.guppy.proofs.NamedPositions.{zip_below, zip_named_set}
 use Rattle.guppy.proofs.package_graph.graph.PackageGraph.set_named.Goals as goal
 
 pub set_of-requires : goal.set_of-requires

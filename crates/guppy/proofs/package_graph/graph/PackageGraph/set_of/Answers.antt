@@ -2,7 +2,7 @@ use Rattle.std.proofs.Common.{◌<◌, length, arith}
 use Rattle.std.proofs.lemmas.Iterator.Adapters.{YieldsList-from_vec}
 use Rattle.guppy_graph.specs.Ids.{ix_position}
 use Rattle.guppy_graph.proofs.Runs.{holds_along, drained}
-use Rattle.guppy.proofs.Naming.{All-ix_position}
+use Rattle.guppy.proofs.NamedPositions.{All-ix_position}
 use Rattle.guppy.proofs.package_graph.graph.PackageGraph.set_of.Goals as goal
 
 pub from_ixs-requires-clause-below : goal.from_ixs-requires-clause-below

@@ -1,5 +1,5 @@
 use Rattle.std.proofs.Common.{◌∙◌}
-use Rattle.guppy.proofs.Same.{same_ids-decided}
+use Rattle.guppy.proofs.EqualLists.{same_ids-decided}
 use Rattle.guppy.proofs.set.equal.PackageSetPartialEq.eq.Goals as goal
 
 pub returns-then-same_packages : goal.returns-then-same_packages

@@ -1,5 +1,5 @@
 use Rattle.std.proofs.Common.{◌∙◌, sym}
-use Rattle.guppy.proofs.Listed.{listed_ids_left-count}
+use Rattle.guppy.proofs.SetLists.{listed_ids_left-count}
 use Rattle.guppy.proofs.set.lists.ListedPackageIdsExactSizeIterator.len.Goals as goal
 
 pub returns-clause-value : goal.returns-clause-value

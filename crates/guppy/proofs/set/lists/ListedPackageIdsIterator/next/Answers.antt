@@ -1,7 +1,7 @@
 use Rattle.std.proofs.Common.{ap}
 use Rattle.std.specs.List.{filter_map}
 use Rattle.guppy.specs.Listed.{id_of}
-use Rattle.guppy.proofs.Listed.{ids_first, ids_fewer}
+use Rattle.guppy.proofs.SetLists.{ids_first, ids_fewer}
 use Rattle.guppy.proofs.set.lists.ListedPackageIdsIterator.next.Goals as goal
 
 pub returns-in-Some-clause-steps : goal.returns-in-Some-clause-steps

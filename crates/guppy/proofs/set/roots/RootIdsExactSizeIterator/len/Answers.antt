@@ -1,5 +1,5 @@
 use Rattle.std.proofs.Common.{◌∙◌, sym}
-use Rattle.guppy.proofs.Listed.{root_ids_left-count}
+use Rattle.guppy.proofs.SetLists.{root_ids_left-count}
 use Rattle.guppy.proofs.set.roots.RootIdsExactSizeIterator.len.Goals as goal
 
 pub returns-clause-value : goal.returns-clause-value

@@ -1,6 +1,6 @@
 use Rattle.guppy_graph.specs.Ids.{IsKnown}
-use Rattle.guppy_graph.proofs.Named.{within_of}
-use Rattle.guppy.proofs.Remaining.{remaining}
+use Rattle.guppy_graph.proofs.PackageIds.{within_of}
+use Rattle.guppy.proofs.SliceRests.{remaining}
 use Rattle.guppy.proofs.workspace.default_members.DefaultMembersIterator.next.Goals as goal
 
 pub invariant_of-self : goal.invariant_of-self

@@ -4,7 +4,7 @@ use Rattle.std.specs.List.{concat, filter}
 use Rattle.std.proofs.lemmas.List.Elements.{All-filter}
 use Rattle.guppy_search.specs.IxSet.{has, IsIn}
 use Rattle.guppy_core.specs.Listing.{Stands, IsOnce, IsListing}
-use Rattle.guppy_core.proofs.Included.{filter-listed, below_listed, count_listed, listed_members, listed_once}
+use Rattle.guppy_core.proofs.SetMembers.{filter-listed, below_listed, count_listed, listed_members, listed_once}
 use Rattle.guppy_core.proofs.resolve_core.topo.Topo.new.Goals as goal
 
 pub invariant_of-result : goal.invariant_of-result

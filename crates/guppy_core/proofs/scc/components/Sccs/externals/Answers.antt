@@ -8,7 +8,7 @@ use Rattle.guppy_search.specs.IxSet.{IsIn}
 use Rattle.guppy_core.specs.Sccs.{parts, InOneBlock}
 use Rattle.guppy_core.proofs.Blocks.{next_bound}
 use Rattle.guppy_search.proofs.Members.{IsIn-below}
-use Rattle.guppy_core.proofs.Rooting.{both_ok, roots_by_numbers, roots_same, same_number}
+use Rattle.guppy_core.proofs.Roots.{both_ok, roots_by_numbers, roots_same, same_number}
 use Rattle.guppy_core.proofs.scc.components.Sccs.externals.Goals as goal
 
 pub entered-requires-clause-below : goal.entered-requires-clause-below

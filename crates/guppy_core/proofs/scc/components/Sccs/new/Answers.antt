@@ -6,9 +6,9 @@ use Rattle.guppy_search.specs.declared.ix.direction.DependencyDirection.TheVaria
 use Rattle.guppy_search.specs.Reach.{LinkStep, Step}
 use Rattle.guppy_core.specs.Listing.{IsListing}
 use Rattle.guppy_core.specs.Sccs.{IsLaid, AreSccs, parts}
-use Rattle.guppy_core.proofs.Grouping.{sccs_from, numbered_from}
+use Rattle.guppy_core.proofs.Groups.{sccs_from, numbered_from}
 use Rattle.guppy_core.proofs.Blocks.{sccs_order}
-use Rattle.guppy_core.proofs.Acyclic.{sccs_lead_on}
+use Rattle.guppy_core.proofs.AcyclicSteps.{sccs_lead_on}
 use Rattle.guppy_core.proofs.scc.components.Sccs.new.Given.{Over}
 use Rattle.guppy_core.proofs.scc.components.Sccs.new.Goals.{In_ok-positions}
 use Rattle.guppy_core.proofs.scc.components.Sccs.new.Goals as goal

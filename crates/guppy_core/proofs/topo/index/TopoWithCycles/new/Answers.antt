@@ -1,6 +1,6 @@
 use Rattle.std.proofs.Common.{length}
 use Rattle.guppy_search.proofs.Exits.{if_ok}
-use Rattle.guppy_core.proofs.Indexing.{order_below}
+use Rattle.guppy_core.proofs.TopologicalOrder.{order_below}
 use Rattle.guppy_core.proofs.topo.index.TopoWithCycles.new.Goals as goal
 
 pub places-requires-clause-below : goal.places-requires-clause-below

@@ -1,4 +1,4 @@
 use Rattle.guppy_core.proofs.topo.index.TopoWithCycles.new.Given as goal
 
-abbrev pub ghost-order_of : goal.ghost-order_of
-ghost-order_of g a = g.kept
+abbrev pub ghost-topological_order : goal.ghost-topological_order
+ghost-topological_order g a = g.kept

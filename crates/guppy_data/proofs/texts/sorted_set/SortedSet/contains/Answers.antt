@@ -1,7 +1,7 @@
 use Rattle.std.proofs.Common.{◌≡◌, ◌∙◌, true, IsTrue, ◌↔◌, subst}
 use Rattle.std.specs.List.{Any}
 use Rattle.std.specs.Result.{is_ok}
-use Rattle.guppy_data.proofs.Searched.{found_where_equal}
+use Rattle.guppy_data.proofs.BinarySearch.{found_where_equal}
 use Rattle.guppy_data.proofs.texts.sorted_set.SortedSet.contains.Goals as goal
 
 pub returns : goal.returns

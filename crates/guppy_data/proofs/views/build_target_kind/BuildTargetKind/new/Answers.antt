@@ -1,7 +1,7 @@
 use Rattle.std.specs.Ordering.{nat_cmp}
 use Rattle.std.specs.Cmp.Lexicographic.{slice_cmp}
 use Rattle.std.specs.String.{string_bytes}
-use Rattle.guppy_data.proofs.Ascending.{IsStrictlySortedBy-map}
+use Rattle.guppy_data.proofs.AscendingLists.{IsStrictlySortedBy-map}
 use Rattle.guppy_data.proofs.views.build_target_kind.BuildTargetKind.new.Goals as goal
 
 pub returns-in-LibraryOrExample-clause-ascending :

@@ -3,7 +3,7 @@ use Rattle.std.specs.Ordering.{nat_cmp}
 use Rattle.std.specs.Cmp.Lexicographic.{slice_cmp}
 use Rattle.std.specs.String.{string_bytes}
 use Rattle.guppy_data.specs.DependencyReq.{seen_req}
-use Rattle.guppy_data.proofs.Ascending.{IsStrictlySortedBy-map}
+use Rattle.guppy_data.proofs.AscendingLists.{IsStrictlySortedBy-map}
 use Rattle.guppy_data.proofs.views.dependency_req.DependencyReq.features.Goals as goal
 
 pub returns-clause-required_ascend : goal.returns-clause-required_ascend

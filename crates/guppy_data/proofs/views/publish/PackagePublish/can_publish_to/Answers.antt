@@ -1,5 +1,5 @@
 use Rattle.std.specs.String.{string_bytes}
-use Rattle.guppy_data.proofs.Listed.{search-tells_Contains}
+use Rattle.guppy_data.proofs.ListedNames.{search-tells_Contains}
 use Rattle.guppy_data.proofs.views.publish.PackagePublish.can_publish_to.Goals as goal
 
 pub returns-in-Registries : goal.returns-in-Registries

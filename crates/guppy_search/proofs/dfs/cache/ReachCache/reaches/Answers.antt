@@ -3,7 +3,7 @@ use Rattle.std.proofs.Math.ListN.{set}
 use Rattle.guppy_search.specs.IxSet.{IsIn}
 use Rattle.guppy_search.specs.Reach.{LinkStep, Walk}
 use Rattle.guppy_search.proofs.Members.{only_member, one_member}
-use Rattle.guppy_search.proofs.Reached.{accepting_reaches, accepts_all}
+use Rattle.guppy_search.proofs.Resolves.{accepting_reaches, accepts_all}
 use Rattle.guppy_search.proofs.dfs.cache.ReachCache.reaches.Goals as goal
 
 pub returns-clause-answer : goal.returns-clause-answer

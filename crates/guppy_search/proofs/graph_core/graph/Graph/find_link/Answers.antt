@@ -1,6 +1,6 @@
 use Rattle.guppy_search.proofs.Ends.{beside_len}
 use Rattle.guppy_search.specs.declared.ix.direction.DependencyDirection.TheVariants.{Forward}
-use Rattle.guppy_search.proofs.Finding.{found_link}
+use Rattle.guppy_search.proofs.RowSearch.{found_link}
 use Rattle.guppy_search.proofs.graph_core.graph.Graph.find_link.Goals as goal
 
 pub number_to-requires : goal.number_to-requires

@@ -2,7 +2,7 @@ use Rattle.std.proofs.Common.{◌≡◌, length, arith}
 use Rattle.guppy_search.specs.declared.graph_core.graph.GraphFault.TheVariants.{OutOfMemory}
 use Rattle.guppy_search.specs.Fault.{IsFault}
 use Rattle.guppy_search.specs.Links.{links_between}
-use Rattle.guppy_search.proofs.Between.{length-between, lists-between, ends-between, singles-between, unknown-between, repeat-between}
+use Rattle.guppy_search.proofs.LinkEnds.{length-between, lists-between, ends-between, singles-between, unknown-between, repeat-between}
 use Rattle.guppy_search.proofs.Rows.{graph_of}
 use Rattle.guppy_search.proofs.Exits.{if_ok, if_err}
 use Rattle.guppy_search.proofs.graph_core.graph.Graph.from_ends.Goals as goal

@@ -1,7 +1,7 @@
 use Rattle.std.proofs.Common.{◌≡◌, ◌∙◌, length, sym, ap}
 use Rattle.std.proofs.lemmas.List.{length-map}
 use Rattle.guppy_search.specs.Links.{links_between}
-use Rattle.guppy_search.proofs.Between.{between-bare}
+use Rattle.guppy_search.proofs.LinkEnds.{between-bare}
 use Rattle.guppy_search.proofs.graph_core.graph.Graph.from_parts.Goals as goal
 
 pub from_ends-requires : goal.from_ends-requires

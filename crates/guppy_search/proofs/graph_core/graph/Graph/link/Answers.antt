@@ -3,7 +3,7 @@ use Rattle.std.specs.Prelude.{slice_get}
 use Rattle.std.proofs.lemmas.Option.{slice_get_read}
 use Rattle.guppy_search.specs.Graph.{GraphValue}
 use Rattle.guppy_search.specs.Links.{links_between}
-use Rattle.guppy_search.proofs.Between.{length-between, link-between}
+use Rattle.guppy_search.proofs.LinkEnds.{length-between, link-between}
 use Rattle.guppy_search.proofs.graph_core.graph.Graph.link.Goals as goal
 
 pub index-ends-requires : goal.index-ends-requires

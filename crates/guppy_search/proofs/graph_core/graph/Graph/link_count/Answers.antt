@@ -1,6 +1,6 @@
 use Rattle.std.proofs.Common.{length, ap, arith}
 use Rattle.guppy_search.specs.Graph.{GraphValue}
-use Rattle.guppy_search.proofs.Between.{length-between}
+use Rattle.guppy_search.proofs.LinkEnds.{length-between}
 use Rattle.guppy_search.proofs.graph_core.graph.Graph.link_count.Goals as goal
 
 pub returns : goal.returns

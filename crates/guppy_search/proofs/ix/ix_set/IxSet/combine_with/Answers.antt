@@ -1,5 +1,5 @@
 use Rattle.std.proofs.Common.{◌≡◌, ◌++◌, length, take, drop, arith}
-use Rattle.guppy_search.proofs.Combining.{AreMade, written_back, made_of_slices, same_count, combined_has, combined_few, combined_set}
+use Rattle.guppy_search.proofs.CombinedWords.{AreMade, written_back, made_of_slices, same_count, combined_has, combined_few, combined_set}
 use Rattle.guppy_search.proofs.ix.ix_set.IxSet.combine_with.Given.{Over}
 use Rattle.guppy_search.proofs.ix.ix_set.IxSet.combine_with.Goals.{After-combine}
 use Rattle.guppy_search.proofs.ix.ix_set.IxSet.combine_with.Goals as goal

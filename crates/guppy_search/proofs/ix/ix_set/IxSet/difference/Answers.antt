@@ -1,6 +1,6 @@
 use Rattle.std.proofs.Common.{rules}
 use Rattle.guppy_search.proofs.Exits.{if_ok}
-use Rattle.guppy_search.proofs.Combining.{except, and_not_bits, in_difference}
+use Rattle.guppy_search.proofs.CombinedWords.{except, and_not_bits, in_difference}
 use Rattle.guppy_search.proofs.ix.ix_set.IxSet.difference.Goals as goal
 
 pub combine_with-requires-clause-bitwise : goal.combine_with-requires-clause-bitwise

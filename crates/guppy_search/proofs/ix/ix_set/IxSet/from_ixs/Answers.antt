@@ -2,7 +2,7 @@ use Rattle.std.proofs.Common.{◌≡◌, ◌<◌, ◌++◌, ◌∷◌, [], ◌�
 use Rattle.std.proofs.Math.ListN.{length-set}
 use Rattle.std.proofs.lemmas.List.{map_push}
 use Rattle.guppy_search.proofs.Exits.{if_ok}
-use Rattle.guppy_search.proofs.Along.{holds_next}
+use Rattle.guppy_search.proofs.IteratorItems.{holds_next}
 use Rattle.guppy_search.proofs.Members.{members-set}
 use Rattle.guppy_search.proofs.ix.ix_set.IxSet.from_ixs.Goals as goal
 

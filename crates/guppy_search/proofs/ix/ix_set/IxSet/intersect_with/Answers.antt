@@ -1,5 +1,5 @@
 use Rattle.std.proofs.Common.{Bool, ◌&&◌, rules}
-use Rattle.guppy_search.proofs.Combining.{and_bits, in_intersection}
+use Rattle.guppy_search.proofs.CombinedWords.{and_bits, in_intersection}
 use Rattle.guppy_search.proofs.ix.ix_set.IxSet.intersect_with.Goals as goal
 
 pub combine_with-requires-clause-bitwise : goal.combine_with-requires-clause-bitwise

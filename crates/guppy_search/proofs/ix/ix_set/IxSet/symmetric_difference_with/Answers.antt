@@ -1,5 +1,5 @@
 use Rattle.std.proofs.Common.{rules}
-use Rattle.guppy_search.proofs.Combining.{differ, xor_bits, in_symmetric_difference}
+use Rattle.guppy_search.proofs.CombinedWords.{differ, xor_bits, in_symmetric_difference}
 use Rattle.guppy_search.proofs.ix.ix_set.IxSet.symmetric_difference_with.Goals as goal
 
 pub combine_with-requires-clause-bitwise : goal.combine_with-requires-clause-bitwise

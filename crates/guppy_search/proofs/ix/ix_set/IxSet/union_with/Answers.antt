@@ -1,5 +1,5 @@
 use Rattle.std.proofs.Common.{Bool, ◌||◌, rules}
-use Rattle.guppy_search.proofs.Combining.{or_bits, in_union}
+use Rattle.guppy_search.proofs.CombinedWords.{or_bits, in_union}
 use Rattle.guppy_search.proofs.ix.ix_set.IxSet.union_with.Goals as goal
 
 pub combine_with-requires-clause-bitwise : goal.combine_with-requires-clause-bitwise

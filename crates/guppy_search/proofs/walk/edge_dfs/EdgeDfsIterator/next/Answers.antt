@@ -7,7 +7,7 @@ use Rattle.guppy_search.specs.declared.graph_core.link.Link.{Link}
 use Rattle.guppy_search.specs.Links.{seen_link}
 use Rattle.guppy_search.specs.Walked.{ends_at}
 use Rattle.guppy_search.specs.declared.ix.direction.DependencyDirection.TheVariants.{Forward, Reverse}
-use Rattle.guppy_search.proofs.Searching.{far_end_below}
+use Rattle.guppy_search.proofs.SearchSteps.{far_end_below}
 use Rattle.guppy_search.proofs.Ends.{ends_at-found}
 use Rattle.guppy_search.proofs.walk.edge_dfs.EdgeDfsIterator.next.Goals as goal
 
