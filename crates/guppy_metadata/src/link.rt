@@ -167,7 +167,7 @@ fn fits(declared: &Declared<'_>, from: &str, resolved: &Resolved<'_>, needed: &P
         && is_used(declared, resolved.usages.as_slice())
 }
 
-// Whether the usage is that of one of the declared dependencies that were resolved so.
+// Whether the usage is that of one of the declared dependencies that were resolved so, as the first one was.
 fn is_matched(
     usage: &Usage<'_>,
     declared: &[Declared<'_>],
@@ -175,11 +175,15 @@ fn is_matched(
     resolved: &Resolved<'_>,
     needed: &Package<'_>,
 ) -> bool
+    requires { IfSome (slice_get declared.now 0)
+        (λ first. fits from.now resolved.now needed.now.record first ≡ true) }
     ensures { result
         ≡ is_matched from.now resolved.now needed.now.record declared.now usage.now }
 {
-    for dependency in declared {
-        if is_same_usage(dependency, usage) && fits(dependency, from, resolved, needed) {
+    for (index, dependency) in declared.iter().enumerate() {
+        if is_same_usage(dependency, usage)
+            && (index == 0 || fits(dependency, from, resolved, needed))
+        {
             return true;
         }
     }
@@ -194,6 +198,8 @@ fn are_matched(
     resolved: &Resolved<'_>,
     needed: &Package<'_>,
 ) -> bool
+    requires { IfSome (slice_get declared.now 0)
+        (λ first. fits from.now resolved.now needed.now.record first ≡ true) }
     ensures { result
         ≡ are_matched from.now resolved.now needed.now.record declared.now usages.now }
 {
@@ -427,7 +433,7 @@ fn from_first_fitting<'d, 'a>(
     &[]
 }
 
-// Adds those declared dependencies to the link that were resolved to the package.
+// Adds those declared dependencies to the link that were resolved to the package, as the first one was.
 fn add_fitting(
     alloc: Global,
     link: &mut LinkRecord,
@@ -436,14 +442,16 @@ fn add_fitting(
     resolved: &Resolved<'_>,
     needed: &Package<'_>,
 ) -> Result<(), AllocError>
+    requires { IfSome (slice_get declared.now 0)
+        (λ first. fits from.now resolved.now needed.now.record first ≡ true) }
     ensures joins { (one other name : List ℕ)
         → Joins one other name link.old → Joins one other name link.new }
     ensures named { (first : Declared) → IsNamedAs first link.old → IsNamedAs first link.new }
     ensures gathered { OnOk result (IsGathered [] link.old
         → IsGathered (filter (fits from.now resolved.now needed.now.record) declared.now) link.new) }
 {
-    for dependency in declared {
-        if fits(dependency, from, resolved, needed) {
+    for (index, dependency) in declared.iter().enumerate() {
+        if index == 0 || fits(dependency, from, resolved, needed) {
             add_declared(alloc, link, dependency)?;
         }
     }
