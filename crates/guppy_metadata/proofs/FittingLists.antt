@@ -1,7 +1,8 @@
 -- Lists whose items fit place by place, made item by item.
-use Rattle.std.proofs.Common.{◌≡◌, ◌∙◌, ℕ, ◌+◌, ◌<◌, Bool, true, false, List, [], ◌∷◌, ◌++◌, filter, map, take, length, get_or, sym, ap}
+use Rattle.std.proofs.Common.{◌≡◌, ◌∙◌, ℕ, ◌+◌, ◌<◌, Bool, true, false, List, [], ◌∷◌, ◌++◌, filter, map, take, length, get_or, slice_get, IfSome, refl, sym, ap, subst}
 use Rattle.std.specs.List.{AllZip}
 use Rattle.std.proofs.lemmas.List.{map_push, take_more}
+use Rattle.std.proofs.lemmas.Option.{slice_get_read}
 use Rattle.indexmap.proofs.SetLemmas.{AllZip-push, filter_keep, filter_skip}
 
 -- the first items and the next one
@@ -27,3 +28,9 @@ picked_more p items k item other low is picks = ap (filter p) (take_with items k
 pub passed_over : {A : Type 0} (p : A → Bool) (items : List A) (k : ℕ) (item other : A) → k < length items → item ≡ get_or items k other → p item ≡ false
     → filter p (take (k + 1) items) ≡ filter p (take k items)
 passed_over p items k item other low is passes = ap (filter p) (take_with items k item other low is) ∙ filter_skip p (take k items) item passes
+
+-- where a test picks the first item, it picks the one at this place, which is the first
+pub first_picked : {A : Type 0} (p : A → Bool) (items : List A) (k : ℕ) (item : A) → k < length items → item ≡ get_or items k item → k ≡ 0
+    → IfSome (slice_get items 0) (λ first. p first ≡ true) → p item ≡ true
+first_picked p items k item low is zero picks =
+    subst (λ o. IfSome o (λ first. p first ≡ true)) (slice_get_read items (length items) 0 item refl (subst (λ i. i < length items) zero low) (subst (λ i. item ≡ get_or items i item) zero is)) picks

@@ -5,7 +5,7 @@ use Rattle.guppy_metadata.specs.Gathered.{IsGathered, IsNamedAs}
 use Rattle.guppy_metadata.specs.Links.{Joins}
 use Rattle.guppy_metadata.proofs.link.add_fitting.Given as goal
 
-abbrev pub invariant-loop-dependency : goal.invariant-loop-dependency
-invariant-loop-dependency l = ((one other name : List ℕ) → Joins one other name l.fn.link → Joins one other name l.link)
+abbrev pub invariant-loop-index : goal.invariant-loop-index
+invariant-loop-index l = ((one other name : List ℕ) → Joins one other name l.fn.link → Joins one other name l.link)
     × ((first : Declared) → IsNamedAs first l.fn.link → IsNamedAs first l.link)
-    × (IsGathered [] l.fn.link → IsGathered (filter (fits l.from l.resolved l.needed.record) (take l.dependency-index l.declared)) l.link)
+    × (IsGathered [] l.fn.link → IsGathered (filter (fits l.from l.resolved l.needed.record) (take l.index l.declared)) l.link)

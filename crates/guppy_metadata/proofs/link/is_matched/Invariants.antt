@@ -2,5 +2,5 @@ use Rattle.std.proofs.Common.{◌≡◌, drop}
 use Rattle.guppy_metadata.specs.Fits.{is_matched}
 use Rattle.guppy_metadata.proofs.link.is_matched.Given as goal
 
-abbrev pub invariant-loop-dependency : goal.invariant-loop-dependency
-invariant-loop-dependency l = is_matched l.from l.resolved l.needed.record (drop l.dependency-index l.declared) l.usage ≡ is_matched l.from l.resolved l.needed.record l.declared l.usage
+abbrev pub invariant-loop-index : goal.invariant-loop-index
+invariant-loop-index l = is_matched l.from l.resolved l.needed.record (drop l.index l.declared) l.usage ≡ is_matched l.from l.resolved l.needed.record l.declared l.usage
