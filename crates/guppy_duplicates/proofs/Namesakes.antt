@@ -18,7 +18,7 @@ use Rattle.std.proofs.lemmas.Map.Keys.{IsDistinct-from_sorted, IsDistinct-IsPerm
 use Rattle.std.proofs.lemmas.Option.{slice_get_within, slice_get-map, get_or_from_slice_get}
 use Rattle.guppy_core.specs.Listing.{Stands, IsOnce}
 use Rattle.guppy_core.proofs.Listings.{stands_contains, contains_stands}
-use Rattle.guppy_graph.proofs.Keys.{below_range}
+use Rattle.guppy_graph.proofs.KeyIndexes.{below_range}
 use Rattle.guppy_graph.proofs.Lists.{All-slice_get, some_at, some_of, of_some}
 use Rattle.guppy.specs.DataTypes.records.PackageRecord.{PackageRecord}
 use Rattle.guppy.specs.Graph.{GraphData}

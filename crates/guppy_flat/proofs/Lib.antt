@@ -1,2 +1,2 @@
-pub mod Cycles
+pub mod FlatCycles
 pub mod Places

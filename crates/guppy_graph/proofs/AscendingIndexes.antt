@@ -14,7 +14,7 @@ use Rattle.std.proofs.lemmas.List.Kept.{IsStrictlyIncreasing-filter}
 use Rattle.std.proofs.lemmas.Map.Keys.{IsDistinct-from_sorted, IsDistinct-IsPermutation, apart_from_distinct, sorted_from_all_adjacent, sorted_from_strictly_increasing}
 use Rattle.guppy_data.proofs.AscendingLists.{IsStrictlySortedBy-map}
 use Rattle.guppy_graph.specs.Keys.{or_empty, keyed, HasKey, IsIndex, DifferBelow}
-use Rattle.guppy_graph.proofs.Keys.{index_below, index_some, has_own, tie_has}
+use Rattle.guppy_graph.proofs.KeyIndexes.{index_below, index_some, has_own, tie_has}
 
 is_eq-reverse : (v : Ordering) → is_eq (ordering_reverse v) ≡ is_eq v
 is_eq-reverse Less = refl

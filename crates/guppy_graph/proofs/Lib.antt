@@ -1,6 +1,6 @@
 pub mod Lists
 pub mod Lookups
-pub mod Keys
+pub mod KeyIndexes
 pub mod PackageIds
 pub mod TargetIds
 pub mod UnknownTexts

@@ -14,7 +14,7 @@ use Rattle.guppy_data.specs.declared.records.PackageRecord.{PackageRecord}
 use Rattle.guppy_graph.specs.Keys.{HasKey, NoneBelow, DifferBelow, keyed}
 use Rattle.guppy_graph.specs.Members.{member_path, member_name, path_at, name_at, HasPath, HasName, IsMember, IsMemberName, members_of, AreMembersByPath, AreMembersByName}
 use Rattle.guppy_graph.specs.Indexes.{IsPathIndex, IsNameIndex}
-use Rattle.guppy_graph.proofs.Keys.{keyed_below, keyed_some, in_keyed, DifferBelow-along, exact_there, exact_back}
+use Rattle.guppy_graph.proofs.KeyIndexes.{keyed_below, keyed_some, in_keyed, DifferBelow-along, exact_there, exact_back}
 use Rattle.guppy_graph.specs.PathOrder.{path_total}
 use Rattle.guppy_graph.proofs.AscendingIndexes.{index_ascends}
 

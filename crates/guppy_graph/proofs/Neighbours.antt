@@ -14,7 +14,7 @@ use Rattle.std.proofs.lemmas.List.Elements.{Contains-get_or}
 use Rattle.std.proofs.lemmas.List.Sorted.{sorted_far}
 use Rattle.std.proofs.lemmas.Map.Keys.{apart_from_distinct}
 use Rattle.guppy_graph.specs.Keys.{or_empty, keyed, HasKey, HasKeyBefore, IsIndex, Rise, DifferBelow, IsRepeat, IsFirstRepeat}
-use Rattle.guppy_graph.proofs.Keys.{has_own, has_tie, tie_has, index_some, in_index}
+use Rattle.guppy_graph.proofs.KeyIndexes.{has_own, has_tie, tie_has, index_some, in_index}
 use Rattle.guppy_graph.proofs.Lookups.{Before, before_order, le_by_number, not_less, equal_of_both}
 use Rattle.guppy_graph.proofs.AscendingIndexes.{index_distinct}
 

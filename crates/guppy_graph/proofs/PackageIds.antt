@@ -11,7 +11,7 @@ use Rattle.guppy_graph.specs.Keys.{HasKey, NoneBelow}
 use Rattle.guppy_graph.specs.Ids.{id_at, HasId, IsKnown, DistinctBelow}
 use Rattle.guppy_graph.specs.Indexes.{IsIdIndex}
 use Rattle.guppy_graph.proofs.Lists.{some_at}
-use Rattle.guppy_graph.proofs.Keys.{exact_there, exact_back, index_of_all}
+use Rattle.guppy_graph.proofs.KeyIndexes.{exact_there, exact_back, index_of_all}
 
 owner_there : (o : Option PackageRecord) (id : List ℕ) → IsSomeAnd (option_and_then (λ r. Some r.id) o) (λ own. own ≡ id) → IsSomeAnd o (λ r. r.id ≡ id)
 owner_there None id h = absurd h

@@ -12,7 +12,7 @@ use Rattle.guppy_data.specs.SameTargetId.{same_id}
 use Rattle.guppy_graph.specs.Keys.{HasKey, DifferBelow, IsFirstRepeat}
 use Rattle.guppy_graph.specs.Targets.{target_key, target_at, HasTarget}
 use Rattle.guppy_graph.proofs.Lists.{some_of}
-use Rattle.guppy_graph.proofs.Keys.{exact_there, exact_back}
+use Rattle.guppy_graph.proofs.KeyIndexes.{exact_there, exact_back}
 
 -- IDs with the same key are the same
 pub same_key : (a b : TargetId) → target_key a ≡ target_key b → a ≡ b

@@ -19,7 +19,7 @@ use Rattle.guppy_graph.specs.Keys.{or_empty, DifferBelow}
 use Rattle.guppy_graph.specs.Targets.{target_key, target_at, HasTarget, AreTargetsById}
 use Rattle.guppy_graph.specs.Indexes.{IsTargetIndex}
 use Rattle.guppy_graph.proofs.Lists.{some_at}
-use Rattle.guppy_graph.proofs.Keys.{below_range, index_of_all}
+use Rattle.guppy_graph.proofs.KeyIndexes.{below_range, index_of_all}
 use Rattle.guppy_graph.proofs.TargetIds.{keys_differ}
 use Rattle.guppy_graph.proofs.AscendingIndexes.{index_ascends}
 

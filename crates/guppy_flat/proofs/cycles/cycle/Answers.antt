@@ -1,6 +1,6 @@
 use Rattle.std.proofs.Common.{length, arith}
 use Rattle.std.proofs.lemmas.List.{length-map}
-use Rattle.guppy_flat.proofs.Cycles.{cycle_fits}
+use Rattle.guppy_flat.proofs.FlatCycles.{cycle_fits}
 use Rattle.guppy_flat.proofs.cycles.cycle.Goals as goal
 
 pub write-requires : goal.write-requires

@@ -6,7 +6,7 @@ use Rattle.std.proofs.lemmas.List.{get_or_default}
 use Rattle.std.proofs.lemmas.List.Sorted.{IsPartitionPoint-from_clause}
 use Rattle.guppy_graph.specs.Keys.{or_empty}
 use Rattle.guppy_graph.proofs.Lookups.{partitioned}
-use Rattle.guppy_graph.proofs.Keys.{from_is_eq, first_of, none_with, none_past}
+use Rattle.guppy_graph.proofs.KeyIndexes.{from_is_eq, first_of, none_with, none_past}
 use Rattle.guppy_graph.proofs.keyed.position_of.Goals as goal
 
 pub returns-in-Some : goal.returns-in-Some

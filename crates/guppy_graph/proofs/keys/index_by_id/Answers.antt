@@ -7,7 +7,7 @@ use Rattle.std.proofs.lemmas.Result.{IfOk-weaker}
 use Rattle.guppy_graph.specs.Keys.{HasKey}
 use Rattle.guppy_graph.specs.Ids.{id_at, HasId}
 use Rattle.guppy_graph.proofs.Lists.{MatchOption-along}
-use Rattle.guppy_graph.proofs.Keys.{DifferBelow-along, IsFirstRepeat-along}
+use Rattle.guppy_graph.proofs.KeyIndexes.{DifferBelow-along, IsFirstRepeat-along}
 use Rattle.guppy_graph.proofs.PackageIds.{id_there, id_back}
 use Rattle.guppy_graph.proofs.keys.index_by_id.Goals as goal
 

@@ -7,7 +7,7 @@ use Rattle.std.proofs.lemmas.Result.{IfOk-weaker}
 use Rattle.guppy_graph.specs.Keys.{HasKey}
 use Rattle.guppy_graph.specs.Members.{name_at, HasName}
 use Rattle.guppy_graph.proofs.Lists.{MatchOption-along}
-use Rattle.guppy_graph.proofs.Keys.{DifferBelow-along, IsFirstRepeat-along, exact_there, exact_back}
+use Rattle.guppy_graph.proofs.KeyIndexes.{DifferBelow-along, IsFirstRepeat-along, exact_there, exact_back}
 use Rattle.guppy_graph.proofs.keys.index_by_name.Goals as goal
 
 pub returns-clause-repeat : goal.returns-clause-repeat

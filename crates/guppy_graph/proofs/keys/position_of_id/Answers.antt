@@ -4,7 +4,7 @@ use Rattle.std.specs.Cmp.Lexicographic.{slice_cmp}
 use Rattle.guppy_graph.specs.Keys.{HasKey}
 use Rattle.guppy_graph.specs.Ids.{id_at, HasId}
 use Rattle.guppy_graph.proofs.Lists.{MatchOption-along}
-use Rattle.guppy_graph.proofs.Keys.{NoneBelow-along, IsFirstWith-along}
+use Rattle.guppy_graph.proofs.KeyIndexes.{NoneBelow-along, IsFirstWith-along}
 use Rattle.guppy_graph.proofs.PackageIds.{id_there, id_back}
 use Rattle.guppy_graph.proofs.keys.position_of_id.Goals as goal
 

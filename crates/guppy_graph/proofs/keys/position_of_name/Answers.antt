@@ -6,7 +6,7 @@ use Rattle.guppy_data.specs.declared.records.PackageRecord.{PackageRecord}
 use Rattle.guppy_graph.specs.Keys.{HasKey, NoneBelow, IsFirstWith}
 use Rattle.guppy_graph.specs.Members.{name_at, HasName}
 use Rattle.guppy_graph.proofs.Lists.{MatchOption-along}
-use Rattle.guppy_graph.proofs.Keys.{NoneBelow-along, exact_there, exact_back}
+use Rattle.guppy_graph.proofs.KeyIndexes.{NoneBelow-along, exact_there, exact_back}
 use Rattle.guppy_graph.proofs.Membership.{no_member_name}
 use Rattle.guppy_graph.proofs.keys.position_of_name.Goals as goal
 
