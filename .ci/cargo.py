@@ -500,6 +500,21 @@ def try_help(graph):
         yield words, (2, "", f"error: {BAD_ARGUMENTS}\n"), run(words.split(), graph.text.encode())
 
 
+def try_unknown(graph):
+    """Words that are nearly a package's name, and what is told of them."""
+    given, names = graph.text.encode(), {it["name"] for it in graph.data["packages"]}
+    some = graph.random.sample(sorted(names), min(STARTS, len(names)))
+    for word in {*(name[1:] for name in some), *(name + end for name in some for end in ("x", "-xy", "-xyz"))}:
+        if not word or word in graph.meant:
+            continue
+        apart = {name: edits(word, name) for name in names}
+        wanted = {name for name in names if apart[name] == min(min(apart.values()), 3)}
+        told = run(["reach", "forward", word], given)[2]
+        message = re.fullmatch("error: unknown package (.*): the nearest is (.*)\n", told)
+        is_right = message and message[1] == word and message[2] in wanted if wanted else told == f"error: unknown package ID: {word}\n"
+        yield f"{word}, the nearest package", True, bool(is_right)
+
+
 def try_refused(graph):
     """Arguments, names and input that are wrong, and cycles that no order can have."""
     given = graph.text.encode()
@@ -546,6 +561,7 @@ PARTS = {
     "what cargo tree shows": try_tree,
     "duplicates": try_duplicates,
     "help": try_help,
+    "unknown packages": try_unknown,
     "refusals": try_refused,
 }
 

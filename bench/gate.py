@@ -6,15 +6,17 @@ its must-fail edits, in processor seconds at one job.
     bench/gate.py guppy_core    these crates alone, with the proofs of those below them
     bench/gate.py --proofs guppy_core   the same without the edits
     bench/gate.py --edits guppy_core    the edits alone, over what `rt check` kept in out/
-    bench/gate.py --bugs guppy_core     the same, with each bug of a shared edit by itself
+    bench/gate.py --bugs guppy_core     the same, with each bug by itself of the lists in bugs/ and of shared edits
+    bench/gate.py --apply    tries nothing: tells the bugs of the lists in bugs/ that no longer fit the sources
 
 It calls the functions of `rt` (which has to be on the path) that the gate calls, one after the other, so the
 sum is the gate's, but for the runs of the program and the tests. Without --edits and --bugs it proves everything
 from nothing, and works on a copy of the repository.
 
-Of an edit that is shared, the gate asks that the whole is refused; --bugs asks it of each bug. A line `bug: NAME` begins
-a bug that takes all pairs up to the next blank line; any other pair is a bug alone.
+Of an edit that is shared, the gate asks that the whole is refused, and of a list in bugs/ nothing; --bugs asks it of each
+bug. A line `bug: NAME` begins a bug that takes all pairs up to the next blank line; any other pair is a bug alone.
 """
+import glob
 import importlib.machinery
 import importlib.util
 import os
@@ -27,7 +29,7 @@ sys.dont_write_bytecode = True
 TOP = os.path.dirname(os.path.dirname(os.path.realpath(__file__)))
 ONE_JOB = ["--jobs", "1"]
 EDITS_ALONE = ("--edits", "--bugs")
-SHARED = ("a_bug_in_each_call.edit", "a_second_bug_in_some_calls.edit")
+SHARED = ("a_bug_in_each_call.edit", "a_bug_in_three_callers.edit")
 
 
 def load_rt():
@@ -121,10 +123,37 @@ def measure_bugs(rt, crate, edit, kept):
     return whole
 
 
+def lists_of(folder):
+    """Returns the lists of bugs of a crate that the gate doesn't try."""
+    return sorted(glob.glob(f"{folder}/bugs/*.edit"))
+
+
+def bugs_that_miss():
+    """Tells each bug of the lists whose text doesn't stand in the sources, and returns how many there are."""
+    missing = 0
+    for edit in lists_of(f"{TOP}/crates/*"):
+        folder = os.path.dirname(os.path.dirname(edit))
+        with open(edit, encoding="utf-8") as it:
+            bugs = bugs_of(it.read())
+        texts = {}
+        for bug in bugs:
+            for path, old, new in bug.pairs:
+                if path not in texts:
+                    with open(f"{folder}/{path}", encoding="utf-8") as it:
+                        texts[path] = it.read()
+                if old not in texts[path]:
+                    print(f"{os.path.relpath(edit, TOP)}: {bug.name}: {path} has no {old.strip()}")
+                    missing += 1
+                texts[path] = texts[path].replace(old, new)
+    return missing
+
+
 def measure_edits(rt, crate, kept, each_bug=False):
     edits = rt.edits_of(crate)[0]
-    kept = kept if len(edits) > 1 else None
+    kept = kept if each_bug or len(edits) > 1 else None
     whole = 0.0
+    for edit in lists_of(crate.folder) if each_bug else []:
+        whole += measure_bugs(rt, crate, edit, kept)
     for edit in edits:
         if each_bug and os.path.basename(edit) in SHARED:
             whole += measure_bugs(rt, crate, edit, kept)
@@ -156,6 +185,8 @@ def measure(rt, crate, parts):
 
 
 def main(words):
+    if words == ["--apply"]:
+        sys.exit(1 if bugs_that_miss() else 0)
     parts = words.pop(0) if words and words[0] in ("--proofs", *EDITS_ALONE) else ""
     names, edits_alone = words, parts in EDITS_ALONE
     rt = load_rt()
