@@ -1,7 +1,10 @@
-//! Tests of `guppy_metadata` through its public calls alone, and each caller of `guppy_callers` once.
+//! Tests of `guppy_metadata` through its public calls alone, each caller of `guppy_callers` once, and `sections_on` of
+//! `guppy_target`, for which a graph is read.
 #![tactic(auto)]
 
 #[cfg(test)]
 mod callers;
 #[cfg(test)]
 mod reading;
+#[cfg(test)]
+mod sections;

@@ -7,6 +7,6 @@
 // The caller that the page CALLING.md of `guppy_target` shows.
 pub mod caller;
 #[cfg(test)]
-mod sections;
+mod settings;
 #[cfg(test)]
 mod texts;

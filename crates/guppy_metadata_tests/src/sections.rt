@@ -1,7 +1,9 @@
+//! Which sections of a link are on for a platform.
+
 use guppy::platform::{EnabledTernary, PlatformSpec};
 use guppy::{IntoGraph, PackageId};
 use guppy_metadata::records_of;
-use guppy_target::{CfgEval, Platform, SectionsOn, are_settings, sections_on};
+use guppy_target::{CfgEval, Platform, SectionsOn, sections_on};
 use std::test::Fail;
 
 // A link that is normal on Windows, optional to build on Unix, and for development where nobody can tell.
@@ -32,12 +34,4 @@ fn sections(rt: HostRuntime) -> Result<(), Fail> {
     let on = link.map(|link| sections_on(link, &on_linux, &CfgEval));
     assert_eq!(rt; on, Some(wanted));
     Ok(())
-}
-
-#[test]
-fn settings(rt: HostRuntime) {
-    assert!(rt; are_settings(""));
-    assert!(rt; are_settings("unix\r\ntarget_os=\"linux\"\n"));
-    assert!(rt; !are_settings("unix\n\nwindows"));
-    assert!(rt; !are_settings("unix\ntarget_os=linux"));
 }
