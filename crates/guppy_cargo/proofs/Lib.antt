@@ -3,3 +3,4 @@ pub mod FirstElements
 pub mod KeyLists
 pub mod Meanings
 pub mod NearestName
+pub mod PackageNames

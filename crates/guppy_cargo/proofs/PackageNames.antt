@@ -15,7 +15,7 @@ use Rattle.guppy_cargo.specs.Nearest.{IsFar, IsNearest}
 use Rattle.guppy_cargo.specs.Unknown.{IsFarFromNames, IsNearestName}
 
 -- the name of the package that is seen
-pub name_seen : Bor GraphData × ℕ → List ℕ
+abbrev pub name_seen : Bor GraphData × ℕ → List ℕ
 name_seen e = get_or (map name_of e.0.now.packages) e.1 []
 
 pub name_at : (packages : List PackageRecord) (p : ℕ) (name : List ℕ) → IsSomeAnd (slice_get packages p) (λ r. name ≡ string_bytes r.name) → get_or (map name_of packages) p [] ≡ name
@@ -33,7 +33,7 @@ names_seen g =
     let named : length (map name_seen seen) ≡ length seen = length-map seen name_seen in
     let all : length (map name_of packages) ≡ n = length-map packages name_of in
     ext_get_or [] (map name_seen seen) (map name_of packages) (named ∙ (many ∙ sym all)) (λ i low.
-    get_or-map name_seen seen i (g, 0) [] (omega arith) ∙ ap name_seen (get_or-map-range_with_len (λ p. (g, p)) 0 n i i (g, 0) (omega arith) refl))
+    get_or-map name_seen seen i (g, 0) [] (omega arith) ∙ ap name_seen (get_or-map-range_with_len (λ p. (g, p)) 0 n i i (g, 0) (omega arith) (omega arith)))
 
 at_place : (names : List (List ℕ)) (name : List ℕ) → Contains names name → (k : ℕ) × (slice_get names k ≡ Some name)
 at_place names name there = (there.0, slice_get-get_or names there.0 name there.1 ∙ ap Some there.2)

@@ -42,7 +42,7 @@ fault_text (Program (NoWalk from to)) =
 fault_text (Ambiguous word choices) =
     codes "ambiguous package " ++ string_bytes word ++ codes ": give " ++ string_bytes choices
 fault_text (Unknown word nearest) =
-    codes "unknown package " ++ string_bytes word ++ codes ": the nearest is " ++ string_bytes nearest
+    codes "unknown package " ++ (string_bytes word ++ (codes ": the nearest is " ++ string_bytes nearest))
 fault_text (NoCommand word nearest) =
     string_bytes word ++ (codes " is no command: the nearest is " ++ string_bytes nearest)
 fault_text (Metadata fault) = metadata_text fault

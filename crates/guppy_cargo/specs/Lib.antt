@@ -7,3 +7,4 @@ pub mod Names
 pub mod Json
 pub mod Paths
 pub mod Words
+pub mod Unknown

@@ -4,7 +4,7 @@ use Rattle.std.proofs.lemmas.List.{map_push}
 use Rattle.std.proofs.lemmas.List.Sorted.{IsPermutation-map}
 use Rattle.guppy.specs.Graph.{GraphData}
 use Rattle.guppy.specs.Iterators.{packages_left, packages_of}
-use Rattle.guppy.specs.Views.{package_seen}
+use Rattle.guppy.specs.Views.{graph_packages, package_position, package_seen}
 use Rattle.guppy_program.proofs.IncludedIds.{all_given}
 use Rattle.guppy_cargo.specs.Names.{name_of}
 use Rattle.guppy_cargo.proofs.PackageNames.{name_seen, name_at, names_seen}
@@ -15,7 +15,7 @@ loop-package-preserved c =
     let here = c.in-Some.package in
     let yielded = c.loop-package.yielded in
     let name = c.name.result in
-    let own = name_at _ _ name.now c.name.ensures in
+    let own = name_at (graph_packages here) (package_position here) name.now c.name.ensures in
     ap (map (λ (n : Bor (List ℕ)). n.now)) c.in_ok-push.ensures.items
     ∙ (map_push (λ (n : Bor (List ℕ)). n.now) c.loop-package.names.items name
     ∙ (ap (λ names. names ++ name.now ∷ []) c.loop-package.invariant

@@ -1,5 +1,8 @@
 use Rattle.guppy_cargo.proofs.fault.CargoFaultDisplay.fmt.Goals as goal
 
+pub returns-in-Unknown-clause-writes : goal.returns-in-Unknown-clause-writes
+returns-in-Unknown-clause-writes g c = rw c.in-Unknown.is c.write-in-Unknown.ensures.writes
+
 pub returns-in-NoCommand-clause-writes : goal.returns-in-NoCommand-clause-writes
 returns-in-NoCommand-clause-writes g c = rw c.in-NoCommand.is c.write-in-NoCommand.ensures.writes
 
