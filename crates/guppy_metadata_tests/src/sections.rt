@@ -8,11 +8,13 @@ use std::test::Fail;
 
 // A link that is normal on Windows, optional to build on Unix, and for development where nobody can tell.
 const METADATA: &str = r#"{"packages": [
- {"name": "a", "version": "0.1.0", "id": "a", "source": null, "manifest_path": "/a/Cargo.toml", "dependencies": [
+ {"name": "a", "version": "0.1.0", "id": "a", "source": null, "manifest_path": "/a/Cargo.toml", "edition": "2021",
+  "targets": [], "features": {}, "dependencies": [
    {"name": "b", "req": "*", "kind": null, "optional": false, "target": "cfg(windows)"},
    {"name": "b", "req": "*", "kind": "build", "optional": true, "target": "cfg(unix)"},
    {"name": "b", "req": "*", "kind": "dev", "optional": false, "target": "cfg("}]},
- {"name": "b", "version": "0.1.0", "id": "b", "source": null, "manifest_path": "/b/Cargo.toml"}],
+ {"name": "b", "version": "0.1.0", "id": "b", "source": null, "manifest_path": "/b/Cargo.toml", "edition": "2021",
+  "targets": [], "features": {}, "dependencies": []}],
 "workspace_members": ["a", "b"], "workspace_root": "/", "target_directory": "/target", "resolve": {"nodes": [
  {"id": "a", "deps": [{"name": "b", "pkg": "b", "dep_kinds": [
    {"kind": null, "target": "cfg(windows)"}, {"kind": "build", "target": "cfg(unix)"},
