@@ -29,7 +29,6 @@ sys.dont_write_bytecode = True
 TOP = os.path.dirname(os.path.dirname(os.path.realpath(__file__)))
 ONE_JOB = ["--jobs", "1"]
 EDITS_ALONE = ("--edits", "--bugs")
-SHARED = ("a_bug_in_each_call.edit", "a_bug_in_three_callers.edit")
 
 
 def load_rt():
@@ -123,6 +122,12 @@ def measure_bugs(rt, crate, edit, kept):
     return whole
 
 
+def is_shared(edit):
+    """Holds of an edit that plants several bugs."""
+    with open(edit, encoding="utf-8") as it:
+        return it.read().startswith("bug: ")
+
+
 def lists_of(folder):
     """Returns the lists of bugs of a crate that the gate doesn't try."""
     return sorted(glob.glob(f"{folder}/bugs/*.edit"))
@@ -155,7 +160,7 @@ def measure_edits(rt, crate, kept, each_bug=False):
     for edit in lists_of(crate.folder) if each_bug else []:
         whole += measure_bugs(rt, crate, edit, kept)
     for edit in edits:
-        if each_bug and os.path.basename(edit) in SHARED:
+        if each_bug and is_shared(edit):
             whole += measure_bugs(rt, crate, edit, kept)
             continue
         (refused, text), seconds = seconds_of(rt.must_fail, crate, edit, ONE_JOB, kept)

@@ -86,62 +86,61 @@ cfg (unix) => unknown
 a b => unknown
 ";
 
-fn answer(alloc: Global, text: &str, platform: &Platform) -> Result<&'static str, Fail> {
-    let spec = TargetSpec::new(String::from_str(alloc, text)?);
-    match CfgEval.eval(&spec, platform) {
-        Some(true) => Ok("yes"),
-        Some(false) => Ok("no"),
-        None => Ok("unknown"),
+fn spec(rt: &impl Abort, alloc: Global, text: &str) -> TargetSpec {
+    TargetSpec::new(String::from_str(alloc, text).expect(rt, "memory"))
+}
+
+fn answer(rt: &impl Abort, alloc: Global, text: &str, platform: &Platform) -> &'static str {
+    match CfgEval.eval(&spec(rt, alloc, text), platform) {
+        Some(true) => "yes",
+        Some(false) => "no",
+        None => "unknown",
     }
 }
 
 #[test]
-fn texts(rt: HostRuntime) -> Result<(), Fail> {
-    let platform = Platform::new(rt.alloc(), "x86_64-unknown-linux-gnu", LINUX)?;
+fn texts(rt: HostRuntime) {
+    let platform = Platform::new(rt.alloc(), "x86_64-unknown-linux-gnu", LINUX);
+    let platform = platform.expect(&rt, "platform");
     for line in TEXTS.lines() {
-        let (text, wanted) = line.split_once(" => ").ok_or("no arrow")?;
-        let found = answer(rt.alloc(), text, &platform)?;
-        assert_eq!(rt; found, wanted, "{text}");
+        let (text, wanted) = line.split_once(" => ").expect(&rt, "no arrow");
+        let found = answer(&rt, rt.alloc(), text, &platform);
+        assert!(rt; found == wanted, "{text}");
     }
-    assert_eq!(rt; answer(rt.alloc(), "", &platform)?, "no");
-    assert_eq!(rt; answer(rt.alloc(), "cfg(\tunix)", &platform)?, "unknown");
-    Ok(())
+    assert!(rt; answer(&rt, rt.alloc(), "", &platform) == "no");
+    assert!(rt; answer(&rt, rt.alloc(), "cfg(\tunix)", &platform) == "unknown");
 }
 
 // As many `not` around `unix`.
-fn nested(alloc: Global, nots: u32) -> Result<String, Fail> {
-    let mut text = String::from_str(alloc, "cfg(")?;
+fn nested(rt: &impl Abort, alloc: Global, nots: u32) -> String {
+    let mut text = String::from_str(alloc, "cfg(").expect(rt, "memory");
     for _ in 0..nots {
-        text.push_str("not(")?;
+        text.push_str("not(").expect(rt, "memory");
     }
-    text.push_str("unix")?;
+    text.push_str("unix").expect(rt, "memory");
     for _ in 0..nots {
-        text.push_str(")")?;
+        text.push_str(")").expect(rt, "memory");
     }
-    text.push_str(")")?;
-    Ok(text)
+    text.push_str(")").expect(rt, "memory");
+    text
+}
+
+// Whether the answer is this one where so many `not` stand around `unix`.
+fn answers(rt: &impl Abort, alloc: Global, platform: &Platform, nots: u32, wanted: &str) -> bool {
+    answer(rt, alloc, nested(rt, alloc, nots).as_str(), platform) == wanted
 }
 
 #[test]
-fn deep(rt: HostRuntime) -> Result<(), Fail> {
-    let platform = Platform::new(rt.alloc(), "linux", LINUX)?;
-    assert_eq!(rt;
-        answer(rt.alloc(), nested(rt.alloc(), 126)?.as_str(), &platform)?,
-        "yes"
-    );
-    assert_eq!(rt;
-        answer(rt.alloc(), nested(rt.alloc(), 127)?.as_str(), &platform)?,
-        "no"
-    );
-    assert_eq!(rt;
-        answer(rt.alloc(), nested(rt.alloc(), 128)?.as_str(), &platform)?,
-        "unknown"
-    );
-    assert_eq!(rt;
-        answer(rt.alloc(), nested(rt.alloc(), 100000)?.as_str(), &platform)?,
-        "unknown"
-    );
-    Ok(())
+fn deep(rt: HostRuntime) {
+    let platform = Platform::new(rt.alloc(), "linux", LINUX).expect(&rt, "platform");
+    for (nots, wanted) in [
+        (126, "yes"),
+        (127, "no"),
+        (128, "unknown"),
+        (100000, "unknown"),
+    ] {
+        assert!(rt; answers(&rt, rt.alloc(), &platform, nots, wanted), "{nots}");
+    }
 }
 
 fn fault(rt: &impl Abort, cfgs: &str, alloc: Global) -> PlatformFault {
@@ -175,20 +174,27 @@ fn faults(rt: HostRuntime) -> Result<(), Fail> {
     Ok(())
 }
 
+// What is enabled on Linux where a status has these texts.
+fn status_of(rt: &impl Abort, alloc: Global, texts: &[&str]) -> EnabledTernary {
+    let mut status = PlatformStatusImpl::never(alloc);
+    for text in texts {
+        status
+            .add_spec(Some(&spec(rt, alloc, text)))
+            .expect(rt, "memory");
+    }
+    enabled_on(alloc, PlatformStatus::new(&status), "linux", LINUX).expect(rt, "platform")
+}
+
 #[test]
-fn statuses(rt: HostRuntime) -> Result<(), Fail> {
-    let mut status = PlatformStatusImpl::never(rt.alloc());
-    let windows = TargetSpec::new(String::from_str(rt.alloc(), "cfg(windows)")?);
-    status.add_spec(Some(&windows))?;
-    let found = enabled_on(rt.alloc(), PlatformStatus::new(&status), "linux", LINUX)?;
-    assert_eq!(rt; found, EnabledTernary::Disabled);
-    let unread = TargetSpec::new(String::from_str(rt.alloc(), "cfg(")?);
-    status.add_spec(Some(&unread))?;
-    let found = enabled_on(rt.alloc(), PlatformStatus::new(&status), "linux", LINUX)?;
-    assert_eq!(rt; found, EnabledTernary::Unknown);
-    let unix = TargetSpec::new(String::from_str(rt.alloc(), "cfg(unix)")?);
-    status.add_spec(Some(&unix))?;
-    let found = enabled_on(rt.alloc(), PlatformStatus::new(&status), "linux", LINUX)?;
-    assert_eq!(rt; found, EnabledTernary::Enabled);
-    Ok(())
+fn statuses(rt: HostRuntime) {
+    for (texts, wanted) in [
+        (&["cfg(windows)"][..], EnabledTernary::Disabled),
+        (&["cfg(windows)", "cfg("][..], EnabledTernary::Unknown),
+        (
+            &["cfg(windows)", "cfg(", "cfg(unix)"][..],
+            EnabledTernary::Enabled,
+        ),
+    ] {
+        assert!(rt; status_of(&rt, rt.alloc(), texts) == wanted);
+    }
 }
