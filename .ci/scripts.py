@@ -7,6 +7,7 @@ the gate has just built; two runs are with rt itself. Needs git, cargo and the p
 """
 
 import os
+import re
 import shutil
 import signal
 import subprocess
@@ -67,6 +68,8 @@ class World:
             except subprocess.TimeoutExpired:
                 os.killpg(started.pid, signal.SIGKILL)
                 return "too slow", *started.communicate()
+        # (what cargo says where another one, beside this, holds its lock)
+        errors = re.sub(r"^ *Blocking waiting for file lock on .*\n", "", errors, flags=re.M)
         return started.returncode, output, errors
 
     def ask(self, words=("guppy-cargo", *AFFECTED), **how):
