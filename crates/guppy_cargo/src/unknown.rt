@@ -18,7 +18,7 @@ fn names_in(graph: &PackageGraph) -> Result<Vec<&str>, AllocError>
     ensures { IfOk result (λ names.
         IsPermutation (map name_of graph.now.packages) (map (λ name. name.now) names.items)) }
 {
-    let mut names = Vec::new(graph.alloc());
+    let mut names = Vec::with_capacity(graph.alloc(), graph.package_count())?;
     for package in graph.packages() {
         names.push(package.name())?;
     }

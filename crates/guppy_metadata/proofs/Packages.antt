@@ -1,34 +1,39 @@
 -- Packages' records, of what is told of each, and packages by their IDs.
-use Rattle.std.proofs.Common.{◌≡◌, ◌∙◌, ℕ, ◌+◌, ◌<◌, Bool, true, false, cond, List, [], ◌∷◌, ◌++◌, Option, None, Some, filter, take, length, get_or, slice_get, option_and_then, refl, sym, ap, subst, codes}
+use Rattle.std.proofs.Common.{◌≡◌, ◌∙◌, ℕ, ◌+◌, ◌<◌, Bool, true, false, cond, List, [], ◌∷◌, ◌++◌, Option, None, Some, filter, map, take, length, get_or, slice_get, option_and_then, refl, sym, ap, subst, codes}
 use Rattle.std.specs.List.{AllZip, last_or}
 use Rattle.std.specs.Str.{bytes_eq}
 use Rattle.std.proofs.lemmas.Option.{slice_get-get_or}
 use Rattle.std.specs.Option.{option_copied}
-use Rattle.std.specs.Prelude.{IsSomeAnd, unwrap_or}
+use Rattle.std.specs.Prelude.{IsSomeAnd}
 use Rattle.json.specs.Json.{Json, string}
-use Rattle.json.specs.Find.{get, as_str}
+use Rattle.json.specs.Find.{get}
 use Rattle.guppy_data.specs.declared.records.PackageRecord.{PackageRecord}
 use Rattle.guppy_metadata.specs.declared.package.Package.{Package}
 use Rattle.guppy_metadata.specs.Dependency.{NamesOptional}
-use Rattle.guppy_metadata.specs.Members.{is_among, list_of}
-use Rattle.guppy_metadata.specs.Package.{IsFrom, IsTold, AreTold, AreTargets, IsRecordOf, IsPackage, ArePackages, with_id}
+use Rattle.guppy_metadata.specs.Members.{is_among, are_among, list_of, IsListOf}
+use Rattle.guppy_metadata.specs.Package.{IsFrom, IsTold, AreTold, AreTargets, IsRecordOf, IsPackage, ArePackages, with_id, are_known}
+use Rattle.guppy_metadata.proofs.AlikeLists.{lists_fit, made_alike}
 use Rattle.guppy_metadata.proofs.FittingLists.{picked_more, passed_over}
+use Rattle.guppy_metadata.proofs.OnceTold.{text_once}
 
 module _ {A : Type 0} {P Q : A → Type 0} where
   some_and : (o : Option A) → ((a : A) → P a → Q a) → IsSomeAnd o P → IsSomeAnd o Q
   some_and None implies holds = holds
   some_and (Some a) implies holds = implies a holds
 
-abbrev text_of : Option Json → List ℕ
-text_of None = []
-text_of (Some d) = unwrap_or (as_str d) []
+-- packages and records of one list have the same IDs
+pub same_ids : (d : Json) (root : List ℕ) (is_member : List ℕ → Bool) (packages : List Package) (records : List PackageRecord) → AreTold d packages
+    → IsSomeAnd (get (codes "packages") d) (λ told. IsListOf (IsPackage root is_member) told records) → map (λ p. p.id.now) packages ≡ map (λ r. r.id) records
+same_ids d root is_member packages records tells are =
+    made_alike (λ p r. p.id.now ≡ r.id) (λ p. p.id.now) (λ r. r.id) (λ p r same. same) packages records
+    (lists_fit IsTold (IsPackage root is_member) (λ p r. p.id.now ≡ r.id) (λ j p r is also. text_once j (codes "id") p.id.now r.id is.id also.named.id) (get (codes "packages") d) packages records tells are)
 
 -- a package's record, in a workspace of which a set has the members
 module _ (root : List ℕ) (known told : List ℕ → Bool) (same : (id : List ℕ) → known id ≡ told id) where
   record_is : (d : Json) (p : Package) (r : PackageRecord) → IsTold d p → IsRecordOf root known p r → IsPackage root told d r
   record_is d p r tells is =
       let named = is.named d tells.named in
-      let id : p.id.now ≡ r.id = ap text_of (sym tells.id ∙ named.id) in
+      let id : p.id.now ≡ r.id = text_once d (codes "id") p.id.now r.id tells.id named.id in
       record {
         named = named;
         described = is.described d tells.described;
@@ -51,15 +56,17 @@ module _ (root : List ℕ) (known told : List ℕ → Bool) (same : (id : List �
 -- the records of all packages that the JSON tells
 pub packages_are : (d : Json) (root path : List ℕ) (members : List (List ℕ)) (known : List ℕ → Bool) (packages : List Package) (records : List PackageRecord)
     → path ≡ root → ((id : List ℕ) → known id ≡ is_among members id) → get (codes "workspace_root") d ≡ Some (string root) → get (codes "workspace_members") d ≡ Some (list_of members)
-    → AreTold d packages → AllZip (IsRecordOf path known) packages records → ArePackages d records
-packages_are d root path members known packages records path_is same root_is members_are tells are = (
-  root,
-  members,
-  root_is,
-  members_are,
-  some_and (get (codes "packages") d)
-      (λ list is. (is.0, is.1, records_are root known (is_among members) same is.0 packages records is.2 (subst (λ at. AllZip (IsRecordOf at known) packages records) path_is are))) tells,
-)
+    → AreTold d packages → are_known packages members ≡ true → AllZip (IsRecordOf path known) packages records → ArePackages d records
+packages_are d root path members known packages records path_is same root_is members_are tells here are =
+    let all = some_and (get (codes "packages") d)
+    (λ list told. (told.0, told.1, records_are root known (is_among members) same told.0 packages records told.2 (subst (λ at. AllZip (IsRecordOf at known) packages records) path_is are))) tells in (
+      root,
+      members,
+      root_is,
+      members_are,
+      subst (λ ids. are_among ids members ≡ true) (same_ids d root (is_among members) packages records tells all) here,
+      all,
+    )
 
 last_pushed : {A : Type 0} (o : Option A) (xs : List A) (x : A) → last_or o (xs ++ x ∷ []) ≡ Some x
 last_pushed o [] x = refl

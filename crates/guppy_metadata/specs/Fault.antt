@@ -1,8 +1,10 @@
 -- Faults of what is read, and what they print.
-use Rattle.std.specs.Prelude.{ℕ, List, ◌++◌, codes, string_bytes}
+use Rattle.std.specs.Prelude.{ℕ, List, ◌++◌, Result, MatchResult, codes, string_bytes}
 use Rattle.std.specs.Fmt.{decimal}
 use Rattle.guppy_metadata.specs.declared.fault.MetadataFault.{MetadataFault}
 use Rattle.guppy_metadata.specs.declared.fault.MetadataFault.TheVariants.{NotJson, NotResolved, Missing, WrongKind, BadText, OutOfMemory}
+use Rattle.guppy_metadata.specs.declared.fault.Misfit.{Misfit}
+use Rattle.guppy_metadata.specs.declared.fault.Misfit.TheVariants.{OutOfMemory as NoMemory}
 use Rattle.guppy_metadata.specs.declared.fault.Kind.{Kind}
 use Rattle.guppy_metadata.specs.declared.fault.Kind.TheVariants.{Object, List as ListKind, Text, Boolean}
 use Rattle.guppy_metadata.specs.declared.fault.TextFault.{TextFault}
@@ -17,6 +19,23 @@ IsNotJson _ = ⊥
 abbrev pub IsNotResolved : MetadataFault → Type 0
 IsNotResolved NotResolved = Unit {0}
 IsNotResolved _ = ⊥
+
+-- a request for memory was refused
+abbrev pub IsOutOfMemory : MetadataFault → Type 0
+IsOutOfMemory OutOfMemory = Unit {0}
+IsOutOfMemory _ = ⊥
+
+abbrev pub LacksMemory : Misfit → Type 0
+LacksMemory NoMemory = Unit {0}
+LacksMemory _ = ⊥
+
+-- nothing is as R says, unless memory was lacking
+abbrev pub NoneIs : {X : Type 0} → (X → Type 0) → Misfit → Type 0
+NoneIs {X} R misfit = ¬ LacksMemory misfit → (x : X) → ¬ R x
+
+-- what is read is as R says, and where nothing is, nothing is so, unless memory was lacking
+abbrev pub IsRead : {X : Type 0} → (X → Type 0) → Result X Misfit → Type 0
+IsRead R result = MatchResult result R (NoneIs R)
 
 abbrev pub kind_text : Kind → List ℕ
 kind_text Object = codes "object"

@@ -9,7 +9,7 @@ use Rattle.json.specs.Json.{Json, object, Members, no_members, member}
 use Rattle.guppy_data.specs.ExternalSource.{Lacks, IsCutAt}
 use Rattle.guppy_data.specs.declared.texts.named_feature.NamedFeatureDep.{NamedFeatureDep}
 use Rattle.guppy_data.specs.declared.texts.named_feature.NamedFeatureDep.TheVariants.{NamedFeature, OptionalDependency, DependencyNamedFeature}
-use Rattle.guppy_metadata.specs.Members.{list_of}
+use Rattle.guppy_metadata.specs.Members.{list_of, IsListOfTexts}
 
 -- the text names this dependency, as a weak one where a `?` stands behind the name
 abbrev pub NamesDependency : List ℕ → List ℕ → Bool → Type 0
@@ -43,6 +43,14 @@ once_behind seen (member name value rest) = once_behind (insert_entry bytes_eq s
 abbrev pub each_once : Members → List (List ℕ × Json)
 each_once = once_behind []
 
+-- each member is a list of texts, also where another one of its name comes behind it
+abbrev pub AreListsOfTexts : Members → Type 0
+AreListsOfTexts no_members = Unit {0}
+AreListsOfTexts (member name value rest) = IsListOfTexts value × AreListsOfTexts rest
+
 -- the features that the members of an object are, each name once
-abbrev pub AreFeatures : Json → List (String Global × Vec NamedFeatureDep Global) → Type 0
-AreFeatures d features = (members : Members) × (d ≡ object members) × AllZip IsNamedFeature (each_once members) features
+pub record AreFeatures (d : Json) (features : List (String Global × Vec NamedFeatureDep Global)) : Type 0 where
+  pub members : Members
+  pub members_are : d ≡ object members
+  pub lists : AreListsOfTexts members
+  pub features_are : AllZip IsNamedFeature (each_once members) features

@@ -1,5 +1,5 @@
 -- Which of the declared dependencies were resolved to one.
-use Rattle.std.specs.Prelude.{◌==◌, ◌&&◌, ◌||◌, ℕ, Bool, true, false, List, Option, length, option_map, option_and_then, unwrap_or, string_bytes}
+use Rattle.std.specs.Prelude.{◌==◌, ◌&&◌, ◌||◌, ℕ, Bool, true, false, if◌then◌else◌, List, Option, length, map, option_map, option_and_then, unwrap_or, string_bytes}
 use Rattle.std.specs.Cmp.Lexicographic.{pointwise}
 use Rattle.std.specs.List.{find, list_any, list_all}
 use Rattle.std.specs.Option.{option_copied, option_eq}
@@ -22,6 +22,13 @@ stands_for letter in_code = (letter == in_code) || ((letter == 45) && (in_code =
 
 abbrev pub is_named : List ℕ → List ℕ → Bool
 is_named name in_code = pointwise stands_for name in_code
+
+-- a name as it is in the code
+abbrev pub letter_in_code : ℕ → ℕ
+letter_in_code letter = if letter == 45 then 95 else letter
+
+abbrev pub in_code : List ℕ → List ℕ
+in_code name = map letter_in_code name
 
 abbrev pub is_library : OwnedBuildTargetId → Bool
 is_library Library = true

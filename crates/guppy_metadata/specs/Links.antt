@@ -2,7 +2,7 @@
 use Rattle.std.specs.Prelude.{◌≡◌, ℕ, true, List, [], Option, Some, None, IsSomeAnd, option_and_then, filter, string_bytes, codes}
 use Rattle.std.specs.List.{AllZip, flat_map}
 use Rattle.std.specs.Option.{option_copied}
-use Rattle.json.specs.Json.{Json, string, array}
+use Rattle.json.specs.Json.{Json, Members, string, array, object}
 use Rattle.json.specs.Find.{get}
 use Rattle.json.specs.Value.{items_of}
 use Rattle.guppy_data.specs.declared.records.LinkRecord.{LinkRecord}
@@ -31,6 +31,7 @@ pub record HasTexts (from : List ℕ) (resolved : Resolved) (dep_name : List ℕ
 
 -- a section and the platforms that a dependency is used for
 pub record IsUsage (d : Json) (x : Usage) : Type 0 where
+  pub is_object : (members : Members) × (d ≡ object members)
   pub section : NamesSection d x.section
   pub target : IsText (codes "target") d (option_copied x.target)
 

@@ -1,7 +1,7 @@
 -- What a JSON object says by its members.
 use Rattle.std.specs.Prelude.{◌≡◌, ◌⊎◌, ℕ, Bool, List, [], Option, Some, None, map, option_map, option_and_then}
 use Rattle.std.specs.Borrow.{Bor}
-use Rattle.std.specs.List.{AllZip, list_any}
+use Rattle.std.specs.List.{AllZip, list_any, list_all}
 use Rattle.std.specs.Str.{bytes_eq}
 use Rattle.indexmap.specs.IndexSet.{IndexSet, contains_by}
 use Rattle.json.specs.Json.{Json, null, boolean, number, string, array, object}
@@ -21,6 +21,10 @@ unless_null (string s) = Some (string s)
 unless_null (array ds) = Some (array ds)
 unless_null (object ms) = Some (object ms)
 
+-- it is no object, or one without members
+abbrev pub HasNoMembers : Json → Type 0
+HasNoMembers d = (name : List ℕ) → get name d ≡ None
+
 -- the member of this name, where there is one that isn't null
 abbrev pub present : List ℕ → Json → Option Json
 present name d = option_and_then unless_null (get name d)
@@ -37,6 +41,10 @@ IsTruth name d default truth = (present name d ≡ Some (boolean truth)) ⊎ ((p
 abbrev pub is_among : List (List ℕ) → List ℕ → Bool
 is_among texts text = list_any (bytes_eq text) texts
 
+-- whether each text that is wanted is one of these
+abbrev pub are_among : List (List ℕ) → List (List ℕ) → Bool
+are_among texts wanted = list_all (is_among texts) wanted
+
 -- whether the text is in the set
 abbrev pub is_in_set : {S : Type 0} → IndexSet (Bor (List ℕ)) S → List ℕ → Bool
 is_in_set set text = contains_by (λ key. bytes_eq text key.now) set
@@ -48,6 +56,10 @@ IsListOf R d xs = (items : List Json) × (d ≡ array (items_of items)) × AllZi
 -- the list of these texts
 abbrev pub list_of : List (List ℕ) → Json
 list_of texts = array (items_of (map string texts))
+
+-- it is a list of texts
+abbrev pub IsListOfTexts : Json → Type 0
+IsListOfTexts d = (texts : List (List ℕ)) × (d ≡ list_of texts)
 
 -- these are the items of the list in the member of this name; none where there is no list
 abbrev pub AreItems : List ℕ → Json → List Json → Type 0

@@ -21,7 +21,7 @@ use Rattle.guppy_metadata.specs.declared.declared.Declared.{Declared}
 use Rattle.guppy_metadata.specs.declared.package.Package.{Package}
 use Rattle.guppy_metadata.specs.Dependency.{IsDeclared, NamesOptional, AreOptional}
 use Rattle.guppy_metadata.specs.Feature.{AreFeatures}
-use Rattle.guppy_metadata.specs.Members.{present, IsText, IsListOf, list_of, AreTexts, is_among}
+use Rattle.guppy_metadata.specs.Members.{present, IsText, IsListOf, list_of, AreTexts, is_among, are_among}
 use Rattle.guppy_metadata.specs.Path.{IsFolderFrom}
 use Rattle.guppy_metadata.specs.Table.{IsTable}
 use Rattle.guppy_metadata.specs.Target.{IsTarget}
@@ -144,12 +144,17 @@ pub record IsPackage (root : List ℕ) (is_member : List ℕ → Bool) (d : Json
   pub source_is : IsText (codes "source") d source
   pub comes_from : IsFrom root r.manifest_path (is_member r.id) source r.source
 
--- the packages, in their order
+-- the packages, in their order, of which each member is one
 abbrev pub ArePackages : Json → List PackageRecord → Type 0
 ArePackages d records = (root : List ℕ) × (members : List (List ℕ))
     × (get (codes "workspace_root") d ≡ Some (string root))
     × (get (codes "workspace_members") d ≡ Some (list_of members))
+    × (are_among (map (λ r. r.id) records) members ≡ true)
     × IsSomeAnd (get (codes "packages") d) (λ told. IsListOf (IsPackage root (is_among members)) told records)
+
+-- whether each of these is the ID of one of the packages
+abbrev pub are_known : List Package → List (List ℕ) → Bool
+are_known packages ids = are_among (map (λ p. p.id.now) packages) ids
 
 -- the last package with this ID
 abbrev pub with_id : List ℕ → List Package → Option Package

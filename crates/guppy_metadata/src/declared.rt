@@ -1,9 +1,10 @@
 //! A dependency as a package declares it.
-ghost use Rattle.std.specs.Prelude.{◌≡◌, Some, unwrap_or, IfOk, IfSome};
+ghost use Rattle.std.specs.Prelude.{◌≡◌, Some, unwrap_or, IfOk, IfSome, MatchResult};
 ghost use Rattle.std.specs.Option.{option_copied};
 ghost use Rattle.json.specs.Json.{Json, value};
 ghost use Rattle.json.specs.Value.{value_view};
 ghost use Rattle.guppy_metadata.specs.Dependency.{IsDeclared, NamesSection, NamesOptional};
+ghost use Rattle.guppy_metadata.specs.Fault.{NoneIs, IsRead};
 ghost use Rattle.guppy_metadata.specs.Members.{data_of, IsListOf};
 
 use crate::fault::{Kind, Misfit, TextFault};
@@ -65,7 +66,7 @@ impl<'a> Declared<'a> {
 
 /// The section that the text in the member `kind` names; `normal` where there is none.
 pub(crate) fn section_of(object: Object<'_, '_>) -> Result<DependencyKind, Misfit>
-    ensures { IfOk result (NamesSection (data_of object.entry)) }
+    ensures { IsRead (NamesSection (data_of object.entry)) result }
 {
     match object.optional_text("kind")? {
         None | Some("normal") => Ok(DependencyKind::Normal),
@@ -79,7 +80,7 @@ pub(crate) fn section_of(object: Object<'_, '_>) -> Result<DependencyKind, Misfi
 }
 
 fn declared_of<'a>(dependency: Object<'_, 'a>) -> Result<Declared<'a>, Misfit>
-    ensures { IfOk result (IsDeclared (data_of dependency.entry)) }
+    ensures { IsRead (IsDeclared (data_of dependency.entry)) result }
 {
     let requirement = dependency.text("req")?;
     Ok(Declared {
@@ -101,7 +102,9 @@ pub(crate) fn declared_dependencies<'a>(
     alloc: Global,
     value: &Value<'a>,
 ) -> Result<Vec<Declared<'a>>, Misfit>
-    ensures { IfOk result (λ declared. IsListOf IsDeclared (value_view value.now) declared.items) }
+    ensures { MatchResult result
+        (λ declared. IsListOf IsDeclared (value_view value.now) declared.items)
+        (NoneIs (IsListOf IsDeclared (value_view value.now))) }
 {
     let Value::Array(items) = value else {
         return Err(Misfit::wrong_kind(alloc, "dependencies", Kind::List));

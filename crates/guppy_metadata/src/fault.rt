@@ -2,7 +2,7 @@
 ghost use Rattle.std.specs.Prelude.{◌≡◌};
 ghost use Rattle.guppy_metadata.specs.declared.fault.Misfit.TheVariants.{OutOfMemory as MisfitMemory};
 ghost use Rattle.guppy_metadata.specs.declared.fault.MetadataFault.TheVariants.{OutOfMemory};
-ghost use Rattle.guppy_metadata.specs.Fault.{IsNotJson, IsNotResolved};
+ghost use Rattle.guppy_metadata.specs.Fault.{IsNotJson, IsNotResolved, IsOutOfMemory, LacksMemory};
 
 use std::alloc::{AllocError, AllocFailed, Global};
 use std::fmt;
@@ -96,6 +96,9 @@ impl MetadataFault {
 }
 
 impl Misfit {
+    ghost use Rattle.std.specs.Prelude.{IfOk};
+    ghost use Rattle.guppy_metadata.specs.Fault.{LacksMemory};
+
     /// Nothing stands at the member of this name.
     pub(crate) fn missing(alloc: Global, name: &str) -> Self {
         match String::from_str(alloc, name) {
@@ -120,7 +123,9 @@ impl Misfit {
         }
     }
 
-    fn try_within(self, alloc: Global, step: &str) -> Result<Self, AllocError> {
+    fn try_within(self, alloc: Global, step: &str) -> Result<Self, AllocError>
+        ensures { IfOk result (λ misfit. LacksMemory self → LacksMemory misfit) }
+    {
         Ok(match self {
             Misfit::Missing(place) => { Misfit::Missing(joined(alloc, step, place.as_str())?) }
             Misfit::WrongKind(place, wanted) => {
@@ -134,7 +139,9 @@ impl Misfit {
     }
 
     /// The same fault, where what it was seen from is the member of this name.
-    pub(crate) fn within(self, alloc: Global, name: &str) -> Self {
+    pub(crate) fn within(self, alloc: Global, name: &str) -> Self
+        ensures { LacksMemory self → LacksMemory result }
+    {
         match self.try_within(alloc, name) {
             Ok(fault) => fault,
             Err(_) => Misfit::OutOfMemory,
@@ -142,7 +149,9 @@ impl Misfit {
     }
 
     /// The same fault, where what it was seen from is this item of the list in the member of this name.
-    pub(crate) fn within_item(self, alloc: Global, name: &str, index: usize) -> Self {
+    pub(crate) fn within_item(self, alloc: Global, name: &str, index: usize) -> Self
+        ensures { LacksMemory self → LacksMemory result }
+    {
         match format!(in alloc; "{name}[{index}]") {
             Ok(step) => self.within(alloc, step.as_str()),
             Err(_) => Misfit::OutOfMemory,
@@ -207,7 +216,8 @@ impl fmt::Display for TextFault {
 impl std::error::Error for MetadataFault {}
 
 impl From<Misfit> for MetadataFault {
-    ghost from_gives = { λ _ fault. ¬ IsNotJson fault × ¬ IsNotResolved fault };
+    ghost from_gives = { λ misfit fault. ¬ IsNotJson fault × ¬ IsNotResolved fault
+        × (LacksMemory misfit → IsOutOfMemory fault) };
 
     fn from(misfit: Misfit) -> Self {
         match misfit {

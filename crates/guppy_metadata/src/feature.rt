@@ -1,8 +1,9 @@
 //! Named features.
-ghost use Rattle.std.specs.Prelude.{◌≡◌, ℕ, List, map, IfOk};
+ghost use Rattle.std.specs.Prelude.{◌≡◌, ℕ, List, map, IfOk, MatchResult};
 ghost use Rattle.std.specs.List.{AllZip};
 ghost use Rattle.json.specs.Value.{value_view};
 ghost use Rattle.guppy_data.specs.Texts.{named_feature_text};
+ghost use Rattle.guppy_metadata.specs.Fault.{NoneIs};
 ghost use Rattle.guppy_metadata.specs.Feature.{NamesDependency, IsFeature, AreFeatures};
 ghost use Rattle.guppy_metadata.specs.Members.{list_of};
 
@@ -62,8 +63,10 @@ fn features_of(alloc: Global, texts: &[&str]) -> Result<Vec<NamedFeatureDep>, Al
 
 // What the texts of the list in the member of this name switch on.
 fn switched_on(alloc: Global, name: &str, value: &Value<'_>) -> Result<Vec<NamedFeatureDep>, Misfit>
-    ensures { IfOk result (λ features. (texts : List (List ℕ)) × (value_view value.now ≡ list_of texts)
-        × AllZip IsFeature texts features.items) }
+    ensures { MatchResult result
+        (λ features. (texts : List (List ℕ)) × (value_view value.now ≡ list_of texts)
+        × AllZip IsFeature texts features.items)
+        (NoneIs (λ texts. value_view value.now ≡ list_of texts)) }
 {
     let texts = texts_of(alloc, name, value)?;
     Ok(features_of(alloc, texts.as_slice())?)
@@ -74,7 +77,8 @@ pub(crate) fn named_features(
     alloc: Global,
     value: &Value<'_>,
 ) -> Result<IndexMap<String, Vec<NamedFeatureDep>>, Misfit>
-    ensures { IfOk result (λ named. AreFeatures (value_view value.now) named.entries) }
+    ensures { MatchResult result (λ named. AreFeatures (value_view value.now) named.entries)
+        (NoneIs (AreFeatures (value_view value.now))) }
 {
     let Value::Object(members) = value else {
         return Err(Misfit::wrong_kind(alloc, "", Kind::Object));

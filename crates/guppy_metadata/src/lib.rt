@@ -16,12 +16,14 @@
 //! - `link`: links, of what is declared and what is resolved;
 //! - `node`: the links of a node, read member by member;
 //! - `told`: the packages and the links, read item by item;
-//! - `records`: all records.
+//! - `records`: all records;
+//! - `laws`: what fits under one name.
 #![tactic(auto)]
 
 mod declared;
 mod fault;
 mod feature;
+pub mod laws;
 mod link;
 mod node;
 mod object;

@@ -1,5 +1,5 @@
 //! Links, of what packages declare and what is resolved.
-ghost use Rattle.std.specs.Prelude.{◌≡◌, ◌++◌, ◌∷◌, [], ℕ, List, if◌then◌else◌, true, false, filter, map, string_bytes, option_map, slice_get, Some, IfOk, OnOk, IfSome, OnSome};
+ghost use Rattle.std.specs.Prelude.{◌≡◌, ◌++◌, ◌∷◌, [], ℕ, List, if◌then◌else◌, true, false, filter, map, string_bytes, option_map, slice_get, Some, IfOk, IfErr, OnOk, IfSome, OnSome, MatchResult};
 ghost use Rattle.std.specs.List.{fold};
 ghost use Rattle.std.specs.Str.{bytes_eq};
 ghost use Rattle.std.specs.Option.{option_copied, option_or};
@@ -9,6 +9,7 @@ ghost use Rattle.semver.specs.Identifiers.{comparator_view};
 ghost use Rattle.json.specs.Json.{Json, value};
 ghost use Rattle.json.specs.Value.{value_view};
 ghost use Rattle.guppy_metadata.specs.declared.declared.Declared.{Declared};
+ghost use Rattle.guppy_metadata.specs.Fault.{NoneIs, IsRead};
 ghost use Rattle.guppy_metadata.specs.Fits.{stands_for, is_named, has_name, same_usage, is_used, fits, is_matched, are_matched};
 ghost use Rattle.guppy_metadata.specs.Gathered.{status_at, asked_too, asks_for, IsSection, IsGathered, IsNamedAs, IsLinkOf};
 ghost use Rattle.guppy_metadata.specs.Links.{HasTexts, Joins, IsUsage, IsResolved, IsUnasked, IsLink, AreLinksOf, AreLinksOfList};
@@ -67,9 +68,13 @@ struct Resolved<'a> {
     usages: Vec<Usage<'a>>,
 }
 
-fn usage_of<'a>(usage: Object<'_, 'a>) -> Result<Usage<'a>, Misfit>
-    ensures { IfOk result (IsUsage (data_of usage.entry)) }
+fn usage_of<'a>(alloc: Global, item: &Value<'a>) -> Result<Usage<'a>, Misfit>
+    ensures { IsRead (IsUsage (value_view item.now)) result }
 {
+    let Value::Object(_) = item else {
+        return Err(Misfit::wrong_kind(alloc, "", Kind::Object));
+    };
+    let usage = Object { alloc, value: item };
     Ok(Usage {
         section: section_of(usage)?,
         target: usage.optional_text("target")?,
@@ -78,15 +83,15 @@ fn usage_of<'a>(usage: Object<'_, 'a>) -> Result<Usage<'a>, Misfit>
 
 // The usages that the items of the list `dep_kinds` are.
 fn usages_of<'a>(alloc: Global, value: &Value<'a>) -> Result<Vec<Usage<'a>>, Misfit>
-    ensures { IfOk result (λ usages. IsListOf IsUsage (value_view value.now) usages.items) }
+    ensures { MatchResult result (λ usages. IsListOf IsUsage (value_view value.now) usages.items)
+        (NoneIs (IsListOf IsUsage (value_view value.now))) }
 {
     let Value::Array(items) = value else {
         return Err(Misfit::wrong_kind(alloc, "dep_kinds", Kind::List));
     };
     let mut usages = Vec::with_capacity(alloc, items.len())?;
     for (index, item) in items.iter().enumerate() {
-        let usage = Object::of_item(alloc, "dep_kinds", index, item)?;
-        match usage_of(usage) {
+        match usage_of(alloc, item) {
             Ok(usage) => usages.push(usage)?,
             Err(fault) => return Err(fault.within_item(alloc, "dep_kinds", index)),
         }
@@ -95,7 +100,7 @@ fn usages_of<'a>(alloc: Global, value: &Value<'a>) -> Result<Vec<Usage<'a>>, Mis
 }
 
 fn resolved_of<'a>(dependency: Object<'_, 'a>) -> Result<Resolved<'a>, Misfit>
-    ensures { IfOk result (IsResolved (data_of dependency.entry)) }
+    ensures { IsRead (IsResolved (data_of dependency.entry)) result }
 {
     Ok(Resolved {
         name: dependency.text("name")?,
@@ -472,6 +477,9 @@ fn add_link_between(
         × IsLinkOf (filter (fits from.now resolved.now needed.now.record) asking.now.declared.items) link) }
     ensures matched { OnOk result (are_matched from.now resolved.now needed.now.record
         asking.now.declared.items resolved.now.usages.items ≡ true) }
+    ensures refused { IfErr result (NoneIs (λ (link : LinkRecord).
+        IsLinkOf (filter (fits from.now resolved.now needed.now.record) asking.now.declared.items) link
+        × (are_matched from.now resolved.now needed.now.record asking.now.declared.items resolved.now.usages.items ≡ true))) }
 {
     let declared = from_first_fitting(asking.declared.as_slice(), from, resolved, needed);
     let usages = resolved.usages.as_slice();
@@ -512,8 +520,10 @@ fn add_link(
 ) -> Result<(), Misfit>
     requires positions { ArePositions packages.packages.now packages.positions.now }
     requires asking { option_copied asking ≡ with_id from.now packages.packages.now }
-    ensures { OnOk result ((link : LinkRecord) × (links.new.items ≡ links.old.items ++ link ∷ [])
+    ensures added { OnOk result ((link : LinkRecord) × (links.new.items ≡ links.old.items ++ link ∷ [])
         × IsLink packages.entry.packages.now from.now (data_of dependency.entry) link) }
+    ensures refused { IfErr result
+        (NoneIs (IsLink packages.entry.packages.now from.now (data_of dependency.entry))) }
 {
     let alloc = dependency.alloc;
     let resolved = resolved_of(dependency)?;
@@ -535,8 +545,10 @@ fn add_links(
     value: &Value<'_>,
 ) -> Result<(), Misfit>
     requires { ArePositions packages.packages.now packages.positions.now }
-    ensures { OnOk result ((row : List LinkRecord) × (links.new.items ≡ links.old.items ++ row)
+    ensures added { OnOk result ((row : List LinkRecord) × (links.new.items ≡ links.old.items ++ row)
         × IsListOf (IsLink packages.entry.packages.now from.now) (value_view value.now) row) }
+    ensures refused { IfErr result
+        (NoneIs (IsListOf (IsLink packages.entry.packages.now from.now) (value_view value.now))) }
 {
     let Value::Array(items) = value else {
         return Err(Misfit::wrong_kind(alloc, "deps", Kind::List));
@@ -603,8 +615,9 @@ pub(crate) fn add_node(
     node: Object<'_, '_>,
 ) -> Result<(), Misfit>
     requires { ArePositions packages.packages.now packages.positions.now }
-    ensures { OnOk result ((row : List LinkRecord) × (links.new.items ≡ links.old.items ++ row)
+    ensures added { OnOk result ((row : List LinkRecord) × (links.new.items ≡ links.old.items ++ row)
         × AreLinksOf packages.entry.packages.now (data_of node.entry) row) }
+    ensures refused { IfErr result (NoneIs (AreLinksOf packages.entry.packages.now (data_of node.entry))) }
 {
     let from = node.text("id")?;
     add_links(links, node.alloc, packages, from, node.required("deps")?)
@@ -619,8 +632,9 @@ pub(crate) fn add_node_at(
     item: &Value<'_>,
 ) -> Result<(), Misfit>
     requires { ArePositions packages.packages.now packages.positions.now }
-    ensures { OnOk result ((row : List LinkRecord) × (links.new.items ≡ links.old.items ++ row)
+    ensures added { OnOk result ((row : List LinkRecord) × (links.new.items ≡ links.old.items ++ row)
         × AreLinksOf packages.entry.packages.now (value_view item.now) row) }
+    ensures refused { IfErr result (NoneIs (AreLinksOf packages.entry.packages.now (value_view item.now))) }
 {
     let node = Object::of_item(alloc, "nodes", index, item)?;
     match add_node(links, packages, node) {
@@ -636,8 +650,9 @@ pub(crate) fn links_of(
     value: &Value<'_>,
 ) -> Result<Vec<LinkRecord>, Misfit>
     requires { ArePositions packages.packages.now packages.positions.now }
-    ensures { IfOk result
-        (λ links. AreLinksOfList packages.entry.packages.now (value_view value.now) links.items) }
+    ensures { MatchResult result
+        (λ links. AreLinksOfList packages.entry.packages.now (value_view value.now) links.items)
+        (NoneIs (AreLinksOfList packages.entry.packages.now (value_view value.now))) }
 {
     let Value::Array(items) = value else {
         return Err(Misfit::wrong_kind(alloc, "nodes", Kind::List));

@@ -1,10 +1,11 @@
 //! The members of a JSON object. A fault's place is the one that it has from the object.
-ghost use Rattle.std.specs.Prelude.{◌≡◌, IfOk, Ok, map, option_map, string_bytes};
+ghost use Rattle.std.specs.Prelude.{◌≡◌, ◌≢◌, IfOk, MatchResult, Ok, map, option_map, string_bytes};
 ghost use Rattle.std.specs.Option.{option_copied};
 ghost use Rattle.semver.specs.Identifiers.{parts_of, comparator_view};
-ghost use Rattle.semver.specs.Parse.{version_parts, req_of};
+ghost use Rattle.semver.specs.Parse.{memory_error, version_parts, req_of};
 ghost use Rattle.json.specs.Json.{string};
 ghost use Rattle.json.specs.Value.{value_view};
+ghost use Rattle.guppy_metadata.specs.Fault.{LacksMemory, NoneIs, IsRead};
 ghost use Rattle.guppy_metadata.specs.Members.{data_of, list_of};
 
 use crate::fault::{Kind, Misfit, TextFault};
@@ -22,7 +23,8 @@ pub(crate) struct Object<'v, 'a> {
 
 // The text that the member of this name has.
 fn text_of<'a>(alloc: Global, name: &str, value: &Value<'a>) -> Result<&'a str, Misfit>
-    ensures { IfOk result (λ text. value_view value.now ≡ string text.now) }
+    ensures { MatchResult result (λ text. value_view value.now ≡ string text.now)
+        (NoneIs (λ text. value_view value.now ≡ string text)) }
 {
     match value {
         Value::String(text) => Ok(*text),
@@ -37,7 +39,8 @@ fn item_text<'a>(
     index: usize,
     item: &Value<'a>,
 ) -> Result<&'a str, Misfit>
-    ensures { IfOk result (λ text. value_view item.now ≡ string text.now) }
+    ensures { MatchResult result (λ text. value_view item.now ≡ string text.now)
+        (NoneIs (λ text. value_view item.now ≡ string text)) }
 {
     match item {
         Value::String(text) => Ok(*text),
@@ -54,8 +57,9 @@ pub(crate) fn texts_of<'a>(
     name: &str,
     value: &Value<'a>,
 ) -> Result<Vec<&'a str>, Misfit>
-    ensures { IfOk result
-        (λ texts. value_view value.now ≡ list_of (map (λ text. text.now) texts.items)) }
+    ensures { MatchResult result
+        (λ texts. value_view value.now ≡ list_of (map (λ text. text.now) texts.items))
+        (NoneIs (λ texts. value_view value.now ≡ list_of texts)) }
 {
     let Value::Array(items) = value else {
         return Err(Misfit::wrong_kind(alloc, name, Kind::List));
@@ -91,7 +95,9 @@ pub(crate) fn optional_copy(alloc: Global, text: Option<&str>) -> Result<Option<
 }
 
 // Why semver refuses a text.
-fn reason_of(alloc: Global, error: semver::Error) -> Result<String, Misfit> {
+fn reason_of(alloc: Global, error: semver::Error) -> Result<String, Misfit>
+    ensures { MatchResult result (λ _. error ≢ memory_error) LacksMemory }
+{
     if error == semver::Error::from(AllocError) {
         return Err(Misfit::OutOfMemory);
     }
@@ -100,7 +106,7 @@ fn reason_of(alloc: Global, error: semver::Error) -> Result<String, Misfit> {
 
 /// The version that the text in the member of this name is.
 pub(crate) fn version_of(alloc: Global, name: &str, text: &str) -> Result<Version, Misfit>
-    ensures { IfOk result (λ version. version_parts text.now ≡ Ok (parts_of version)) }
+    ensures { IsRead (λ version. version_parts text.now ≡ Ok (parts_of version)) result }
 {
     match Version::parse(alloc, text) {
         Ok(version) => Ok(version),
@@ -113,7 +119,7 @@ pub(crate) fn version_of(alloc: Global, name: &str, text: &str) -> Result<Versio
 
 /// The requirement that the text in the member of this name is.
 pub(crate) fn requirement_of(alloc: Global, name: &str, text: &str) -> Result<VersionReq, Misfit>
-    ensures { IfOk result (λ req. req_of text.now ≡ Ok (map comparator_view req.comparators.items)) }
+    ensures { IsRead (λ req. req_of text.now ≡ Ok (map comparator_view req.comparators.items)) result }
 {
     match VersionReq::parse(alloc, text) {
         Ok(mut requirement) => {
@@ -128,18 +134,20 @@ pub(crate) fn requirement_of(alloc: Global, name: &str, text: &str) -> Result<Ve
 }
 
 impl<'v, 'a> Object<'v, 'a> {
-    ghost use Rattle.std.specs.Prelude.{◌≡◌, IfOk, Some, map, option_map, unwrap_or, string_bytes};
+    ghost use Rattle.std.specs.Prelude.{◌≡◌, MatchResult, Some, None, map, option_map, unwrap_or, string_bytes};
     ghost use Rattle.std.specs.Option.{option_copied};
-    ghost use Rattle.json.specs.Json.{null, string};
+    ghost use Rattle.json.specs.Json.{Json, null, string, array};
     ghost use Rattle.json.specs.Find.{get};
     ghost use Rattle.json.specs.Value.{value_view};
     ghost use Rattle.serde_json.specs.View.{view};
+    ghost use Rattle.guppy_metadata.specs.Fault.{NoneIs, IsRead};
     ghost use Rattle.guppy_metadata.specs.Table.{IsTable};
-    ghost use Rattle.guppy_metadata.specs.Members.{data_of, present, IsText, IsTruth, AreTexts};
+    ghost use Rattle.guppy_metadata.specs.Members.{data_of, present, HasNoMembers, IsText, IsTruth, AreTexts};
 
     /// The object that a value is.
     pub(crate) fn new(alloc: Global, value: &'v Value<'a>) -> Result<Self, Misfit>
-        ensures { IfOk result (λ object. data_of object ≡ value_view value.now) }
+        ensures { MatchResult result (λ object. data_of object ≡ value_view value.now)
+            (λ _. HasNoMembers (value_view value.now)) }
     {
         match value {
             Value::Object(_) => Ok(Object { alloc, value }),
@@ -154,7 +162,8 @@ impl<'v, 'a> Object<'v, 'a> {
         index: usize,
         item: &'v Value<'a>,
     ) -> Result<Self, Misfit>
-        ensures { IfOk result (λ object. data_of object ≡ value_view item.now) }
+        ensures { MatchResult result (λ object. data_of object ≡ value_view item.now)
+            (λ _. HasNoMembers (value_view item.now)) }
     {
         match Object::new(alloc, item) {
             Ok(object) => Ok(object),
@@ -174,7 +183,9 @@ impl<'v, 'a> Object<'v, 'a> {
 
     /// The member of this name.
     pub(crate) fn required(self, name: &str) -> Result<&'v Value<'a>, Misfit>
-        ensures { IfOk result (λ value. get name.now (data_of self.entry) ≡ Some (value_view value.now)) }
+        ensures { MatchResult result
+            (λ value. get name.now (data_of self.entry) ≡ Some (value_view value.now))
+            (λ _. get name.now (data_of self.entry) ≡ None) }
     {
         match self.value.get(name) {
             None => Err(Misfit::missing(self.alloc, name)),
@@ -184,8 +195,9 @@ impl<'v, 'a> Object<'v, 'a> {
 
     /// The text in the member of this name.
     pub(crate) fn text(self, name: &str) -> Result<&'a str, Misfit>
-        ensures { IfOk result
-            (λ text. get name.now (data_of self.entry) ≡ Some (string text.now)) }
+        ensures { MatchResult result
+            (λ text. get name.now (data_of self.entry) ≡ Some (string text.now))
+            (NoneIs (λ text. get name.now (data_of self.entry) ≡ Some (string text))) }
     {
         let value = self.required(name)?;
         text_of(self.alloc, name, value)
@@ -193,8 +205,9 @@ impl<'v, 'a> Object<'v, 'a> {
 
     /// A copy of the text in the member of this name.
     pub(crate) fn copied_text(self, name: &str) -> Result<String, Misfit>
-        ensures { IfOk result
-            (λ text. get name.now (data_of self.entry) ≡ Some (string (string_bytes text))) }
+        ensures { MatchResult result
+            (λ text. get name.now (data_of self.entry) ≡ Some (string (string_bytes text)))
+            (NoneIs (λ text. get name.now (data_of self.entry) ≡ Some (string text))) }
     {
         let text = self.text(name)?;
         Ok(String::from_str(self.alloc, text)?)
@@ -202,8 +215,9 @@ impl<'v, 'a> Object<'v, 'a> {
 
     /// The text in the member of this name, where there is one that isn't null.
     pub(crate) fn optional_text(self, name: &str) -> Result<Option<&'a str>, Misfit>
-        ensures { IfOk result
-            (λ text. IsText name.now (data_of self.entry) (option_copied text)) }
+        ensures { MatchResult result
+            (λ text. IsText name.now (data_of self.entry) (option_copied text))
+            (NoneIs (IsText name.now (data_of self.entry))) }
     {
         match self.optional(name) {
             Some(value) => Ok(Some(text_of(self.alloc, name, value)?)),
@@ -213,8 +227,9 @@ impl<'v, 'a> Object<'v, 'a> {
 
     /// A copy of the text in the member of this name, where there is one that isn't null.
     pub(crate) fn optional_copied_text(self, name: &str) -> Result<Option<String>, Misfit>
-        ensures { IfOk result (λ text. IsText name.now (data_of self.entry)
-            (option_map string_bytes text)) }
+        ensures { MatchResult result
+            (λ text. IsText name.now (data_of self.entry) (option_map string_bytes text))
+            (NoneIs (IsText name.now (data_of self.entry))) }
     {
         let text = self.optional_text(name)?;
         Ok(optional_copy(self.alloc, text)?)
@@ -222,7 +237,9 @@ impl<'v, 'a> Object<'v, 'a> {
 
     /// The list in the member of this name.
     pub(crate) fn list(self, name: &str) -> Result<&'v Value<'a>, Misfit>
-        ensures { IfOk result (λ value. get name.now (data_of self.entry) ≡ Some (value_view value.now)) }
+        ensures { MatchResult result
+            (λ value. get name.now (data_of self.entry) ≡ Some (value_view value.now))
+            (NoneIs (λ items. get name.now (data_of self.entry) ≡ Some (array items))) }
     {
         let value = self.required(name)?;
         match value {
@@ -233,8 +250,9 @@ impl<'v, 'a> Object<'v, 'a> {
 
     /// The texts of the list in the member of this name; none where there is no list.
     pub(crate) fn texts(self, name: &str) -> Result<Vec<&'a str>, Misfit>
-        ensures { IfOk result
-            (λ texts. AreTexts name.now (data_of self.entry) (map (λ text. text.now) texts.items)) }
+        ensures { MatchResult result
+            (λ texts. AreTexts name.now (data_of self.entry) (map (λ text. text.now) texts.items))
+            (NoneIs (AreTexts name.now (data_of self.entry))) }
     {
         match self.optional(name) {
             Some(value) => texts_of(self.alloc, name, value),
@@ -244,8 +262,9 @@ impl<'v, 'a> Object<'v, 'a> {
 
     /// Copies of the texts of the list in the member of this name; none where there is no list.
     pub(crate) fn copied_texts(self, name: &str) -> Result<Vec<String>, Misfit>
-        ensures { IfOk result
-            (λ texts. AreTexts name.now (data_of self.entry) (map string_bytes texts.items)) }
+        ensures { MatchResult result
+            (λ texts. AreTexts name.now (data_of self.entry) (map string_bytes texts.items))
+            (NoneIs (AreTexts name.now (data_of self.entry))) }
     {
         let texts = self.texts(name)?;
         Ok(copies_of(self.alloc, texts.as_slice())?)
@@ -253,8 +272,9 @@ impl<'v, 'a> Object<'v, 'a> {
 
     /// The object in the member of this name.
     pub(crate) fn object(self, name: &str) -> Result<Object<'v, 'a>, Misfit>
-        ensures { IfOk result
-            (λ object. get name.now (data_of self.entry) ≡ Some (data_of object)) }
+        ensures { MatchResult result
+            (λ object. get name.now (data_of self.entry) ≡ Some (data_of object))
+            (λ _. (told : Json) → get name.now (data_of self.entry) ≡ Some told → HasNoMembers told) }
     {
         let value = self.required(name)?;
         match Object::new(self.alloc, value) {
@@ -265,7 +285,7 @@ impl<'v, 'a> Object<'v, 'a> {
 
     /// The truth value in the member of this name, or `default` where there is none.
     pub(crate) fn boolean(self, name: &str, default: bool) -> Result<bool, Misfit>
-        ensures { IfOk result (IsTruth name.now (data_of self.entry) default) }
+        ensures { IsRead (IsTruth name.now (data_of self.entry) default) result }
     {
         let Some(value) = self.optional(name) else {
             return Ok(default);
@@ -278,7 +298,9 @@ impl<'v, 'a> Object<'v, 'a> {
 
     /// A copy of the value in the member of this name that owns its texts, or null where there is none.
     pub(crate) fn table(self, name: &str) -> Result<serde_json::Value, Misfit>
-        ensures { IfOk result (λ table. IsTable (unwrap_or (get name.now (data_of self.entry)) null) (view table)) }
+        ensures { MatchResult result
+            (λ table. IsTable (unwrap_or (get name.now (data_of self.entry)) null) (view table))
+            (NoneIs (IsTable (unwrap_or (get name.now (data_of self.entry)) null))) }
     {
         let Some(value) = self.value.get(name) else {
             return Ok(serde_json::Value::Null);

@@ -1,5 +1,5 @@
 //! Packages.
-ghost use Rattle.std.specs.Prelude.{◌≡◌, List, Option, Some, IfOk, OnOk, map, string_bytes, codes};
+ghost use Rattle.std.specs.Prelude.{◌≡◌, List, Option, Some, IfOk, IfErr, OnOk, MatchResult, map, string_bytes, codes};
 ghost use Rattle.std.specs.List.{AllZip};
 ghost use Rattle.std.specs.Option.{option_copied};
 ghost use Rattle.json.specs.Json.{Json, string};
@@ -7,7 +7,9 @@ ghost use Rattle.json.specs.Find.{get};
 ghost use Rattle.json.specs.Value.{value_view};
 ghost use Rattle.guppy_data.specs.Utf8Path.{path_text};
 ghost use Rattle.guppy_metadata.specs.Dependency.{NamesOptional};
+ghost use Rattle.guppy_metadata.specs.Fault.{NoneIs, IsRead};
 ghost use Rattle.guppy_metadata.specs.Members.{data_of, is_in_set, IsListOf, IsText};
+ghost use Rattle.guppy_metadata.specs.declared.package.Package.{Package};
 ghost use Rattle.guppy_metadata.specs.Package.{IsFrom, IsNamed, IsDescribed, IsFilled, IsTold, IsRecordOf, IsPublishable, IsRustVersion, AreTargets, AreDeclared, AreAlike, ArePositions, dots_in, zeros_behind, whole_version};
 
 use crate::declared::{Declared, declared_dependencies, optional_names};
@@ -60,7 +62,7 @@ impl Package<'_> {
 
 // The record of the package with what each package has, but for where it comes from.
 fn bare_record(json: Object<'_, '_>) -> Result<PackageRecord, Misfit>
-    ensures { IfOk result (IsNamed (data_of json.entry)) }
+    ensures { IsRead (IsNamed (data_of json.entry)) result }
 {
     let alloc = json.alloc;
     let version = version_of(alloc, "version", json.text("version")?)?;
@@ -76,7 +78,7 @@ fn bare_record(json: Object<'_, '_>) -> Result<PackageRecord, Misfit>
 }
 
 fn optional_path(json: Object<'_, '_>, name: &str) -> Result<Option<Utf8PathBuf>, Misfit>
-    ensures { IfOk result (IsText name.now (data_of json.entry)) }
+    ensures { IsRead (IsText name.now (data_of json.entry)) result }
 {
     match json.optional_copied_text(name)? {
         Some(path) => Ok(Some(Utf8PathBuf::new(path))),
@@ -87,6 +89,7 @@ fn optional_path(json: Object<'_, '_>, name: &str) -> Result<Option<Utf8PathBuf>
 // Fills in what is told of a package for people.
 fn describe(made: &mut PackageRecord, json: Object<'_, '_>) -> Result<(), Misfit>
     ensures described { OnOk result (IsDescribed (data_of json.entry) made.new) }
+    ensures refused { IfErr result (NoneIs (IsDescribed (data_of json.entry))) }
     ensures named { (d : Json) → IsNamed d made.old → IsNamed d made.new }
 {
     made.authors = json.copied_texts("authors")?;
@@ -103,7 +106,7 @@ fn describe(made: &mut PackageRecord, json: Object<'_, '_>) -> Result<(), Misfit
 }
 
 fn publish_of(json: Object<'_, '_>) -> Result<PackagePublishRecord, Misfit>
-    ensures { IfOk result (IsPublishable (data_of json.entry)) }
+    ensures { IsRead (IsPublishable (data_of json.entry)) result }
 {
     match json.optional("publish") {
         Some(_) => {
@@ -148,7 +151,7 @@ fn whole_version(alloc: Global, text: &str) -> Result<String, AllocError>
 }
 
 fn rust_version(json: Object<'_, '_>) -> Result<Option<Version>, Misfit>
-    ensures { IfOk result (IsRustVersion (data_of json.entry)) }
+    ensures { IsRead (IsRustVersion (data_of json.entry)) result }
 {
     let Some(text) = json.optional_text("rust_version")? else {
         return Ok(None);
@@ -166,6 +169,7 @@ fn fill(
     targets: Vec<BuildTargetRecord>,
 ) -> Result<(), Misfit>
     ensures filled { OnOk result (IsFilled (data_of json.entry) made.new) }
+    ensures refused { IfErr result (NoneIs (IsFilled (data_of json.entry))) }
     ensures targets { OnOk result (made.new.build_targets ≡ targets) }
     ensures optional { OnOk result (NamesOptional declared.now made.new.optional_deps) }
     ensures named { (d : Json) → IsNamed d made.old → IsNamed d made.new }
@@ -188,8 +192,7 @@ fn fill(
 
 // The record of the package, but for what is told of it for Cargo and where it comes from.
 fn described_record(json: Object<'_, '_>) -> Result<PackageRecord, Misfit>
-    ensures named { IfOk result (IsNamed (data_of json.entry)) }
-    ensures described { IfOk result (IsDescribed (data_of json.entry)) }
+    ensures { IsRead (λ made. IsNamed (data_of json.entry) made × IsDescribed (data_of json.entry) made) result }
 {
     let mut record = bare_record(json)?;
     describe(&mut record, json)?;
@@ -204,10 +207,12 @@ fn filled_package<'a>(
     declared: Vec<Declared<'a>>,
     targets: Vec<BuildTargetRecord>,
 ) -> Result<Package<'a>, Misfit>
-    ensures { IfOk result (λ made. (d : Json) → AreAlike (data_of json.entry) d
+    ensures told { IfOk result (λ made. (d : Json) → AreAlike (data_of json.entry) d
         → get (codes "id") (data_of json.entry) ≡ Some (string id.now)
         → IsNamed (data_of json.entry) described → IsDescribed (data_of json.entry) described
         → AreDeclared d declared.entry.items → AreTargets d targets.items → IsTold d made) }
+    ensures refused { IfErr result (NoneIs (λ (made : Package). IsText (codes "source") (data_of json.entry)
+        (option_copied made.source) × IsFilled (data_of json.entry) made.record)) }
 {
     let mut record = described;
     fill(&mut record, json, declared.as_slice(), targets)?;
@@ -235,7 +240,7 @@ pub(crate) fn package_with<'a>(
 
 /// The package that an object tells.
 pub(crate) fn package_of<'a>(json: Object<'_, 'a>) -> Result<Package<'a>, Misfit>
-    ensures { IfOk result (IsTold (data_of json.entry)) }
+    ensures { IsRead (IsTold (data_of json.entry)) result }
 {
     let alloc = json.alloc;
     let id = json.text("id")?;
@@ -251,7 +256,7 @@ pub(crate) fn package_at<'a>(
     index: usize,
     item: &Value<'a>,
 ) -> Result<Package<'a>, Misfit>
-    ensures { IfOk result (IsTold (value_view item.now)) }
+    ensures { IsRead (IsTold (value_view item.now)) result }
 {
     let json = Object::of_item(alloc, "packages", index, item)?;
     match package_of(json) {
@@ -262,7 +267,8 @@ pub(crate) fn package_at<'a>(
 
 /// The packages that the items of the list `packages` are.
 pub(crate) fn packages_of<'a>(alloc: Global, value: &Value<'a>) -> Result<Vec<Package<'a>>, Misfit>
-    ensures { IfOk result (λ packages. IsListOf IsTold (value_view value.now) packages.items) }
+    ensures { MatchResult result (λ packages. IsListOf IsTold (value_view value.now) packages.items)
+        (NoneIs (IsListOf IsTold (value_view value.now))) }
 {
     let Value::Array(items) = value else {
         return Err(Misfit::wrong_kind(alloc, "packages", Kind::List));

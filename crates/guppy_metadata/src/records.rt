@@ -1,21 +1,24 @@
 //! All records.
-ghost use Rattle.std.specs.Prelude.{◌≡◌, Some, IsSome, IsSomeAnd, IfSome, IfOk, OnOk, IfErr, None, codes};
-ghost use Rattle.json.specs.Json.{Json, document};
+ghost use Rattle.std.specs.Prelude.{◌≡◌, List, true, false, Some, IsSome, IsSomeAnd, IfSome, IfOk, OnOk, IfErr, MatchResult, None, map, codes};
+ghost use Rattle.json.specs.Json.{Json, document, array};
 ghost use Rattle.json.specs.Value.{value_view};
-ghost use Rattle.guppy_metadata.specs.Fault.{IsNotJson, IsNotResolved};
+ghost use Rattle.guppy_data.specs.declared.records.LinkRecord.{LinkRecord};
+ghost use Rattle.guppy_data.specs.declared.records.PackageRecord.{PackageRecord};
+ghost use Rattle.guppy_data.specs.declared.records.WorkspaceRecord.{WorkspaceRecord};
+ghost use Rattle.guppy_metadata.specs.Fault.{IsNotJson, IsNotResolved, IsOutOfMemory, NoneIs};
 ghost use Rattle.guppy_metadata.specs.Links.{AreLinks, AreLinksOfList, nodes_in};
 ghost use Rattle.guppy_metadata.specs.Members.{data_of, present};
-ghost use Rattle.guppy_metadata.specs.Package.{ArePackages, AreTold};
-ghost use Rattle.guppy_metadata.specs.Records.{AreRecords};
+ghost use Rattle.guppy_metadata.specs.Package.{ArePackages, ArePositions, AreTold, are_known};
+ghost use Rattle.guppy_metadata.specs.Records.{AreRecords, SaysNoRecords};
 ghost use Rattle.guppy_metadata.specs.Told.{Tells};
 ghost use Rattle.guppy_metadata.specs.Workspace.{IsWorkspace};
 
-use crate::fault::{MetadataFault, Misfit};
+use crate::fault::{MetadataFault, Misfit, TextFault};
 use crate::link::{Packages, links_of};
 use crate::object::Object;
 use crate::package::{Package, package_records, packages_of, positions_of};
 use crate::told::{Told, told_in};
-use crate::workspace::{check_members, member_ids, set_of, workspace_record};
+use crate::workspace::{member_ids, set_of, workspace_record};
 use guppy_data::{LinkRecord, Records};
 use json::{Error, MAX_DEPTH, Reader, Scratch, Value};
 use std::alloc::Global;
@@ -29,6 +32,7 @@ fn value_of<'a>(
     ensures json { IfOk result (λ value. document json.now ≡ Some (value_view value)) }
     ensures no_json { IfErr result (λ fault. IsNotJson fault → document json.now ≡ None) }
     ensures resolved { IfErr result (λ fault. ¬ IsNotResolved fault) }
+    ensures refused { IfErr result (λ fault. ¬ IsOutOfMemory fault → document json.now ≡ None) }
 {
     let mut reader = Reader::new(json, scratch)?;
     match Value::read(alloc, &mut reader, MAX_DEPTH) {
@@ -40,13 +44,31 @@ fn value_of<'a>(
 
 // The nodes of the resolved dependencies.
 fn nodes_of<'v, 'a>(metadata: Object<'v, 'a>) -> Result<&'v Value<'a>, Misfit>
-    ensures { IfOk result (λ nodes. nodes_in (data_of metadata.entry) ≡ Some (value_view nodes.now)) }
+    ensures { MatchResult result
+        (λ nodes. nodes_in (data_of metadata.entry) ≡ Some (value_view nodes.now))
+        (NoneIs (λ nodes. nodes_in (data_of metadata.entry) ≡ Some (array nodes))) }
 {
     let resolve = metadata.object("resolve")?;
     match resolve.list("nodes") {
         Ok(nodes) => Ok(nodes),
         Err(fault) => Err(fault.within(metadata.alloc, "resolve")),
     }
+}
+
+// Asks that each of these IDs is that of one of the packages.
+fn check_members(alloc: Global, members: &[&str], packages: Packages<'_, '_>) -> Result<(), Misfit>
+    requires { ArePositions packages.packages.now packages.positions.now }
+    ensures { MatchResult result
+        (λ _. are_known packages.entry.packages.now (map (λ id. id.now) members.now) ≡ true)
+        (λ _. are_known packages.entry.packages.now (map (λ id. id.now) members.now) ≡ false) }
+{
+    for (index, id) in members.iter().enumerate() {
+        if packages.with_id(id).is_none() {
+            let fault = Misfit::bad_text(alloc, "", TextFault::NoPackage);
+            return Err(fault.within_item(alloc, "workspace_members", index));
+        }
+    }
+    Ok(())
 }
 
 // The links of the nodes between the packages, of which each member is one.
@@ -56,14 +78,19 @@ fn links_between(
     members: &[&str],
     nodes: &Value<'_>,
 ) -> Result<Vec<LinkRecord>, Misfit>
-    ensures { IfOk result (λ links. AreLinksOfList packages.now (value_view nodes.now) links.items) }
+    ensures { MatchResult result
+        (λ links. (are_known packages.now (map (λ id. id.now) members.now) ≡ true)
+        × AreLinksOfList packages.now (value_view nodes.now) links.items)
+        (NoneIs (λ (links : List LinkRecord).
+        (are_known packages.now (map (λ id. id.now) members.now) ≡ true)
+        × AreLinksOfList packages.now (value_view nodes.now) links)) }
 {
     let positions = positions_of(alloc, packages)?;
-    check_members(alloc, members, &positions)?;
     let known = Packages {
         packages,
         positions: &positions,
     };
+    check_members(alloc, members, known)?;
     match links_of(alloc, known, nodes) {
         Ok(links) => Ok(links),
         Err(fault) => Err(fault.within(alloc, "resolve")),
@@ -72,14 +99,17 @@ fn links_between(
 
 // The packages that the JSON tells.
 fn packages_in<'a>(metadata: Object<'_, 'a>) -> Result<Vec<Package<'a>>, Misfit>
-    ensures { IfOk result (λ packages. AreTold (data_of metadata.entry) packages.items) }
+    ensures { MatchResult result
+        (λ packages. AreTold (data_of metadata.entry) packages.items)
+        (NoneIs (AreTold (data_of metadata.entry))) }
 {
     packages_of(metadata.alloc, metadata.required("packages")?)
 }
 
 // The records that are told, where nothing is missing or wrong.
 fn records_told(alloc: Global, told: Told<'_>) -> Option<Records>
-    ensures { IfSome result (λ r. (d : Json) → Tells d «told».entry → AreRecords d r) }
+    ensures { IfSome result (λ r. (d : Json) → Tells d «told».entry
+        → AreRecords d r.packages.items r.links.items r.workspace) }
 {
     let Told {
         packages,
@@ -96,7 +126,11 @@ fn records_told(alloc: Global, told: Told<'_>) -> Option<Records>
     let workspace = workspace_record(metadata).ok()?;
     let members = member_ids(metadata).ok()?;
     let positions = positions_of(alloc, packages.as_slice()).ok()?;
-    check_members(alloc, members.as_slice(), &positions).ok()?;
+    let known = Packages {
+        packages: packages.as_slice(),
+        positions: &positions,
+    };
+    check_members(alloc, members.as_slice(), known).ok()?;
     let members = set_of(alloc, members.as_slice()).ok()?;
     let packages = package_records(alloc, packages, &members, workspace.root.as_path()).ok()?;
     Some(Records {
@@ -109,7 +143,8 @@ fn records_told(alloc: Global, told: Told<'_>) -> Option<Records>
 // The records, of packages and nodes that are read item by item. There are none where these stand in another order
 // than Cargo prints them in, or something is missing or wrong.
 fn records_by_item(alloc: Global, json: &str, scratch: &mut Scratch) -> Option<Records>
-    ensures { IfSome result (λ r. IsSomeAnd (document json.now) (λ d. AreRecords d r)) }
+    ensures { IfSome result (λ r. IsSomeAnd (document json.now)
+        (λ d. AreRecords d r.packages.items r.links.items r.workspace)) }
 {
     let mut reader = Reader::new(json, scratch).ok()?;
     let told = told_in(alloc, &mut reader)?;
@@ -119,10 +154,12 @@ fn records_by_item(alloc: Global, json: &str, scratch: &mut Scratch) -> Option<R
     records_told(alloc, told)
 }
 
+// The records that the JSON says.
 fn records_in(metadata: Object<'_, '_>) -> Result<Records, Misfit>
-    ensures packages { IfOk result (λ r. ArePackages (data_of metadata.entry) r.packages.items) }
-    ensures links { IfOk result (λ r. AreLinks (data_of metadata.entry) r.links.items) }
-    ensures workspace { IfOk result (λ r. IsWorkspace (data_of metadata.entry) r.workspace) }
+    ensures { MatchResult result
+        (λ r. AreRecords (data_of metadata.entry) r.packages.items r.links.items r.workspace)
+        (NoneIs (λ (said : List PackageRecord × List LinkRecord × WorkspaceRecord).
+        AreRecords (data_of metadata.entry) said.0 said.1 said.2)) }
 {
     let alloc = metadata.alloc;
     let nodes = nodes_of(metadata)?;
@@ -161,6 +198,7 @@ pub fn records_of(alloc: Global, json: &str) -> Result<Records, MetadataFault>
     ensures no_json { IfErr result (λ fault. IsNotJson fault → document json.now ≡ None) }
     ensures not_resolved { IfErr result (λ fault. IsNotResolved fault
         → IsSomeAnd (document json.now) (λ d. present (codes "resolve") d ≡ None)) }
+    ensures refused { IfErr result (λ fault. ¬ IsOutOfMemory fault → SaysNoRecords json.now) }
 {
     let mut scratch = Scratch::new(alloc);
     if let Some(records) = records_by_item(alloc, json, &mut scratch) {

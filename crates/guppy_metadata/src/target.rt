@@ -1,7 +1,8 @@
 //! Build targets.
-ghost use Rattle.std.specs.Prelude.{◌≡◌, ◌∷◌, ℕ, List, Some, IfOk, IfSome, map, option_map, string_bytes, codes};
+ghost use Rattle.std.specs.Prelude.{◌≡◌, ◌∷◌, ℕ, List, Some, IfSome, MatchResult, map, option_map, string_bytes, codes};
 ghost use Rattle.json.specs.Json.{Json, value};
 ghost use Rattle.json.specs.Value.{value_view};
+ghost use Rattle.guppy_metadata.specs.Fault.{NoneIs, IsRead};
 ghost use Rattle.guppy_metadata.specs.Members.{data_of, is_among, AreTexts, IsListOf};
 ghost use Rattle.guppy_metadata.specs.Target.{IsTargetId, IsLibraryOf, IsTargetKind, IsTarget};
 
@@ -66,8 +67,9 @@ fn kind_of(id: &OwnedBuildTargetId, crate_types: Vec<String>) -> BuildTargetKind
 
 // The first of the target's kinds; a library has one for each of its crate types.
 fn first_kind<'a>(target: Object<'_, 'a>) -> Result<&'a str, Misfit>
-    ensures { IfOk result (λ kind. (others : List (List ℕ))
-        × AreTexts (codes "kind") (data_of target.entry) (kind.now ∷ others)) }
+    ensures { MatchResult result (λ kind. (others : List (List ℕ))
+        × AreTexts (codes "kind") (data_of target.entry) (kind.now ∷ others))
+        (NoneIs (λ (kinds : List ℕ × List (List ℕ)). AreTexts (codes "kind") (data_of target.entry) (kinds.0 ∷ kinds.1))) }
 {
     let kinds = target.texts("kind")?;
     match kinds.first() {
@@ -77,7 +79,7 @@ fn first_kind<'a>(target: Object<'_, 'a>) -> Result<&'a str, Misfit>
 }
 
 fn build_target(target: Object<'_, '_>) -> Result<BuildTargetRecord, Misfit>
-    ensures { IfOk result (IsTarget (data_of target.entry)) }
+    ensures { IsRead (IsTarget (data_of target.entry)) result }
 {
     let name = target.copied_text("name")?;
     let (id, lib_name) = id_of(first_kind(target)?, name);
@@ -100,7 +102,8 @@ pub(crate) fn build_targets(
     alloc: Global,
     value: &Value<'_>,
 ) -> Result<Vec<BuildTargetRecord>, Misfit>
-    ensures { IfOk result (λ targets. IsListOf IsTarget (value_view value.now) targets.items) }
+    ensures { MatchResult result (λ targets. IsListOf IsTarget (value_view value.now) targets.items)
+        (NoneIs (IsListOf IsTarget (value_view value.now))) }
 {
     let Value::Array(items) = value else {
         return Err(Misfit::wrong_kind(alloc, "targets", Kind::List));

@@ -1,14 +1,15 @@
 //! The workspace and its members.
-ghost use Rattle.std.specs.Prelude.{◌≡◌, ℕ, List, IfOk, Some, map, codes};
+ghost use Rattle.std.specs.Prelude.{◌≡◌, ℕ, List, Option, IfOk, MatchResult, Some, map, codes};
 ghost use Rattle.json.specs.Json.{string};
 ghost use Rattle.json.specs.Find.{get};
+ghost use Rattle.guppy_metadata.specs.Fault.{NoneIs, IsRead};
 ghost use Rattle.guppy_metadata.specs.Members.{data_of, list_of, is_among, is_in_set};
 ghost use Rattle.guppy_metadata.specs.Workspace.{IsBuildDirectory, IsWorkspace};
 
-use crate::fault::{Misfit, TextFault};
+use crate::fault::Misfit;
 use crate::object::{Object, texts_of};
 use guppy_data::{PackageId, Utf8PathBuf, WorkspaceRecord};
-use indexmap::{IndexMap, IndexSet};
+use indexmap::IndexSet;
 use std::alloc::{AllocError, Global};
 
 // The IDs that these texts are.
@@ -24,9 +25,11 @@ fn ids_of(alloc: Global, texts: &[&str]) -> Result<Vec<PackageId>, AllocError>
 
 // The path that Cargo builds on its way into, where it is another one than the target directory.
 fn build_directory(metadata: Object<'_, '_>) -> Result<Option<Utf8PathBuf>, Misfit>
-    ensures { IfOk result (λ path. (target : List ℕ)
+    ensures { MatchResult result (λ path. (target : List ℕ)
         → get (codes "target_directory") (data_of metadata.entry) ≡ Some (string target)
-        → IsBuildDirectory (data_of metadata.entry) target path) }
+        → IsBuildDirectory (data_of metadata.entry) target path)
+        (NoneIs (λ (made : List ℕ × Option (List ℕ)). (get (codes "target_directory") (data_of metadata.entry) ≡ Some (string made.0))
+        × IsBuildDirectory (data_of metadata.entry) made.0 made.1)) }
 {
     let Some(path) = metadata.optional_text("build_directory")? else {
         return Ok(None);
@@ -40,7 +43,7 @@ fn build_directory(metadata: Object<'_, '_>) -> Result<Option<Utf8PathBuf>, Misf
 
 /// The record of the workspace.
 pub(crate) fn workspace_record(metadata: Object<'_, '_>) -> Result<WorkspaceRecord, Misfit>
-    ensures { IfOk result (IsWorkspace (data_of metadata.entry)) }
+    ensures { IsRead (IsWorkspace (data_of metadata.entry)) result }
 {
     let alloc = metadata.alloc;
     let root = Utf8PathBuf::new(metadata.copied_text("workspace_root")?);
@@ -55,8 +58,9 @@ pub(crate) fn workspace_record(metadata: Object<'_, '_>) -> Result<WorkspaceReco
 
 /// The IDs of the workspace's members.
 pub(crate) fn member_ids<'a>(metadata: Object<'_, 'a>) -> Result<Vec<&'a str>, Misfit>
-    ensures { IfOk result (λ ids. get (codes "workspace_members") (data_of metadata.entry)
-        ≡ Some (list_of (map (λ id. id.now) ids.items))) }
+    ensures { MatchResult result (λ ids. get (codes "workspace_members") (data_of metadata.entry)
+        ≡ Some (list_of (map (λ id. id.now) ids.items)))
+        (NoneIs (λ ids. get (codes "workspace_members") (data_of metadata.entry) ≡ Some (list_of ids))) }
 {
     let value = metadata.required("workspace_members")?;
     texts_of(metadata.alloc, "workspace_members", value)
@@ -72,19 +76,4 @@ pub(crate) fn set_of<'a>(alloc: Global, ids: &[&'a str]) -> Result<IndexSet<&'a 
         set.insert(*id)?;
     }
     Ok(set)
-}
-
-/// Asks that each member is one of the packages, whose positions stand behind their IDs.
-pub(crate) fn check_members(
-    alloc: Global,
-    members: &[&str],
-    positions: &IndexMap<&str, usize>,
-) -> Result<(), Misfit> {
-    for (index, id) in members.iter().enumerate() {
-        if !positions.contains_key(*id) {
-            let fault = Misfit::bad_text(alloc, "", TextFault::NoPackage);
-            return Err(fault.within_item(alloc, "workspace_members", index));
-        }
-    }
-    Ok(())
 }

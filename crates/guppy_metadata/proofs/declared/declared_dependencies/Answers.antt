@@ -1,10 +1,34 @@
-use Rattle.std.proofs.Common.{subst}
+use Rattle.std.proofs.Common.{subst, codes, arith}
+use Rattle.json.specs.Json.{string}
 use Rattle.json.specs.Value.{value_view}
 use Rattle.guppy_metadata.specs.Dependency.{IsDeclared}
-use Rattle.guppy_metadata.proofs.FittingLists.{next_fits}
+use Rattle.guppy_metadata.specs.Fault.{NoneIs}
+use Rattle.guppy_metadata.proofs.FittingLists.{next_fits, whole_list}
+use Rattle.guppy_metadata.proofs.Refused.{failed, lacking, no_member}
+use Rattle.guppy_metadata.proofs.WrongItems.{item_refused}
 use Rattle.guppy_metadata.proofs.declared.declared_dependencies.Goals as goal
 
 pub loop-index-preserved : goal.loop-index-preserved
 loop-index-preserved c =
     let is : IsDeclared (value_view c.item-item.result) c.in-Ok.dependency = subst (λ d. IsDeclared d c.in-Ok.dependency) c.in_ok-dependency.ensures c.in-Ok.ensures in
     rw c.in_ok-push-in-Ok.ensures.items (next_fits IsDeclared value_view c.deref-item-items.result.now c.loop-index.index _ _ _ _ c.loop-index-test.true c.item-item.is c.loop-index.invariant is)
+
+pub returns-in_err-dependency : goal.returns-in_err-dependency
+returns-in_err-dependency c =
+    let item = c.item-item.result in
+    failed _ _ _ _ c.from_residual-in_err-dependency.ensures (λ e is.
+    item_refused c.args.value.now c.in-Array.items c.deref-item-items.result.now c.in-Array.is c.deref-item-items.ensures.value c.loop-index.index item _ c.loop-index-test.true c.item-item.is e e (λ lacks. lacks)
+    IsDeclared (no_member (IsDeclared (value_view item)) (value_view item) (codes "name") e c.in_err-dependency.ensures (λ x holds. (string x.name.now, holds.name))))
+
+pub returns-in_err-push-in-Ok : goal.returns-in_err-push-in-Ok
+returns-in_err-push-in-Ok c =
+    failed _ _ _ _ c.from_residual-in_err-push-in-Ok.ensures (λ e is. lacking _ e is)
+
+pub returns-in-Err : goal.returns-in-Err
+returns-in-Err c =
+    let none : NoneIs (IsDeclared (value_view c.item-item.result)) c.in-Err.fault = subst (λ d. NoneIs (IsDeclared d) c.in-Err.fault) c.in_ok-dependency.ensures c.in-Err.ensures in
+    item_refused c.args.value.now c.in-Array.items c.deref-item-items.result.now c.in-Array.is c.deref-item-items.ensures.value c.loop-index.index _ _ c.loop-index-test.true c.item-item.is c.within_item.result c.in-Err.fault c.within_item.ensures IsDeclared none
+
+pub returns : goal.returns
+returns c =
+    whole_list IsDeclared c.args.value.now c.in-Array.items c.deref-item-items.result.now c.loop-index.index c.loop-index.declared.items c.in-Array.is c.deref-item-items.ensures.value (let past = c.loop-index-test.false in omega arith) c.loop-index.invariant

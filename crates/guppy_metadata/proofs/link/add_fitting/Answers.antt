@@ -1,4 +1,4 @@
-use Rattle.std.proofs.Common.{◌≡◌, ◌∙◌, ℕ, true, sym, arith}
+use Rattle.std.proofs.Common.{◌≡◌, ◌∙◌, true, sym, arith}
 use Rattle.guppy_metadata.specs.Fits.{fits}
 use Rattle.guppy_metadata.proofs.FittingLists.{first_picked, picked_more, passed_over}
 use Rattle.guppy_metadata.proofs.link.add_fitting.Goals.{then-index-eq0+in_ok-add_declared, then-index-eq0-via-then-index-eq0, then-index-eq0-via-else-index-eq0+then-fits, else-index-eq0+else-fits}

@@ -1,5 +1,6 @@
-use Rattle.std.proofs.Common.{◌≡◌, ◌∙◌, [], true, filter, map, sym, ap, subst}
+use Rattle.std.proofs.Common.{◌≡◌, ◌∙◌, [], false, true, filter, map, sym, ap, subst}
 use Rattle.std.specs.Prelude.{is_ok}
+use Rattle.std.proofs.lemmas.Bool.{false≢true}
 use Rattle.semver.specs.Identifiers.{comparator_view}
 use Rattle.guppy_metadata.specs.Fits.{fits, are_matched}
 use Rattle.guppy_metadata.specs.Gathered.{IsGathered, IsNamedAs, IsLinkOf}
@@ -52,3 +53,16 @@ returns-clause-matched c =
     let whole : filter (fits from resolved needed) rest ≡ filter (fits from resolved needed) all = c.from_first_fitting-declared.ensures.all ∙ ap (filter (fits from resolved needed)) c.as_slice.ensures.value in
     let matched : are_matched from resolved needed rest usages ≡ true = sym c.if-not-are_matched.ensures in
     subst (λ us. are_matched from resolved needed all us ≡ true) c.as_slice-usages.ensures.value (sym (matched_alike from resolved needed rest all whole usages) ∙ matched)
+
+pub returns-then-not-are_matched-clause-refused : goal.returns-then-not-are_matched-clause-refused
+returns-then-not-are_matched-clause-refused c other link asked =
+    let from = c.args.from.now in
+    let resolved = c.args.resolved.now in
+    let needed = c.args.needed.now.record in
+    let rest = c.from_first_fitting-declared.result.now in
+    let all = c.args.asking.now.declared.items in
+    let usages = c.as_slice-usages.result.now in
+    let whole : filter (fits from resolved needed) rest ≡ filter (fits from resolved needed) all = c.from_first_fitting-declared.ensures.all ∙ ap (filter (fits from resolved needed)) c.as_slice.ensures.value in
+    let unmatched : are_matched from resolved needed rest usages ≡ false = sym c.if-not-are_matched.ensures in
+    let matched : are_matched from resolved needed all usages ≡ true = subst (λ us. are_matched from resolved needed all us ≡ true) (sym c.as_slice-usages.ensures.value) asked.1 in
+    false≢true (sym unmatched ∙ (matched_alike from resolved needed rest all whole usages ∙ matched))

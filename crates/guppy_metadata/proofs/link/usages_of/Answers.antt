@@ -1,10 +1,23 @@
-use Rattle.std.proofs.Common.{subst}
+use Rattle.std.proofs.Common.{arith}
 use Rattle.json.specs.Value.{value_view}
 use Rattle.guppy_metadata.specs.Links.{IsUsage}
-use Rattle.guppy_metadata.proofs.FittingLists.{next_fits}
+use Rattle.guppy_metadata.proofs.FittingLists.{next_fits, whole_list}
+use Rattle.guppy_metadata.proofs.Refused.{failed, lacking}
+use Rattle.guppy_metadata.proofs.WrongItems.{item_refused}
 use Rattle.guppy_metadata.proofs.link.usages_of.Goals as goal
 
 pub loop-index-preserved : goal.loop-index-preserved
 loop-index-preserved c =
-    let is : IsUsage (value_view c.item-item.result) c.in-Ok.usage = subst (λ d. IsUsage d c.in-Ok.usage) c.in_ok-usage.ensures c.in-Ok.ensures in
-    rw c.in_ok-push-in-Ok.ensures.items (next_fits IsUsage value_view c.deref-item-items.result.now c.loop-index.index _ _ _ _ c.loop-index-test.true c.item-item.is c.loop-index.invariant is)
+    rw c.in_ok-push-in-Ok.ensures.items (next_fits IsUsage value_view c.deref-item-items.result.now c.loop-index.index _ _ _ _ c.loop-index-test.true c.item-item.is c.loop-index.invariant c.in-Ok.ensures)
+
+pub returns-in_err-push-in-Ok : goal.returns-in_err-push-in-Ok
+returns-in_err-push-in-Ok c =
+    failed _ _ _ _ c.from_residual-in_err-push-in-Ok.ensures (λ e is. lacking _ e is)
+
+pub returns-in-Err : goal.returns-in-Err
+returns-in-Err c =
+    item_refused c.args.value.now c.in-Array.items c.deref-item-items.result.now c.in-Array.is c.deref-item-items.ensures.value c.loop-index.index _ _ c.loop-index-test.true c.item-item.is c.within_item.result c.in-Err.fault c.within_item.ensures IsUsage c.in-Err.ensures
+
+pub returns : goal.returns
+returns c =
+    whole_list IsUsage c.args.value.now c.in-Array.items c.deref-item-items.result.now c.loop-index.index c.loop-index.usages.items c.in-Array.is c.deref-item-items.ensures.value (let past = c.loop-index-test.false in omega arith) c.loop-index.invariant

@@ -1,20 +1,25 @@
-use Rattle.std.proofs.Common.{◌∙◌, ap, sym, map, arith}
-use Rattle.std.proofs.lemmas.List.{take_all}
-use Rattle.json.specs.Json.{array}
-use Rattle.json.specs.Value.{value_view, items_view}
-use Rattle.json.proofs.Trees.{view-Array}
+use Rattle.std.proofs.Common.{sym, subst, arith}
+use Rattle.json.specs.Value.{value_view}
+use Rattle.guppy_metadata.specs.Fault.{LacksMemory}
 use Rattle.guppy_metadata.specs.Package.{IsTold}
-use Rattle.guppy_metadata.proofs.FittingLists.{next_fits}
+use Rattle.guppy_metadata.proofs.FittingLists.{next_fits, whole_list}
+use Rattle.guppy_metadata.proofs.Refused.{failed, lacking}
+use Rattle.guppy_metadata.proofs.WrongItems.{item_refused}
 use Rattle.guppy_metadata.proofs.package.packages_of.Goals as goal
 
 pub loop-index-preserved : goal.loop-index-preserved
 loop-index-preserved c =
     rw c.in_ok-push.ensures.items (next_fits IsTold value_view c.deref-item-items.result.now c.loop-index.index _ _ _ _ c.loop-index-test.true c.item-item.is c.loop-index.invariant c.in_ok-package_at.ensures)
 
+pub returns-in_err-package_at : goal.returns-in_err-package_at
+returns-in_err-package_at c =
+    failed _ _ _ _ c.from_residual-in_err-package_at.ensures (λ e is.
+    item_refused c.args.value.now c.in-Array.items c.deref-item-items.result.now c.in-Array.is c.deref-item-items.ensures.value c.loop-index.index _ _ c.loop-index-test.true c.item-item.is e _ (λ lacks. subst LacksMemory (sym is) lacks) IsTold c.in_err-package_at.ensures)
+
+pub returns-in_err-push : goal.returns-in_err-push
+returns-in_err-push c =
+    failed _ _ _ _ c.from_residual-in_err-push.ensures (λ e is. lacking _ e is)
+
 pub returns : goal.returns
 returns c =
-    let items = c.deref-item-items.result.now in (
-      map value_view items,
-      ap value_view c.in-Array.is ∙ view-Array c.in-Array.items ∙ ap (λ vs. array (items_view vs)) (sym c.deref-item-items.ensures.value),
-      rw (take_all c.loop-index.index items (let past = c.loop-index-test.false in omega arith)) at c.loop-index.invariant,
-    )
+    whole_list IsTold c.args.value.now c.in-Array.items c.deref-item-items.result.now c.loop-index.index c.loop-index.packages.items c.in-Array.is c.deref-item-items.ensures.value (let past = c.loop-index-test.false in omega arith) c.loop-index.invariant
