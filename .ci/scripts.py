@@ -356,8 +356,11 @@ def tell(part, tried):
 
 
 def main():
-    # A shell that starts this in the background has it, and all below it, ignore interrupts.
+    # A shell that starts this in the background has it, and all below it, ignore interrupts, and nohup has it ignore
+    # hangups. What a script handles, those that it starts don't ignore.
     signal.signal(signal.SIGINT, signal.default_int_handler)
+    if signal.getsignal(signal.SIGHUP) == signal.SIG_IGN:
+        signal.signal(signal.SIGHUP, lambda number, frame: None)
     with ThreadPoolExecutor(4) as workers:
         passed = [tell(*it) for it in workers.map(tried_in, sys.argv[1:] or PARTS)]
     print(f"{passed.count(True)} passed, {passed.count(False)} failed")
