@@ -31,6 +31,20 @@ pub record IsSame (x y : Declared) : Type 0 where
   pub registry : option_copied x.registry ≡ option_copied y.registry
   pub path : option_copied x.path ≡ option_copied y.path
 
+pub same_itself : (x : Declared) → IsSame x x
+same_itself x = record {
+  name = refl;
+  rename = refl;
+  requirement = refl;
+  section = refl;
+  target = refl;
+  optional = refl;
+  default_features = refl;
+  features = refl;
+  registry = refl;
+  path = refl;
+}
+
 -- one JSON declares the same
 pub declared_once : (d : Json) (x y : Declared) → IsDeclared d x → IsDeclared d y → IsSame x y
 declared_once d x y is also = record {

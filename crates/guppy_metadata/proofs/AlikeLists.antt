@@ -3,7 +3,7 @@ use Rattle.std.proofs.Common.{◌≡◌, ◌∙◌, Bool, true, false, ◌&&◌,
 use Rattle.std.specs.List.{AllZip, flat_map, last_or, list_any, list_all}
 use Rattle.json.specs.Json.{Json}
 use Rattle.guppy_metadata.specs.Members.{IsListOf}
-use Rattle.guppy_metadata.proofs.WrongItems.{items_once}
+use Rattle.guppy_metadata.proofs.OnceTold.{items_once}
 
 -- what fits the same items is alike
 both_fit : {J A B : Type 0} (P : J → A → Type 0) (Q : J → B → Type 0) (R : A → B → Type 0) → ((j : J) (x : A) (y : B) → P j x → Q j y → R x y)
@@ -28,6 +28,11 @@ fits_too P Q implies [] [] all = tt
 fits_too P Q implies [] (y ∷ ys) all = absurd all
 fits_too P Q implies (x ∷ xs) [] all = absurd all
 fits_too P Q implies (x ∷ xs) (y ∷ ys) all = (implies x y all.0, fits_too P Q implies xs ys all.1)
+
+-- what is alike to itself
+pub each_itself : {A : Type 0} (R : A → A → Type 0) → ((x : A) → R x x) → (xs : List A) → AllZip R xs xs
+each_itself R itself [] = tt
+each_itself R itself (x ∷ xs) = (itself x, each_itself R itself xs)
 
 -- where the one is there the other is too, and is alike
 abbrev pub OptionsFit : {A B : Type 0} → (A → B → Type 0) → Option A → Option B → Type 0
@@ -70,13 +75,14 @@ module _ {A B : Type 0} (R : A → B → Type 0) where
     any_passes_alike (x ∷ xs) [] all = absurd all
     any_passes_alike (x ∷ xs) (y ∷ ys) all = ap (λ b. b || list_any p xs) (same x y all.0) ∙ ap (λ b. q y || b) (any_passes_alike xs ys all.1)
 
+    pub all_pass_alike : (xs : List A) (ys : List B) → AllZip R xs ys → list_all p xs ≡ list_all q ys
+    all_pass_alike [] [] all = refl
+    all_pass_alike [] (y ∷ ys) all = absurd all
+    all_pass_alike (x ∷ xs) [] all = absurd all
+    all_pass_alike (x ∷ xs) (y ∷ ys) all = ap (λ b. b && list_all p xs) (same x y all.0) ∙ ap (λ b. q y && b) (all_pass_alike xs ys all.1)
+
   pub last_alike : (o : Option A) (u : Option B) (xs : List A) (ys : List B) → OptionsFit R o u → AllZip R xs ys → OptionsFit R (last_or o xs) (last_or u ys)
   last_alike o u [] [] these all = these
   last_alike o u [] (y ∷ ys) these all = absurd all
   last_alike o u (x ∷ xs) [] these all = absurd all
   last_alike o u (x ∷ xs) (y ∷ ys) these all = last_alike (Some x) (Some y) xs ys all.0 all.1
-
--- all of the items pass one test as they pass another
-pub all_alike : {A : Type 0} (p q : A → Bool) → ((x : A) → p x ≡ q x) → (xs : List A) → list_all p xs ≡ list_all q xs
-all_alike p q same [] = refl
-all_alike p q same (x ∷ xs) = ap (λ b. b && list_all p xs) (same x) ∙ ap (λ b. q x && b) (all_alike p q same xs)

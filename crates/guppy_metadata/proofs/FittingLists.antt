@@ -1,5 +1,5 @@
 -- Lists whose items fit place by place, made item by item.
-use Rattle.std.proofs.Common.{◌≡◌, ◌∙◌, ℕ, ◌+◌, ◌<◌, ◌≤◌, Bool, true, false, List, [], ◌∷◌, ◌++◌, filter, map, take, length, get_or, slice_get, IfSome, Vec, refl, sym, ap, subst}
+use Rattle.std.proofs.Common.{◌≡◌, ◌∙◌, ℕ, ◌+◌, ◌<◌, ◌≤◌, Bool, true, false, List, [], ◌∷◌, ◌++◌, filter, map, take, length, get_or, slice_get, Option, Some, IfSome, IsSomeAnd, refl, sym, ap, subst}
 use Rattle.std.specs.List.{AllZip}
 use Rattle.std.proofs.lemmas.List.{map_push, take_more, take_all}
 use Rattle.std.proofs.lemmas.Option.{slice_get_read}
@@ -7,8 +7,6 @@ use Rattle.indexmap.proofs.SetLemmas.{AllZip-push, filter_keep, filter_skip}
 use Rattle.json.specs.Json.{Json, array}
 use Rattle.json.specs.Value.{items_of, value_view}
 use Rattle.json.specs.declared.value.Value.{Value}
-use Rattle.json.specs.declared.value.Value.TheVariants.{Array}
-use Rattle.json.proofs.Trees.{view-Array}
 use Rattle.guppy_metadata.specs.Members.{IsListOf}
 
 -- the first items and the next one
@@ -41,11 +39,8 @@ pub first_picked : {A : Type 0} (p : A → Bool) (items : List A) (k : ℕ) (ite
 first_picked p items k item low is zero picks =
     subst (λ o. IfSome o (λ first. p first ≡ true)) (slice_get_read items (length items) 0 item refl (subst (λ i. i < length items) zero low) (subst (λ i. item ≡ get_or items i item) zero is)) picks
 
--- a list in memory, of which each item was looked at, is the list of what fits its items
-pub whole_list : {A X : Type 0} (R : Json → X → Type 0) (value : Value A) (v : Vec (Value A) A) (items : List (Value A)) (k : ℕ) (xs : List X) → value ≡ Array v → items ≡ v.items → length items ≤ k
-    → AllZip R (map value_view (take k items)) xs → IsListOf R (value_view value) xs
-whole_list R value v items k xs is_list are past fit = (
-  map value_view items,
-  ap value_view is_list ∙ (view-Array v ∙ ap (λ vs. array (items_of (map value_view vs))) (sym are)),
-  rw (take_all k items past) at fit,
-)
+-- a list that is told, of which each item was looked at, is that of what fits its items
+pub whole_list : {A X : Type 0} (R : Json → X → Type 0) (told : Option Json) (all items : List (Value A)) → told ≡ Some (array (items_of (map value_view all))) → items ≡ all
+    → (k : ℕ) (xs : List X) → length items ≤ k → AllZip R (map value_view (take k items)) xs → IsSomeAnd told (λ list. IsListOf R list xs)
+whole_list R told all items list_is are k xs past fit =
+    subst (λ o. IsSomeAnd o (λ list. IsListOf R list xs)) (sym (list_is ∙ ap (λ vs. Some (array (items_of (map value_view vs)))) (sym are))) (map value_view items, refl, rw (take_all k items past) at fit)

@@ -35,7 +35,7 @@ some_copied None = refl
 some_copied (Some b) = refl
 
 -- a package has this ID where it is one of the packages' IDs
-pub known_by_id : (id : List ℕ) (packages : List Package) → is_some (with_id id packages) ≡ is_among (map (λ p. p.id.now) packages) id
+known_by_id : (id : List ℕ) (packages : List Package) → is_some (with_id id packages) ≡ is_among (map (λ p. p.id.now) packages) id
 known_by_id id packages = last_found (λ p. bytes_eq p.id.now id) None packages ∙ named_alike id packages
 
 -- whether the package that was looked up is there says whether the ID is known

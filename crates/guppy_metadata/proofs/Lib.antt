@@ -8,6 +8,7 @@ pub mod KnownMembers
 pub mod MatchedDependencies
 pub mod Nodes
 pub mod Objects
+pub mod Options
 pub mod Packages
 pub mod Paths
 pub mod Refused

@@ -25,13 +25,23 @@ module _ {A : Type 0} (p : A → Bool) where
         by false true picks passes behind = rw (picks, passes) behind
         by false false picks passes behind = rw (picks, passes) behind
 
-    pub any_alike : (xs ys : List A) → filter p xs ≡ filter p ys → list_any (λ x. q x && p x) xs ≡ list_any (λ x. q x && p x) ys
+    any_alike : (xs ys : List A) → filter p xs ≡ filter p ys → list_any (λ x. q x && p x) xs ≡ list_any (λ x. q x && p x) ys
     any_alike xs ys same = any_picked xs ∙ (ap (list_any q) same ∙ sym (any_picked ys))
 
 -- usages are matched alike where the same dependencies were resolved so
-pub matched_alike : (from : List ℕ) (resolved : Resolved) (needed : PackageRecord) (xs ys : List Declared) → filter (fits from resolved needed) xs ≡ filter (fits from resolved needed) ys
+matched_alike : (from : List ℕ) (resolved : Resolved) (needed : PackageRecord) (xs ys : List Declared) → filter (fits from resolved needed) xs ≡ filter (fits from resolved needed) ys
     → (usages : List Usage) → are_matched from resolved needed xs usages ≡ are_matched from resolved needed ys usages
 matched_alike from resolved needed xs ys same [] = refl
 matched_alike from resolved needed xs ys same (usage ∷ usages) =
     ap (λ b. b && are_matched from resolved needed xs usages) (any_alike (fits from resolved needed) (λ x. same_usage x usage) xs ys same)
     ∙ ap (λ b. is_matched from resolved needed ys usage && b) (matched_alike from resolved needed xs ys same usages)
+
+-- the dependencies from the first on that was resolved so
+module _ (from : List ℕ) (resolved : Resolved) (needed : PackageRecord) (rest given all : List Declared)
+    (picked : filter (fits from resolved needed) rest ≡ filter (fits from resolved needed) given) (are : given ≡ all) where
+  pub whole : filter (fits from resolved needed) rest ≡ filter (fits from resolved needed) all
+  whole = picked ∙ ap (filter (fits from resolved needed)) are
+
+  -- match the usages that all match
+  pub matched_whole : (usages own : List Usage) → usages ≡ own → are_matched from resolved needed rest usages ≡ are_matched from resolved needed all own
+  matched_whole usages own same = matched_alike from resolved needed rest all whole usages ∙ ap (are_matched from resolved needed all) same

@@ -1,5 +1,5 @@
 -- What is told by an object, where a member is put behind its others.
-use Rattle.std.proofs.Common.{◌≡◌, ◌≢◌, ◌⊎◌, ◌∙◌, ℕ, false, true, cond, List, [], map, Option, None, Some, IfSome, IsSomeAnd, option_and_then, refl, sym, ap, subst, codes}
+use Rattle.std.proofs.Common.{◌≡◌, ◌≢◌, ◌⊎◌, ◌∙◌, ℕ, false, true, cond, List, [], map, Option, None, Some, IsSomeAnd, option_and_then, refl, sym, ap, subst, codes}
 use Rattle.std.specs.Prelude.{unwrap_or}
 use Rattle.std.specs.Str.{bytes_eq}
 use Rattle.json.specs.Json.{Json, null, string, array}
@@ -15,10 +15,6 @@ use Rattle.guppy_metadata.specs.Package.{IsTold, AreTold}
 use Rattle.guppy_metadata.specs.Table.{IsTable}
 use Rattle.guppy_metadata.specs.Told.{IsWith, IsOther}
 use Rattle.guppy_metadata.specs.Workspace.{IsBuildDirectory, IsWorkspace}
-
-pub if_some : {A : Type 0} {P Q : A → Type 0} (o : Option A) → ((a : A) → P a → Q a) → IfSome o P → IfSome o Q
-if_some None implies holds = tt
-if_some (Some a) implies holds = implies a holds
 
 module _ (d e : Json) where
   pub told_alike : (packages : List Package) → get (codes "packages") d ≡ get (codes "packages") e → AreTold d packages → AreTold e packages

@@ -12,7 +12,7 @@ use Rattle.semver.proofs.Numerals.{ok-value}
 use Rattle.guppy_data.specs.declared.texts.dependency_kind.DependencyKind.{DependencyKind}
 use Rattle.guppy_data.specs.declared.texts.dependency_kind.DependencyKind.TheVariants.{Normal, Development, Build}
 use Rattle.guppy_metadata.specs.Dependency.{NamesSection, NamesRequirement}
-use Rattle.guppy_metadata.specs.Members.{present, IsText, IsTruth, AreTexts, list_of}
+use Rattle.guppy_metadata.specs.Members.{present, unless_null, IsText, IsTruth, AreItems, AreTexts, list_of}
 
 abbrev text_in : Json → List ℕ
 text_in j = unwrap_or (as_str j) []
@@ -34,22 +34,30 @@ truth_of default (Some (string s)) = default
 truth_of default (Some (array js)) = default
 truth_of default (Some (object ms)) = default
 
-abbrev texts_listed : Items → List (List ℕ)
-texts_listed no_items = []
-texts_listed (item j js) = text_in j ∷ texts_listed js
+abbrev listed : Items → List Json
+listed no_items = []
+listed (item j js) = j ∷ listed js
 
-abbrev texts_of : Option Json → List (List ℕ)
-texts_of None = []
-texts_of (Some null) = []
-texts_of (Some (boolean truth)) = []
-texts_of (Some (number n)) = []
-texts_of (Some (string s)) = []
-texts_of (Some (array js)) = texts_listed js
-texts_of (Some (object ms)) = []
+abbrev items_in : Option Json → List Json
+items_in None = []
+items_in (Some null) = []
+items_in (Some (boolean truth)) = []
+items_in (Some (number n)) = []
+items_in (Some (string s)) = []
+items_in (Some (array js)) = listed js
+items_in (Some (object ms)) = []
 
-listed_back : (texts : List (List ℕ)) → texts_listed (items_of (map string texts)) ≡ texts
-listed_back [] = refl
-listed_back (text ∷ texts) = ap (λ ts. text ∷ ts) (listed_back texts)
+items_back : (js : List Json) → listed (items_of js) ≡ js
+items_back [] = refl
+items_back (j ∷ js) = ap (λ js. j ∷ js) (items_back js)
+
+texts_back : (texts : List (List ℕ)) → map text_in (map string texts) ≡ texts
+texts_back [] = refl
+texts_back (text ∷ texts) = ap (λ ts. text ∷ ts) (texts_back texts)
+
+-- a list has its items alone
+pub items_once : (xs ys : List Json) → array (items_of xs) ≡ array (items_of ys) → xs ≡ ys
+items_once xs ys same = sym (items_back xs) ∙ (ap (λ j. items_in (Some j)) same ∙ items_back ys)
 
 abbrev section_of : Option (List ℕ) → DependencyKind
 section_of None = Normal
@@ -72,17 +80,20 @@ module _ (d : Json) where
   pub truth_once : (name : List ℕ) (default truth other : Bool) → IsTruth name d default truth → IsTruth name d default other → truth ≡ other
   truth_once name default truth other is also = sym (truth_is name default truth is) ∙ truth_is name default other also
 
-  texts_are : (name : List ℕ) (texts : List (List ℕ)) → AreTexts name d texts → texts_of (present name d) ≡ texts
-  texts_are name texts (inl is) = ap texts_of is ∙ listed_back texts
-  texts_are name texts (inr is) = ap texts_of is.0 ∙ (sym (ap (λ js. texts_listed (items_of js)) is.1) ∙ listed_back texts)
+  items_are : (name : List ℕ) (js : List Json) → AreItems name d js → items_in (present name d) ≡ js
+  items_are name js (inl is) = ap items_in is ∙ items_back js
+  items_are name js (inr is) = ap items_in is.0 ∙ sym is.1
 
   -- a list of texts
   pub texts_once : (name : List ℕ) (texts others : List (List ℕ)) → AreTexts name d texts → AreTexts name d others → texts ≡ others
-  texts_once name texts others are also = sym (texts_are name texts are) ∙ texts_are name others also
+  texts_once name texts others are also =
+      let same = sym (items_are name (map string texts) are) ∙ items_are name (map string others) also in
+      sym (texts_back texts) ∙ (ap (map text_in) same ∙ texts_back others)
 
   -- a list of texts that has to be there
   pub list_once : (name : List ℕ) (texts others : List (List ℕ)) → get name d ≡ Some (list_of texts) → get name d ≡ Some (list_of others) → texts ≡ others
-  list_once name texts others is also = sym (listed_back texts) ∙ (ap texts_of (sym is ∙ also) ∙ listed_back others)
+  list_once name texts others is also =
+      texts_once name texts others (inl (ap (option_and_then unless_null) is)) (inl (ap (option_and_then unless_null) also))
 
   section_is : (section : DependencyKind) → NamesSection d section → (text : Option (List ℕ)) × IsText (codes "kind") d text × (section_of text ≡ section)
   section_is Normal (inl is) = (None, is, refl)

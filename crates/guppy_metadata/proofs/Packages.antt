@@ -15,11 +15,7 @@ use Rattle.guppy_metadata.specs.Package.{IsFrom, IsTold, AreTold, AreTargets, Is
 use Rattle.guppy_metadata.proofs.AlikeLists.{lists_fit, made_alike}
 use Rattle.guppy_metadata.proofs.FittingLists.{picked_more, passed_over}
 use Rattle.guppy_metadata.proofs.OnceTold.{text_once}
-
-module _ {A : Type 0} {P Q : A → Type 0} where
-  some_and : (o : Option A) → ((a : A) → P a → Q a) → IsSomeAnd o P → IsSomeAnd o Q
-  some_and None implies holds = holds
-  some_and (Some a) implies holds = implies a holds
+use Rattle.guppy_metadata.proofs.Options.{some_and}
 
 -- packages and records of one list have the same IDs
 pub same_ids : (d : Json) (root : List ℕ) (is_member : List ℕ → Bool) (packages : List Package) (records : List PackageRecord) → AreTold d packages
@@ -28,9 +24,20 @@ same_ids d root is_member packages records tells are =
     made_alike (λ p r. p.id.now ≡ r.id) (λ p. p.id.now) (λ r. r.id) (λ p r same. same) packages records
     (lists_fit IsTold (IsPackage root is_member) (λ p r. p.id.now ≡ r.id) (λ j p r is also. text_once j (codes "id") p.id.now r.id is.id also.named.id) (get (codes "packages") d) packages records tells are)
 
--- a package's record, in a workspace of which a set has the members
-module _ (root : List ℕ) (known told : List ℕ → Bool) (same : (id : List ℕ) → known id ≡ told id) where
-  record_is : (d : Json) (p : Package) (r : PackageRecord) → IsTold d p → IsRecordOf root known p r → IsPackage root told d r
+-- members that are told in another way are the same
+pub record_alike : (root : List ℕ) (known told : List ℕ → Bool) → ((id : List ℕ) → known id ≡ told id) → (p : Package) (r : PackageRecord) → IsRecordOf root known p r → IsRecordOf root told p r
+record_alike root known told same p r is = record {
+  source = subst (λ is_member. IsFrom root r.manifest_path is_member (option_copied p.source) r.source) (same p.id.now) is.source;
+  named = is.named;
+  described = is.described;
+  filled = is.filled;
+  targets = is.targets;
+  optional = is.optional;
+}
+
+-- a package's record, in a workspace with these members
+module _ (root : List ℕ) (is_member : List ℕ → Bool) where
+  record_is : (d : Json) (p : Package) (r : PackageRecord) → IsTold d p → IsRecordOf root is_member p r → IsPackage root is_member d r
   record_is d p r tells is =
       let named = is.named d tells.named in
       let id : p.id.now ≡ r.id = text_once d (codes "id") p.id.now r.id tells.id named.id in
@@ -42,10 +49,10 @@ module _ (root : List ℕ) (known told : List ℕ → Bool) (same : (id : List �
         optional = some_and (get (codes "dependencies") d) (λ list are. (p.declared.items, are, subst (NamesOptional p.declared.items) (sym is.optional) tells.optional)) tells.declared;
         source = option_copied p.source;
         source_is = tells.source;
-        comes_from = subst (λ is_member. IsFrom root r.manifest_path is_member (option_copied p.source) r.source) (ap known id ∙ same r.id) is.source;
+        comes_from = subst (λ is_member. IsFrom root r.manifest_path is_member (option_copied p.source) r.source) (ap is_member id) is.source;
       }
 
-  records_are : (ds : List Json) (ps : List Package) (rs : List PackageRecord) → AllZip IsTold ds ps → AllZip (IsRecordOf root known) ps rs → AllZip (IsPackage root told) ds rs
+  records_are : (ds : List Json) (ps : List Package) (rs : List PackageRecord) → AllZip IsTold ds ps → AllZip (IsRecordOf root is_member) ps rs → AllZip (IsPackage root is_member) ds rs
   records_are [] [] [] tells are = tt
   records_are [] [] (r ∷ rs) tells are = absurd are
   records_are [] (p ∷ ps) rs tells are = absurd tells
@@ -54,12 +61,12 @@ module _ (root : List ℕ) (known told : List ℕ → Bool) (same : (id : List �
   records_are (d ∷ ds) (p ∷ ps) (r ∷ rs) tells are = (record_is d p r tells.0 are.0, records_are ds ps rs tells.1 are.1)
 
 -- the records of all packages that the JSON tells
-pub packages_are : (d : Json) (root path : List ℕ) (members : List (List ℕ)) (known : List ℕ → Bool) (packages : List Package) (records : List PackageRecord)
-    → path ≡ root → ((id : List ℕ) → known id ≡ is_among members id) → get (codes "workspace_root") d ≡ Some (string root) → get (codes "workspace_members") d ≡ Some (list_of members)
-    → AreTold d packages → are_known packages members ≡ true → AllZip (IsRecordOf path known) packages records → ArePackages d records
-packages_are d root path members known packages records path_is same root_is members_are tells here are =
+pub packages_are : (d : Json) (root path : List ℕ) (members : List (List ℕ)) (packages : List Package) (records : List PackageRecord)
+    → path ≡ root → get (codes "workspace_root") d ≡ Some (string root) → get (codes "workspace_members") d ≡ Some (list_of members)
+    → AreTold d packages → are_known packages members ≡ true → AllZip (IsRecordOf path (is_among members)) packages records → ArePackages d records
+packages_are d root path members packages records path_is root_is members_are tells here are =
     let all = some_and (get (codes "packages") d)
-    (λ list told. (told.0, told.1, records_are root known (is_among members) same told.0 packages records told.2 (subst (λ at. AllZip (IsRecordOf at known) packages records) path_is are))) tells in (
+    (λ list told. (told.0, told.1, records_are root (is_among members) told.0 packages records told.2 (subst (λ at. AllZip (IsRecordOf at (is_among members)) packages records) path_is are))) tells in (
       root,
       members,
       root_is,

@@ -1,6 +1,6 @@
 -- What a clause says of what was not read.
 use Rattle.std.proofs.Common.{◌≡◌, ◌∙◌, ℕ, List, Some, Result, Ok, Err, MatchResult, sym, subst}
-use Rattle.std.specs.Prelude.{IfErr, IsErr, IsErrAnd}
+use Rattle.std.specs.Prelude.{IfOk, IfErr, IsErr, IsErrAnd}
 use Rattle.std.proofs.lemmas.Option.{none-some}
 use Rattle.json.specs.Json.{Json}
 use Rattle.json.specs.Find.{get}
@@ -31,6 +31,11 @@ part R Q e f kept has none other x holds = let y = has x holds in none (λ lacks
 pub handed : {X Y : Type 0} (R : X → Type 0) (Q : Y → Type 0) (f e : Misfit) → e ≡ f → ((x : X) → R x → (y : Y) × Q y) → NoneIs Q f → NoneIs R e
 handed R Q f e is has none = part R Q e f (λ lacks. subst LacksMemory (sym is) lacks) has none
 
+-- what failed as one of its parts did: nothing is as R says
+pub refused : {T X Y : Type 0} {R : X → Type 0} {Q : Y → Type 0} (P : T → Type 0) (f : Misfit) (r : Result T Misfit) → IsErr r × IsErrAnd r (λ e. e ≡ f)
+    → ((x : X) → R x → (y : Y) × Q y) → NoneIs Q f → MatchResult r P (NoneIs R)
+refused {R = R} {Q = Q} P f r is has none = failed P (NoneIs R) (λ e. e ≡ f) r is (λ e same. handed R Q f e same has none)
+
 -- nothing is as R says where there are no members, and R asks for one
 pub no_member : {X : Type 0} (R : X → Type 0) (d : Json) (name : List ℕ) (e : Misfit) → HasNoMembers d → ((x : X) → R x → (told : Json) × (get name d ≡ Some told)) → NoneIs R e
 no_member R d name e none has other x holds = let member = has x holds in none-some member.0 (sym (none name) ∙ member.1)
@@ -39,3 +44,8 @@ no_member R d name e none has other x holds = let member = has x holds in none-s
 pub implied : {T E : Type 0} {P R : T → Type 0} {Q S : E → Type 0} (r : Result T E) → ((x : T) → P x → R x) → ((e : E) → Q e → S e) → MatchResult r P Q → MatchResult r R S
 implied (Ok x) of_ok of_err holds = of_ok x holds
 implied (Err e) of_ok of_err holds = of_err e holds
+
+-- the same where the two are said apart
+pub implied_apart : {T E : Type 0} {P R : T → Type 0} {Q S : E → Type 0} (r : Result T E) → ((x : T) → P x → R x) → ((e : E) → Q e → S e) → IfOk r P → IfErr r Q → MatchResult r R S
+implied_apart (Ok x) of_ok of_err ok err = of_ok x ok
+implied_apart (Err e) of_ok of_err ok err = of_err e err

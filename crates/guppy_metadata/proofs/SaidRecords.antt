@@ -7,17 +7,14 @@ use Rattle.guppy_data.specs.declared.records.LinkRecord.{LinkRecord}
 use Rattle.guppy_data.specs.declared.records.PackageRecord.{PackageRecord}
 use Rattle.guppy_data.specs.declared.records.WorkspaceRecord.{WorkspaceRecord}
 use Rattle.guppy_metadata.specs.declared.package.Package.{Package}
-use Rattle.guppy_metadata.specs.Links.{AreLinksOfList, nodes_in}
+use Rattle.guppy_metadata.specs.Links.{AreLinksOfAll, AreLinksOfList, nodes_in}
 use Rattle.guppy_metadata.specs.Members.{are_among, is_among, list_of}
 use Rattle.guppy_metadata.specs.Package.{AreTold, are_known}
 use Rattle.guppy_metadata.specs.Records.{AreRecords}
-use Rattle.guppy_metadata.proofs.OnceTold.{list_once}
+use Rattle.guppy_metadata.proofs.OnceTold.{items_once, list_once}
+use Rattle.guppy_metadata.proofs.Options.{some_told}
 use Rattle.guppy_metadata.proofs.Packages.{same_ids}
 use Rattle.guppy_metadata.proofs.SamePackages.{links_between_told}
-
-some_told : {A : Type 0} {P : A → Type 0} (o : Option A) → IsSomeAnd o P → (a : A) × (o ≡ Some a) × P a
-some_told None holds = absurd holds
-some_told (Some a) holds = (a, refl, holds)
 
 module _ (d : Json) (records : List PackageRecord) (links : List LinkRecord) (workspace : WorkspaceRecord) (are : AreRecords d records links workspace) where
   pub nodes_there : (nodes : Items) × (nodes_in d ≡ Some (array nodes))
@@ -30,12 +27,14 @@ module _ (d : Json) (records : List PackageRecord) (links : List LinkRecord) (wo
   packages_there = (are.links_are.packages, are.links_are.packages_are)
 
   -- the links are those between whatever packages are read of it, of which each member is one
-  pub links_there : (packages : List Package) (nodes : Json) (ids : List (List ℕ)) → AreTold d packages → nodes_in d ≡ Some nodes → get (codes "workspace_members") d ≡ Some (list_of ids)
-      → (are_known packages ids ≡ true) × AreLinksOfList packages nodes links
+  pub links_there : (packages : List Package) (nodes : List Json) (ids : List (List ℕ)) → AreTold d packages → nodes_in d ≡ Some (array (items_of nodes)) → get (codes "workspace_members") d ≡ Some (list_of ids)
+      → (are_known packages ids ≡ true) × AreLinksOfAll packages nodes links
   links_there packages nodes ids tells nodes_are ids_are =
       let root = are.packages_are.0 in
       let members = are.packages_are.1 in
-      let same = same_ids d root (is_among members) packages records tells are.packages_are.5 in (
+      let same = same_ids d root (is_among members) packages records tells are.packages_are.5 in
+      let between = links_between_told d packages are.links_are.packages (array (items_of nodes)) links tells are.links_are.packages_are
+      (subst (λ o. IsSomeAnd o (λ nodes. AreLinksOfList are.links_are.packages nodes links)) nodes_are are.links_are.links_are) in (
         subst (λ known. are_among known ids ≡ true) (sym same) (subst (λ ids. are_among _ ids ≡ true) (list_once d (codes "workspace_members") members ids are.packages_are.3 ids_are) are.packages_are.4),
-        links_between_told d packages are.links_are.packages nodes links tells are.links_are.packages_are (subst (λ o. IsSomeAnd o (λ nodes. AreLinksOfList are.links_are.packages nodes links)) nodes_are are.links_are.links_are),
+        subst (λ js. AreLinksOfAll packages js links) (sym (items_once nodes between.0 between.1)) between.2,
       )

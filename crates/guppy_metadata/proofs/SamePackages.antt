@@ -1,7 +1,6 @@
 -- Packages that one JSON tells: the links between them are the same.
-use Rattle.std.proofs.Common.{◌≡◌, ◌∙◌, ℕ, ◌==◌, ◌&&◌, ◌||◌, List, Option, None, Some, IsSomeAnd, map, length, refl, sym, ap, string_bytes, codes}
-use Rattle.std.specs.List.{AllZip, list_any}
-use Rattle.std.specs.Option.{option_copied, option_eq}
+use Rattle.std.proofs.Common.{◌≡◌, ◌∙◌, ℕ, ◌==◌, ◌&&◌, ◌||◌, List, Option, None, Some, map, length, refl, sym, ap, subst, string_bytes, codes}
+use Rattle.std.specs.List.{AllZip}
 use Rattle.std.specs.Str.{bytes_eq}
 use Rattle.std.proofs.lemmas.List.{length-map}
 use Rattle.json.specs.Json.{Json}
@@ -20,15 +19,16 @@ use Rattle.guppy_metadata.specs.declared.link.Usage.{Usage}
 use Rattle.guppy_metadata.specs.declared.package.Package.{Package}
 use Rattle.guppy_metadata.specs.Dependency.{IsDeclared}
 use Rattle.guppy_metadata.specs.Fits.{library_name, used_name, takes, same_usage, is_used, fits, is_matched, are_matched}
-use Rattle.guppy_metadata.specs.Gathered.{same_section}
-use Rattle.guppy_metadata.specs.Links.{IsAsked, IsLink, AreLinksOf, AreLinksOfList}
+use Rattle.guppy_metadata.specs.Links.{IsResolved, IsUnasked, IsAsked, IsLink, AreLinksOf, AreLinksOfList}
 use Rattle.guppy_metadata.specs.Members.{IsListOf}
 use Rattle.guppy_metadata.specs.Package.{IsTold, AreTold, with_id}
 use Rattle.guppy_metadata.specs.Target.{IsTarget}
-use Rattle.guppy_metadata.proofs.AlikeDependencies.{IsSame, declared_once, link_same}
-use Rattle.guppy_metadata.proofs.AlikeLists.{OptionsFit, lists_fit, fits_too, picked_alike, any_passes_alike, last_alike, all_alike}
+use Rattle.guppy_metadata.proofs.AlikeDependencies.{IsSame, same_itself, declared_once, link_same}
+use Rattle.guppy_metadata.proofs.AlikeLists.{OptionsFit, each_itself, lists_fit, fits_too, picked_alike, any_passes_alike, all_pass_alike, last_alike}
 use Rattle.guppy_metadata.proofs.AlikeTargets.{IsSameTarget, target_once, library_same}
 use Rattle.guppy_metadata.proofs.OnceTold.{text_once}
+use Rattle.guppy_metadata.proofs.Options.{some_and}
+use Rattle.guppy_metadata.proofs.ResolvedOnce.{UsedAlike, ResolvedAlike, resolved_once}
 
 -- what links look at is the same
 pub record IsAlike (p q : Package) : Type 0 where
@@ -38,8 +38,17 @@ pub record IsAlike (p q : Package) : Type 0 where
   pub library : library_name p.record.build_targets.items ≡ library_name q.record.build_targets.items
   pub declared : AllZip IsSame p.declared.items q.declared.items
 
+alike_itself : (p : Package) → IsAlike p p
+alike_itself p = record {
+  id = refl;
+  name = refl;
+  version = refl;
+  library = refl;
+  declared = each_itself IsSame same_itself p.declared.items;
+}
+
 -- one JSON tells such
-pub told_once : (d : Json) (p q : Package) → IsTold d p → IsTold d q → IsAlike p q
+told_once : (d : Json) (p q : Package) → IsTold d p → IsTold d q → IsAlike p q
 told_once d p q is also = record {
   id = text_once d (codes "id") p.id.now q.id.now is.id also.id;
   name = text_once d (codes "name") (string_bytes p.record.name) (string_bytes q.record.name) is.named.name also.named.name;
@@ -51,7 +60,7 @@ told_once d p q is also = record {
 }
 
 -- one list tells such, place by place
-pub packages_once : (d : Json) (packages others : List Package) → AreTold d packages → AreTold d others → AllZip IsAlike packages others
+packages_once : (d : Json) (packages others : List Package) → AreTold d packages → AreTold d others → AllZip IsAlike packages others
 packages_once d packages others are also = lists_fit IsTold IsTold IsAlike told_once (get (codes "packages") d) packages others are also
 
 with_id_same : (id : List ℕ) (packages others : List Package) → AllZip IsAlike packages others → OptionsFit IsAlike (with_id id packages) (with_id id others)
@@ -68,69 +77,91 @@ takes_same req other version same comparators parts =
     matches_all-read req.comparators.items version _ _ comparators parts ∙ sym (matches_all-views other.comparators.items same) in
     ap (λ n. (n == 0) || matches_all req.comparators.items version) lengths ∙ ap (λ b. (length other.comparators.items == 0) || b) matched
 
-usage_same : (x y : Declared) → IsSame x y → (usage : Usage) → same_usage x usage ≡ same_usage y usage
-usage_same x y same usage = rw (same.section, same.target) refl
+usage_same : (x y : Declared) → IsSame x y → (u v : Usage) → UsedAlike u v → same_usage x u ≡ same_usage y v
+usage_same x y same u v alike = rw (same.section, same.target, alike.section, alike.target) refl
 
-used_same : (x y : Declared) → IsSame x y → (usages : List Usage) → is_used x usages ≡ is_used y usages
-used_same x y same usages =
-    ap (λ section. list_any (λ usage. same_section usage.section section && option_eq bytes_eq (option_copied usage.target) (option_copied x.target)) usages) same.section
-    ∙ ap (λ target. list_any (λ usage. same_section usage.section y.section && option_eq bytes_eq (option_copied usage.target) target) usages) same.target
-
-module _ (from : List ℕ) (resolved : Resolved) (needed other : Package) (alike : IsAlike needed other) where
+-- the same dependencies were resolved so, and have the usages
+module _ (from : List ℕ) (a b : Resolved) (resolved : ResolvedAlike a b) (needed other : Package) (alike : IsAlike needed other) where
   used_name_same : (x y : Declared) → IsSame x y → used_name x needed.record ≡ used_name y other.record
   used_name_same x y same = rw (same.rename, same.name, alike.library) refl
 
-  fits_same : (x y : Declared) → IsSame x y → fits from resolved needed.record x ≡ fits from resolved other.record y
-  fits_same x y same =
-      rw (used_name_same x y same, takes_same x.requirement y.requirement needed.record.version other.record.version same.requirement alike.version, used_same x y same resolved.usages.items, same.name, alike.name) refl
+  used_same : (x y : Declared) → IsSame x y → is_used x a.usages.items ≡ is_used y b.usages.items
+  used_same x y same = any_passes_alike UsedAlike (same_usage x) (same_usage y) (usage_same x y same) a.usages.items b.usages.items resolved.usages
 
-  matched_same : (xs ys : List Declared) → AllZip IsSame xs ys → (usages : List Usage) → are_matched from resolved needed.record xs usages ≡ are_matched from resolved other.record ys usages
-  matched_same xs ys all usages =
-      all_alike (is_matched from resolved needed.record xs) (is_matched from resolved other.record ys)
-      (λ usage. any_passes_alike IsSame (λ x. same_usage x usage && fits from resolved needed.record x) (λ y. same_usage y usage && fits from resolved other.record y)
-      (λ x y same. ap (λ b. b && fits from resolved needed.record x) (usage_same x y same usage) ∙ ap (λ b. same_usage y usage && b) (fits_same x y same)) xs ys all) usages
+  fits_same : (x y : Declared) → IsSame x y → fits from a needed.record x ≡ fits from b other.record y
+  fits_same x y same =
+      rw (
+        used_name_same x y same,
+        takes_same x.requirement y.requirement needed.record.version other.record.version same.requirement alike.version,
+        used_same x y same,
+        same.name,
+        alike.name,
+        resolved.id,
+        resolved.name,
+      ) refl
+
+  matched_same : (xs ys : List Declared) → AllZip IsSame xs ys → are_matched from a needed.record xs a.usages.items ≡ are_matched from b other.record ys b.usages.items
+  matched_same xs ys all =
+      all_pass_alike UsedAlike (is_matched from a needed.record xs) (is_matched from b other.record ys)
+      (λ u v used. any_passes_alike IsSame (λ x. same_usage x u && fits from a needed.record x) (λ y. same_usage y v && fits from b other.record y)
+      (λ x y same. ap (λ p. p && fits from a needed.record x) (usage_same x y same u v used) ∙ ap (λ p. same_usage y v && p) (fits_same x y same)) xs ys all)
+      a.usages.items b.usages.items resolved.usages
 
 -- a link that the ones ask for is asked for by the others
 asked_same : (asking asking_too needed needed_too : Option Package) → OptionsFit IsAlike asking asking_too → OptionsFit IsAlike needed needed_too
-    → (from : List ℕ) (resolved : Resolved) (r : LinkRecord) → IsAsked asking needed from resolved r → IsAsked asking_too needed_too from resolved r
-asked_same None None needed needed_too one two from resolved r asked = asked
-asked_same None (Some q) needed needed_too one two from resolved r asked = absurd one
-asked_same (Some p) None needed needed_too one two from resolved r asked = absurd one
-asked_same (Some p) (Some q) None None one two from resolved r asked = asked
-asked_same (Some p) (Some q) None (Some m) one two from resolved r asked = absurd two
-asked_same (Some p) (Some q) (Some n) None one two from resolved r asked = absurd two
-asked_same (Some p) (Some q) (Some n) (Some m) one two from resolved r asked = (
-  link_same _ _ r (picked_alike IsSame (fits from resolved n.record) (fits from resolved m.record) (fits_same from resolved n m two) p.declared.items q.declared.items one.declared) asked.0,
-  sym (matched_same from resolved n m two p.declared.items q.declared.items one.declared resolved.usages.items) ∙ asked.1,
+    → (from : List ℕ) (a b : Resolved) → ResolvedAlike a b → (r : LinkRecord) → IsAsked asking needed from a r → IsAsked asking_too needed_too from b r
+asked_same None None needed needed_too one two from a b alike r asked = subst (λ name. IsUnasked name r) alike.name asked
+asked_same None (Some q) needed needed_too one two from a b alike r asked = absurd one
+asked_same (Some p) None needed needed_too one two from a b alike r asked = absurd one
+asked_same (Some p) (Some q) None None one two from a b alike r asked = subst (λ name. IsUnasked name r) alike.name asked
+asked_same (Some p) (Some q) None (Some m) one two from a b alike r asked = absurd two
+asked_same (Some p) (Some q) (Some n) None one two from a b alike r asked = absurd two
+asked_same (Some p) (Some q) (Some n) (Some m) one two from a b alike r asked = (
+  link_same _ _ r (picked_alike IsSame (fits from a n.record) (fits from b m.record) (fits_same from a b alike n m two) p.declared.items q.declared.items one.declared) asked.0,
+  sym (matched_same from a b alike n m two p.declared.items q.declared.items one.declared) ∙ asked.1,
 )
 
 -- lists of alike packages, place by place
 module _ (packages others : List Package) (all : AllZip IsAlike packages others) where
-  -- a link between the ones is one between the others
-  pub link_between : (from : List ℕ) (d : Json) (r : LinkRecord) → IsLink packages from d r → IsLink others from d r
+  -- a link between the ones is asked for by the others, whatever the dependency is read to
+  asked_between : (from : List ℕ) (d : Json) (r : LinkRecord) (is : IsLink packages from d r) (resolved : Resolved) → IsResolved d resolved
+      → IsAsked (with_id from others) (with_id resolved.id.now others) from resolved r
+  asked_between from d r is resolved resolved_is =
+      let alike = resolved_once d is.resolved resolved is.resolved_is resolved_is in
+      let needed : OptionsFit IsAlike (with_id is.resolved.id.now packages) (with_id resolved.id.now others) =
+      subst (λ id. OptionsFit IsAlike (with_id is.resolved.id.now packages) (with_id id others)) alike.id (with_id_same is.resolved.id.now packages others all) in
+      asked_same (with_id from packages) (with_id from others) (with_id is.resolved.id.now packages) (with_id resolved.id.now others)
+      (with_id_same from packages others all) needed from is.resolved resolved alike r is.asked
+
+  -- it is one between them
+  link_between : (from : List ℕ) (d : Json) (r : LinkRecord) → IsLink packages from d r → IsLink others from d r
   link_between from d r is = record {
     resolved = is.resolved;
     resolved_is = is.resolved_is;
     joins = is.joins;
-    asked = asked_same (with_id from packages) (with_id from others) (with_id is.resolved.id.now packages) (with_id is.resolved.id.now others)
-        (with_id_same from packages others all) (with_id_same is.resolved.id.now packages others all) from is.resolved r is.asked;
+    asked = asked_between from d r is is.resolved is.resolved_is;
   }
 
-  some_fit : (from : List ℕ) (told : Option Json) (links : List LinkRecord) → IsSomeAnd told (λ deps. IsListOf (IsLink packages from) deps links) → IsSomeAnd told (λ deps. IsListOf (IsLink others from) deps links)
-  some_fit from None links are = are
-  some_fit from (Some deps) links are = (are.0, are.1, fits_too (IsLink packages from) (IsLink others from) (link_between from) are.0 links are.2)
-
   -- the links that leave the package of a node
-  pub links_of_between : (d : Json) (links : List LinkRecord) → AreLinksOf packages d links → AreLinksOf others d links
-  links_of_between d links are = record { id = are.id; id_is = are.id_is; links_are = some_fit are.id (get (codes "deps") d) links are.links_are }
+  links_of_between : (d : Json) (links : List LinkRecord) → AreLinksOf packages d links → AreLinksOf others d links
+  links_of_between d links are = record {
+    id = are.id;
+    id_is = are.id_is;
+    links_are = some_and (get (codes "deps") d) (λ deps fit. (fit.0, fit.1, fits_too (IsLink packages are.id) (IsLink others are.id) (link_between are.id) fit.0 links fit.2)) are.links_are;
+  }
 
   -- the links of all nodes of a list
-  pub links_of_list_between : (nodes : Json) (links : List LinkRecord) → AreLinksOfList packages nodes links → AreLinksOfList others nodes links
+  links_of_list_between : (nodes : Json) (links : List LinkRecord) → AreLinksOfList packages nodes links → AreLinksOfList others nodes links
   links_of_list_between nodes links are = (
     are.0,
     are.1,
     record { rows = are.2.rows; rows_are = fits_too (AreLinksOf packages) (AreLinksOf others) links_of_between are.0 are.2.rows are.2.rows_are; all = are.2.all },
   )
+
+-- a link is asked for alike whatever its dependency is read to
+pub asked_once : (packages : List Package) (from : List ℕ) (d : Json) (r : LinkRecord) → IsLink packages from d r → (resolved : Resolved) → IsResolved d resolved
+    → IsAsked (with_id from packages) (with_id resolved.id.now packages) from resolved r
+asked_once packages from d r is resolved resolved_is = asked_between packages packages (each_itself IsAlike alike_itself packages) from d r is resolved resolved_is
 
 -- what is told of links between packages is told of those between the packages that the same JSON tells
 pub links_between_told : (d : Json) (packages others : List Package) (nodes : Json) (links : List LinkRecord) → AreTold d packages → AreTold d others

@@ -41,7 +41,3 @@ pub member_copied : (copies : Members) (copy : Data) (first : Bor (List ℕ) × 
     (left rest : List (Bor (List ℕ) × JsonValue Global)) → left ≡ first ∷ rest → of_json (value_view first.1) ≡ Some copy
     → of_members (members_view left) copies ≡ of_members (members_view rest) (put first.0.now copy copies)
 member_copied copies copy first left rest is copied = rw (is, copied)
-
-pub items_behind-nothing : (rest : Option Items) → rest ≡ option_map (items_behind []) rest
-items_behind-nothing None = refl
-items_behind-nothing (Some rest) = refl

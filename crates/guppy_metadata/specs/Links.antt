@@ -35,11 +35,15 @@ pub record IsUsage (d : Json) (x : Usage) : Type 0 where
   pub section : NamesSection d x.section
   pub target : IsText (codes "target") d (option_copied x.target)
 
+-- what a dependency is used for
+abbrev pub AreUsages : Json → List Usage → Type 0
+AreUsages d usages = IsSomeAnd (get (codes "dep_kinds") d) (λ told. IsListOf IsUsage told usages)
+
 -- a resolved dependency: its ID, its name in the code, and what it is used for
 pub record IsResolved (d : Json) (x : Resolved) : Type 0 where
   pub id_is : get (codes "pkg") d ≡ Some (string x.id.now)
   pub name_is : get (codes "name") d ≡ Some (string x.name.now)
-  pub usages_are : IsSomeAnd (get (codes "dep_kinds") d) (λ told. IsListOf IsUsage told x.usages.items)
+  pub usages_are : AreUsages d x.usages.items
 
 -- the link is asked for by no dependency, with any version, and is named as in the code
 pub record IsUnasked (name : List ℕ) (r : LinkRecord) : Type 0 where
@@ -63,11 +67,15 @@ pub record IsLink (packages : List Package) (from : List ℕ) (d : Json) (r : Li
   pub joins : Joins from resolved.id.now resolved.name.now r
   pub asked : IsAsked (with_id from packages) (with_id resolved.id.now packages) from resolved r
 
--- the links that leave the package of a node: one for each of its dependencies, in their order
+-- the links from this ID: one for each dependency of a node, in their order
+abbrev pub AreLinksFrom : List Package → List ℕ → Json → List LinkRecord → Type 0
+AreLinksFrom packages from d links = IsSomeAnd (get (codes "deps") d) (λ deps. IsListOf (IsLink packages from) deps links)
+
+-- the links that leave the package of a node
 pub record AreLinksOf (packages : List Package) (d : Json) (links : List LinkRecord) : Type 0 where
   pub id : List ℕ
   pub id_is : get (codes "id") d ≡ Some (string id)
-  pub links_are : IsSomeAnd (get (codes "deps") d) (λ deps. IsListOf (IsLink packages id) deps links)
+  pub links_are : AreLinksFrom packages id d links
 
 -- the links of all nodes, one row behind the other
 pub record AreLinksOfAll (packages : List Package) (nodes : List Json) (links : List LinkRecord) : Type 0 where

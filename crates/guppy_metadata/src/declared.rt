@@ -2,12 +2,12 @@
 ghost use Rattle.std.specs.Prelude.{◌≡◌, Some, unwrap_or, IfOk, IfSome, MatchResult};
 ghost use Rattle.std.specs.Option.{option_copied};
 ghost use Rattle.json.specs.Json.{Json, value};
-ghost use Rattle.json.specs.Value.{value_view};
 ghost use Rattle.guppy_metadata.specs.Dependency.{IsDeclared, NamesSection, NamesOptional};
 ghost use Rattle.guppy_metadata.specs.Fault.{NoneIs, IsRead};
 ghost use Rattle.guppy_metadata.specs.Members.{data_of, IsListOf};
+ghost use Rattle.guppy_metadata.specs.Package.{AreDeclared};
 
-use crate::fault::{Kind, Misfit, TextFault};
+use crate::fault::{Misfit, TextFault};
 use crate::object::{Object, requirement_of};
 use crate::read::read_object;
 use guppy_data::DependencyKind;
@@ -82,33 +82,39 @@ pub(crate) fn section_of(object: Object<'_, '_>) -> Result<DependencyKind, Misfi
 fn declared_of<'a>(dependency: Object<'_, 'a>) -> Result<Declared<'a>, Misfit>
     ensures { IsRead (IsDeclared (data_of dependency.entry)) result }
 {
-    let requirement = dependency.text("req")?;
+    let name = dependency.text("name")?;
+    let rename = dependency.optional_text("rename")?;
+    let text = dependency.text("req")?;
+    let section = section_of(dependency)?;
+    let target = dependency.optional_text("target")?;
+    let optional = dependency.boolean("optional", false)?;
+    let default_features = dependency.boolean("uses_default_features", true)?;
+    let registry = dependency.optional_text("registry")?;
+    let path = dependency.optional_text("path")?;
+    let features = dependency.texts("features")?;
+    let requirement = requirement_of(dependency.alloc, "req", text)?;
     Ok(Declared {
-        name: dependency.text("name")?,
-        rename: dependency.optional_text("rename")?,
-        requirement: requirement_of(dependency.alloc, "req", requirement)?,
-        section: section_of(dependency)?,
-        target: dependency.optional_text("target")?,
-        optional: dependency.boolean("optional", false)?,
-        default_features: dependency.boolean("uses_default_features", true)?,
-        features: dependency.texts("features")?,
-        registry: dependency.optional_text("registry")?,
-        path: dependency.optional_text("path")?,
+        name,
+        rename,
+        requirement,
+        section,
+        target,
+        optional,
+        default_features,
+        features,
+        registry,
+        path,
     })
 }
 
-/// The dependencies that the items of the list `dependencies` are.
-pub(crate) fn declared_dependencies<'a>(
-    alloc: Global,
-    value: &Value<'a>,
-) -> Result<Vec<Declared<'a>>, Misfit>
+/// The dependencies that a package declares: the items of the list `dependencies`.
+pub(crate) fn declared_dependencies<'a>(json: Object<'_, 'a>) -> Result<Vec<Declared<'a>>, Misfit>
     ensures { MatchResult result
-        (λ declared. IsListOf IsDeclared (value_view value.now) declared.items)
-        (NoneIs (IsListOf IsDeclared (value_view value.now))) }
+        (λ declared. AreDeclared (data_of json.entry) declared.items)
+        (NoneIs (AreDeclared (data_of json.entry))) }
 {
-    let Value::Array(items) = value else {
-        return Err(Misfit::wrong_kind(alloc, "dependencies", Kind::List));
-    };
+    let alloc = json.alloc;
+    let items = json.list("dependencies")?;
     let mut declared = Vec::with_capacity(alloc, items.len())?;
     for (index, item) in items.iter().enumerate() {
         let dependency = Object::of_item(alloc, "dependencies", index, item)?;

@@ -12,7 +12,7 @@ ghost use Rattle.guppy_metadata.specs.declared.declared.Declared.{Declared};
 ghost use Rattle.guppy_metadata.specs.Fault.{NoneIs, IsRead};
 ghost use Rattle.guppy_metadata.specs.Fits.{stands_for, is_named, has_name, same_usage, is_used, fits, is_matched, are_matched};
 ghost use Rattle.guppy_metadata.specs.Gathered.{status_at, asked_too, asks_for, IsSection, IsGathered, IsNamedAs, IsLinkOf};
-ghost use Rattle.guppy_metadata.specs.Links.{HasTexts, Joins, IsUsage, IsResolved, IsUnasked, IsLink, AreLinksOf, AreLinksOfList};
+ghost use Rattle.guppy_metadata.specs.Links.{HasTexts, Joins, IsUsage, AreUsages, IsResolved, IsUnasked, IsLink, AreLinksFrom, AreLinksOf, AreLinksOfAll};
 ghost use Rattle.guppy_metadata.specs.Members.{data_of, IsListOf};
 ghost use Rattle.guppy_metadata.specs.Package.{with_id, ArePositions};
 
@@ -81,14 +81,13 @@ fn usage_of<'a>(alloc: Global, item: &Value<'a>) -> Result<Usage<'a>, Misfit>
     })
 }
 
-// The usages that the items of the list `dep_kinds` are.
-fn usages_of<'a>(alloc: Global, value: &Value<'a>) -> Result<Vec<Usage<'a>>, Misfit>
-    ensures { MatchResult result (λ usages. IsListOf IsUsage (value_view value.now) usages.items)
-        (NoneIs (IsListOf IsUsage (value_view value.now))) }
+// The usages of a dependency: the items of the list `dep_kinds`.
+fn usages_of<'a>(dependency: Object<'_, 'a>) -> Result<Vec<Usage<'a>>, Misfit>
+    ensures { MatchResult result (λ usages. AreUsages (data_of dependency.entry) usages.items)
+        (NoneIs (AreUsages (data_of dependency.entry))) }
 {
-    let Value::Array(items) = value else {
-        return Err(Misfit::wrong_kind(alloc, "dep_kinds", Kind::List));
-    };
+    let alloc = dependency.alloc;
+    let items = dependency.list("dep_kinds")?;
     let mut usages = Vec::with_capacity(alloc, items.len())?;
     for (index, item) in items.iter().enumerate() {
         match usage_of(alloc, item) {
@@ -105,7 +104,7 @@ fn resolved_of<'a>(dependency: Object<'_, 'a>) -> Result<Resolved<'a>, Misfit>
     Ok(Resolved {
         name: dependency.text("name")?,
         id: dependency.text("pkg")?,
-        usages: usages_of(dependency.alloc, dependency.required("dep_kinds")?)?,
+        usages: usages_of(dependency)?,
     })
 }
 
@@ -536,23 +535,20 @@ fn add_link(
     Ok(add_link_between(links, alloc, from, &resolved, asking, needed)?)
 }
 
-// Adds the links from the package with this ID that the items of the list `deps` are.
+// Adds the links of a node from the package with this ID: the items of the list `deps`.
 fn add_links(
     links: &mut Vec<LinkRecord>,
-    alloc: Global,
     packages: Packages<'_, '_>,
     from: &str,
-    value: &Value<'_>,
+    node: Object<'_, '_>,
 ) -> Result<(), Misfit>
     requires { ArePositions packages.packages.now packages.positions.now }
     ensures added { OnOk result ((row : List LinkRecord) × (links.new.items ≡ links.old.items ++ row)
-        × IsListOf (IsLink packages.entry.packages.now from.now) (value_view value.now) row) }
-    ensures refused { IfErr result
-        (NoneIs (IsListOf (IsLink packages.entry.packages.now from.now) (value_view value.now))) }
+        × AreLinksFrom packages.entry.packages.now from.now (data_of node.entry) row) }
+    ensures refused { IfErr result (NoneIs (AreLinksFrom packages.entry.packages.now from.now (data_of node.entry))) }
 {
-    let Value::Array(items) = value else {
-        return Err(Misfit::wrong_kind(alloc, "deps", Kind::List));
-    };
+    let alloc = node.alloc;
+    let items = node.list("deps")?;
     let asking = packages.with_id(from);
     for (index, item) in items.iter().enumerate() {
         let dependency = Object::of_item(alloc, "deps", index, item)?;
@@ -620,7 +616,7 @@ pub(crate) fn add_node(
     ensures refused { IfErr result (NoneIs (AreLinksOf packages.entry.packages.now (data_of node.entry))) }
 {
     let from = node.text("id")?;
-    add_links(links, node.alloc, packages, from, node.required("deps")?)
+    add_links(links, packages, from, node)
 }
 
 /// Adds the links that leave the package of the node that the item of the list `nodes` at this index is.
@@ -643,22 +639,19 @@ pub(crate) fn add_node_at(
     }
 }
 
-/// The links of the nodes that the items of the list `nodes` are.
+/// The links of these nodes, which are the items of the list `nodes`.
 pub(crate) fn links_of(
     alloc: Global,
     packages: Packages<'_, '_>,
-    value: &Value<'_>,
+    nodes: &[Value<'_>],
 ) -> Result<Vec<LinkRecord>, Misfit>
     requires { ArePositions packages.packages.now packages.positions.now }
     ensures { MatchResult result
-        (λ links. AreLinksOfList packages.entry.packages.now (value_view value.now) links.items)
-        (NoneIs (AreLinksOfList packages.entry.packages.now (value_view value.now))) }
+        (λ links. AreLinksOfAll packages.entry.packages.now (map value_view nodes.now) links.items)
+        (NoneIs (AreLinksOfAll packages.entry.packages.now (map value_view nodes.now))) }
 {
-    let Value::Array(items) = value else {
-        return Err(Misfit::wrong_kind(alloc, "nodes", Kind::List));
-    };
     let mut links = Vec::new(alloc);
-    for (index, item) in items.iter().enumerate() {
+    for (index, item) in nodes.iter().enumerate() {
         add_node_at(&mut links, alloc, packages, index, item)?;
     }
     Ok(links)

@@ -138,7 +138,7 @@ impl<'v, 'a> Object<'v, 'a> {
     ghost use Rattle.std.specs.Option.{option_copied};
     ghost use Rattle.json.specs.Json.{Json, null, string, array};
     ghost use Rattle.json.specs.Find.{get};
-    ghost use Rattle.json.specs.Value.{value_view};
+    ghost use Rattle.json.specs.Value.{value_view, items_of};
     ghost use Rattle.serde_json.specs.View.{view};
     ghost use Rattle.guppy_metadata.specs.Fault.{NoneIs, IsRead};
     ghost use Rattle.guppy_metadata.specs.Table.{IsTable};
@@ -235,15 +235,14 @@ impl<'v, 'a> Object<'v, 'a> {
         Ok(optional_copy(self.alloc, text)?)
     }
 
-    /// The list in the member of this name.
-    pub(crate) fn list(self, name: &str) -> Result<&'v Value<'a>, Misfit>
+    /// The items of the list in the member of this name.
+    pub(crate) fn list(self, name: &str) -> Result<&'v Vec<Value<'a>>, Misfit>
         ensures { MatchResult result
-            (λ value. get name.now (data_of self.entry) ≡ Some (value_view value.now))
+            (λ items. get name.now (data_of self.entry) ≡ Some (array (items_of (map value_view items.now.items))))
             (NoneIs (λ items. get name.now (data_of self.entry) ≡ Some (array items))) }
     {
-        let value = self.required(name)?;
-        match value {
-            Value::Array(_) => Ok(value),
+        match self.required(name)? {
+            Value::Array(items) => Ok(items),
             _ => Err(Misfit::wrong_kind(self.alloc, name, Kind::List)),
         }
     }

@@ -8,16 +8,17 @@ ghost use Rattle.json.specs.Value.{value_view};
 ghost use Rattle.guppy_data.specs.Utf8Path.{path_text};
 ghost use Rattle.guppy_metadata.specs.Dependency.{NamesOptional};
 ghost use Rattle.guppy_metadata.specs.Fault.{NoneIs, IsRead};
-ghost use Rattle.guppy_metadata.specs.Members.{data_of, is_in_set, IsListOf, IsText};
+ghost use Rattle.guppy_metadata.specs.Members.{data_of, is_among, is_in_set, IsText};
 ghost use Rattle.guppy_metadata.specs.declared.package.Package.{Package};
-ghost use Rattle.guppy_metadata.specs.Package.{IsFrom, IsNamed, IsDescribed, IsFilled, IsTold, IsRecordOf, IsPublishable, IsRustVersion, AreTargets, AreDeclared, AreAlike, ArePositions, dots_in, zeros_behind, whole_version};
+ghost use Rattle.guppy_metadata.specs.Package.{IsFrom, IsNamed, IsDescribed, IsFilled, IsTold, IsRecordOf, IsPublishable, IsRustVersion, AreTargets, AreDeclared, AreTold, AreAlike, ArePositions, dots_in, zeros_behind, whole_version};
 
 use crate::declared::{Declared, declared_dependencies, optional_names};
-use crate::fault::{Kind, Misfit};
+use crate::fault::Misfit;
 use crate::feature::named_features;
 use crate::object::{Object, version_of};
 use crate::path::folder_from;
 use crate::target::build_targets;
+use crate::workspace::set_of;
 use guppy_data::{
     BuildTargetRecord, OwnedBuildTargetId, PackageId, PackagePublishRecord, PackageRecord,
     PackageSourceRecord, Utf8Path, Utf8PathBuf,
@@ -58,23 +59,6 @@ impl Package<'_> {
         }
         None
     }
-}
-
-// The record of the package with what each package has, but for where it comes from.
-fn bare_record(json: Object<'_, '_>) -> Result<PackageRecord, Misfit>
-    ensures { IsRead (IsNamed (data_of json.entry)) result }
-{
-    let alloc = json.alloc;
-    let version = version_of(alloc, "version", json.text("version")?)?;
-    Ok(PackageRecord::new(
-        alloc,
-        PackageId::new(json.copied_text("id")?),
-        json.copied_text("name")?,
-        version,
-        PackageSourceRecord::Path(Utf8PathBuf::new(String::new(alloc))),
-        Utf8PathBuf::new(json.copied_text("manifest_path")?),
-        json.copied_text("edition")?,
-    ))
 }
 
 fn optional_path(json: Object<'_, '_>, name: &str) -> Result<Option<Utf8PathBuf>, Misfit>
@@ -176,12 +160,12 @@ fn fill(
     ensures described { (d : Json) → IsDescribed d made.old → IsDescribed d made.new }
 {
     let alloc = json.alloc;
+    made.build_targets = targets;
     made.metadata_table = json.table("metadata")?;
     made.links = json.optional_copied_text("links")?;
     made.publish = publish_of(json)?;
     made.default_run = json.optional_copied_text("default_run")?;
     made.rust_version = rust_version(json)?;
-    made.build_targets = targets;
     match named_features(alloc, json.required("features")?) {
         Ok(features) => made.named_features = features,
         Err(fault) => return Err(fault.within(alloc, "features")),
@@ -194,32 +178,46 @@ fn fill(
 fn described_record(json: Object<'_, '_>) -> Result<PackageRecord, Misfit>
     ensures { IsRead (λ made. IsNamed (data_of json.entry) made × IsDescribed (data_of json.entry) made) result }
 {
-    let mut record = bare_record(json)?;
+    let alloc = json.alloc;
+    let version = version_of(alloc, "version", json.text("version")?)?;
+    let id = json.copied_text("id")?;
+    let name = json.copied_text("name")?;
+    let manifest_path = json.copied_text("manifest_path")?;
+    let edition = json.copied_text("edition")?;
+    let mut record = PackageRecord::new(
+        alloc,
+        PackageId::new(id),
+        name,
+        version,
+        PackageSourceRecord::Path(Utf8PathBuf::new(String::new(alloc))),
+        Utf8PathBuf::new(manifest_path),
+        edition,
+    );
     describe(&mut record, json)?;
     Ok(record)
 }
 
-// The package with this ID, of its record so far, its dependencies and build targets, and what else is told of it.
+// The package of its record so far, its dependencies and build targets, and what else is told of it.
 fn filled_package<'a>(
     json: Object<'_, 'a>,
     id: &'a str,
-    described: PackageRecord,
+    source: Option<&'a str>,
     declared: Vec<Declared<'a>>,
+    mut made: PackageRecord,
     targets: Vec<BuildTargetRecord>,
 ) -> Result<Package<'a>, Misfit>
-    ensures told { IfOk result (λ made. (d : Json) → AreAlike (data_of json.entry) d
+    ensures told { IfOk result (λ p. (d : Json) → AreAlike (data_of json.entry) d
         → get (codes "id") (data_of json.entry) ≡ Some (string id.now)
-        → IsNamed (data_of json.entry) described → IsDescribed (data_of json.entry) described
-        → AreDeclared d declared.entry.items → AreTargets d targets.items → IsTold d made) }
-    ensures refused { IfErr result (NoneIs (λ (made : Package). IsText (codes "source") (data_of json.entry)
-        (option_copied made.source) × IsFilled (data_of json.entry) made.record)) }
+        → IsText (codes "source") (data_of json.entry) (option_copied source.entry)
+        → IsNamed (data_of json.entry) made → IsDescribed (data_of json.entry) made
+        → AreDeclared d declared.entry.items → AreTargets d targets.items → IsTold d p) }
+    ensures refused { IfErr result (NoneIs (IsFilled (data_of json.entry))) }
 {
-    let mut record = described;
-    fill(&mut record, json, declared.as_slice(), targets)?;
+    fill(&mut made, json, declared.as_slice(), targets)?;
     Ok(Package {
         id,
-        source: json.optional_text("source")?,
-        record,
+        source,
+        record: made,
         declared,
     })
 }
@@ -234,20 +232,21 @@ pub(crate) fn package_with<'a>(
         → AreDeclared d declared.entry.items → AreTargets d targets.items → IsTold d made) }
 {
     let id = json.text("id")?;
+    let source = json.optional_text("source")?;
     let record = described_record(json)?;
-    Ok(filled_package(json, id, record, declared, targets)?)
+    filled_package(json, id, source, declared, record, targets)
 }
 
 /// The package that an object tells.
 pub(crate) fn package_of<'a>(json: Object<'_, 'a>) -> Result<Package<'a>, Misfit>
     ensures { IsRead (IsTold (data_of json.entry)) result }
 {
-    let alloc = json.alloc;
     let id = json.text("id")?;
-    let declared = declared_dependencies(alloc, json.required("dependencies")?)?;
+    let source = json.optional_text("source")?;
+    let declared = declared_dependencies(json)?;
     let record = described_record(json)?;
-    let targets = build_targets(alloc, json.required("targets")?)?;
-    Ok(filled_package(json, id, record, declared, targets)?)
+    let targets = build_targets(json)?;
+    filled_package(json, id, source, declared, record, targets)
 }
 
 /// The package that the item of the list `packages` at this index is.
@@ -265,14 +264,13 @@ pub(crate) fn package_at<'a>(
     }
 }
 
-/// The packages that the items of the list `packages` are.
-pub(crate) fn packages_of<'a>(alloc: Global, value: &Value<'a>) -> Result<Vec<Package<'a>>, Misfit>
-    ensures { MatchResult result (λ packages. IsListOf IsTold (value_view value.now) packages.items)
-        (NoneIs (IsListOf IsTold (value_view value.now))) }
+/// The packages that the JSON tells: the items of the list `packages`.
+pub(crate) fn packages_of<'a>(metadata: Object<'_, 'a>) -> Result<Vec<Package<'a>>, Misfit>
+    ensures { MatchResult result (λ packages. AreTold (data_of metadata.entry) packages.items)
+        (NoneIs (AreTold (data_of metadata.entry))) }
 {
-    let Value::Array(items) = value else {
-        return Err(Misfit::wrong_kind(alloc, "packages", Kind::List));
-    };
+    let alloc = metadata.alloc;
+    let items = metadata.list("packages")?;
     let mut packages = Vec::with_capacity(alloc, items.len())?;
     for (index, item) in items.iter().enumerate() {
         packages.push(package_at(alloc, index, item)?)?;
@@ -326,25 +324,20 @@ fn record_of(
 ) -> Result<PackageRecord, AllocError>
     ensures { IfOk result (IsRecordOf (path_text root.entry) (is_in_set members.now) «package».entry) }
 {
-    let Package {
-        id,
-        source,
-        mut record,
-        declared: _,
-    } = package;
-    let is_member = members.contains(id);
-    record.source = source_of(
+    let source = source_of(
         alloc,
-        is_member,
-        source,
-        record.manifest_path.as_path(),
+        members.contains(package.id),
+        package.source,
+        package.record.manifest_path.as_path(),
         root,
     )?;
+    let mut record = package.record;
+    record.source = source;
     Ok(record)
 }
 
-/// The records of the packages of a workspace with these members at this root.
-pub(crate) fn package_records(
+// The records of the packages of a workspace with these members at this root.
+fn records_of(
     alloc: Global,
     packages: Vec<Package<'_>>,
     members: &IndexSet<&str>,
@@ -358,4 +351,18 @@ pub(crate) fn package_records(
         records.push(record_of(alloc, package, members, root)?)?;
     }
     Ok(records)
+}
+
+/// The records of the packages of a workspace with these members at this root.
+pub(crate) fn package_records(
+    alloc: Global,
+    packages: Vec<Package<'_>>,
+    members: &[&str],
+    root: Utf8Path<'_>,
+) -> Result<Vec<PackageRecord>, AllocError>
+    ensures { IfOk result
+        (λ records. AllZip (IsRecordOf (path_text root.entry) (is_among (map (λ id. id.now) members.now))) packages.entry.items records.items) }
+{
+    let known = set_of(alloc, members)?;
+    records_of(alloc, packages, &known, root)
 }

@@ -1,16 +1,17 @@
 //! All records.
-ghost use Rattle.std.specs.Prelude.{◌≡◌, List, true, false, Some, IsSome, IsSomeAnd, IfSome, IfOk, OnOk, IfErr, MatchResult, None, map, codes};
+ghost use Rattle.std.specs.Prelude.{◌≡◌, ℕ, List, true, false, Some, IsSome, IsSomeAnd, IfSome, IfOk, OnOk, IfErr, MatchResult, None, map, codes};
 ghost use Rattle.json.specs.Json.{Json, document, array};
-ghost use Rattle.json.specs.Value.{value_view};
+ghost use Rattle.json.specs.Find.{get};
+ghost use Rattle.json.specs.Value.{items_of, value_view};
 ghost use Rattle.guppy_data.specs.declared.records.LinkRecord.{LinkRecord};
 ghost use Rattle.guppy_data.specs.declared.records.PackageRecord.{PackageRecord};
 ghost use Rattle.guppy_data.specs.declared.records.WorkspaceRecord.{WorkspaceRecord};
-ghost use Rattle.guppy_metadata.specs.Fault.{IsNotJson, IsNotResolved, IsOutOfMemory, NoneIs};
-ghost use Rattle.guppy_metadata.specs.Links.{AreLinks, AreLinksOfList, nodes_in};
+ghost use Rattle.guppy_metadata.specs.Fault.{IsNotJson, IsNotResolved, IsOutOfMemory, LacksMemory, NoneIs};
+ghost use Rattle.guppy_metadata.specs.Links.{AreLinks, AreLinksOfAll, nodes_in};
 ghost use Rattle.guppy_metadata.specs.Members.{data_of, present};
-ghost use Rattle.guppy_metadata.specs.Package.{ArePackages, ArePositions, AreTold, are_known};
+ghost use Rattle.guppy_metadata.specs.Package.{ArePackages, AreTold, are_known};
 ghost use Rattle.guppy_metadata.specs.Records.{AreRecords, SaysNoRecords};
-ghost use Rattle.guppy_metadata.specs.Told.{Tells};
+ghost use Rattle.guppy_metadata.specs.Told.{IsOther, Tells};
 ghost use Rattle.guppy_metadata.specs.Workspace.{IsWorkspace};
 
 use crate::fault::{MetadataFault, Misfit, TextFault};
@@ -18,7 +19,7 @@ use crate::link::{Packages, links_of};
 use crate::object::Object;
 use crate::package::{Package, package_records, packages_of, positions_of};
 use crate::told::{Told, told_in};
-use crate::workspace::{member_ids, set_of, workspace_record};
+use crate::workspace::{member_ids, workspace_record};
 use guppy_data::{LinkRecord, Records};
 use json::{Error, MAX_DEPTH, Reader, Scratch, Value};
 use std::alloc::Global;
@@ -43,9 +44,9 @@ fn value_of<'a>(
 }
 
 // The nodes of the resolved dependencies.
-fn nodes_of<'v, 'a>(metadata: Object<'v, 'a>) -> Result<&'v Value<'a>, Misfit>
+fn nodes_of<'v, 'a>(metadata: Object<'v, 'a>) -> Result<&'v Vec<Value<'a>>, Misfit>
     ensures { MatchResult result
-        (λ nodes. nodes_in (data_of metadata.entry) ≡ Some (value_view nodes.now))
+        (λ nodes. nodes_in (data_of metadata.entry) ≡ Some (array (items_of (map value_view nodes.now.items))))
         (NoneIs (λ nodes. nodes_in (data_of metadata.entry) ≡ Some (array nodes))) }
 {
     let resolve = metadata.object("resolve")?;
@@ -56,14 +57,18 @@ fn nodes_of<'v, 'a>(metadata: Object<'v, 'a>) -> Result<&'v Value<'a>, Misfit>
 }
 
 // Asks that each of these IDs is that of one of the packages.
-fn check_members(alloc: Global, members: &[&str], packages: Packages<'_, '_>) -> Result<(), Misfit>
-    requires { ArePositions packages.packages.now packages.positions.now }
+fn check_members(alloc: Global, packages: &[Package<'_>], members: &[&str]) -> Result<(), Misfit>
     ensures { MatchResult result
-        (λ _. are_known packages.entry.packages.now (map (λ id. id.now) members.now) ≡ true)
-        (λ _. are_known packages.entry.packages.now (map (λ id. id.now) members.now) ≡ false) }
+        (λ _. are_known packages.now (map (λ id. id.now) members.now) ≡ true)
+        (λ misfit. ¬ LacksMemory misfit → are_known packages.now (map (λ id. id.now) members.now) ≡ false) }
 {
+    let positions = positions_of(alloc, packages)?;
+    let known = Packages {
+        packages,
+        positions: &positions,
+    };
     for (index, id) in members.iter().enumerate() {
-        if packages.with_id(id).is_none() {
+        if known.with_id(id).is_none() {
             let fault = Misfit::bad_text(alloc, "", TextFault::NoPackage);
             return Err(fault.within_item(alloc, "workspace_members", index));
         }
@@ -76,34 +81,48 @@ fn links_between(
     alloc: Global,
     packages: &[Package<'_>],
     members: &[&str],
-    nodes: &Value<'_>,
+    nodes: &[Value<'_>],
 ) -> Result<Vec<LinkRecord>, Misfit>
     ensures { MatchResult result
         (λ links. (are_known packages.now (map (λ id. id.now) members.now) ≡ true)
-        × AreLinksOfList packages.now (value_view nodes.now) links.items)
+        × AreLinksOfAll packages.now (map value_view nodes.now) links.items)
         (NoneIs (λ (links : List LinkRecord).
         (are_known packages.now (map (λ id. id.now) members.now) ≡ true)
-        × AreLinksOfList packages.now (value_view nodes.now) links)) }
+        × AreLinksOfAll packages.now (map value_view nodes.now) links)) }
 {
+    check_members(alloc, packages, members)?;
     let positions = positions_of(alloc, packages)?;
     let known = Packages {
         packages,
         positions: &positions,
     };
-    check_members(alloc, members, known)?;
     match links_of(alloc, known, nodes) {
         Ok(links) => Ok(links),
         Err(fault) => Err(fault.within(alloc, "resolve")),
     }
 }
 
-// The packages that the JSON tells.
-fn packages_in<'a>(metadata: Object<'_, 'a>) -> Result<Vec<Package<'a>>, Misfit>
-    ensures { MatchResult result
-        (λ packages. AreTold (data_of metadata.entry) packages.items)
-        (NoneIs (AreTold (data_of metadata.entry))) }
+// The records of these packages and links, and of what the JSON says of the workspace.
+fn records_with(
+    metadata: Object<'_, '_>,
+    packages: Vec<Package<'_>>,
+    links: Vec<LinkRecord>,
+) -> Result<Records, Misfit>
+    ensures { IfOk result (λ r. (d : Json) → ((name : List ℕ) → IsOther name → get name (data_of metadata.entry) ≡ get name d)
+        → AreTold d packages.entry.items → AreLinks d links.items
+        → AreRecords d r.packages.items r.links.items r.workspace) }
 {
-    packages_of(metadata.alloc, metadata.required("packages")?)
+    let alloc = metadata.alloc;
+    let workspace = workspace_record(metadata)?;
+    let members = member_ids(metadata)?;
+    check_members(alloc, packages.as_slice(), members.as_slice())?;
+    let root = workspace.root.as_path();
+    let packages = package_records(alloc, packages, members.as_slice(), root)?;
+    Ok(Records {
+        packages,
+        links,
+        workspace,
+    })
 }
 
 // The records that are told, where nothing is missing or wrong.
@@ -123,21 +142,7 @@ fn records_told(alloc: Global, told: Told<'_>) -> Option<Records>
         alloc,
         value: &value,
     };
-    let workspace = workspace_record(metadata).ok()?;
-    let members = member_ids(metadata).ok()?;
-    let positions = positions_of(alloc, packages.as_slice()).ok()?;
-    let known = Packages {
-        packages: packages.as_slice(),
-        positions: &positions,
-    };
-    check_members(alloc, members.as_slice(), known).ok()?;
-    let members = set_of(alloc, members.as_slice()).ok()?;
-    let packages = package_records(alloc, packages, &members, workspace.root.as_path()).ok()?;
-    Some(Records {
-        packages,
-        links,
-        workspace,
-    })
+    records_with(metadata, packages, links).ok()
 }
 
 // The records, of packages and nodes that are read item by item. There are none where these stand in another order
@@ -165,10 +170,11 @@ fn records_in(metadata: Object<'_, '_>) -> Result<Records, Misfit>
     let nodes = nodes_of(metadata)?;
     let workspace = workspace_record(metadata)?;
     let members = member_ids(metadata)?;
-    let packages = packages_in(metadata)?;
+    let packages = packages_of(metadata)?;
+    let nodes = nodes.as_slice();
     let links = links_between(alloc, packages.as_slice(), members.as_slice(), nodes)?;
-    let members = set_of(alloc, members.as_slice())?;
-    let packages = package_records(alloc, packages, &members, workspace.root.as_path())?;
+    let root = workspace.root.as_path();
+    let packages = package_records(alloc, packages, members.as_slice(), root)?;
     Ok(Records {
         packages,
         links,
@@ -182,6 +188,9 @@ fn records_in(metadata: Object<'_, '_>) -> Result<Records, Misfit>
 /// other fault tells the first place in the JSON, in the order in which it is read, where something is missing,
 /// of another kind or no such text. What the rules of a package graph refuse, as a link's end that is no
 /// package, is left to `IntoGraph::into_graph`.
+///
+/// Any error but `OutOfMemory` means that the text says no records: it is no JSON, or no packages, links and
+/// workspace are what the JSON says.
 ///
 /// Time grows with the text, and of one package with its resolved times its declared dependencies. Where the
 /// text has `packages` before `resolve`, and of each node the `id` before the `deps`, as Cargo prints them, takes

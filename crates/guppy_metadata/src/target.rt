@@ -1,12 +1,12 @@
 //! Build targets.
 ghost use Rattle.std.specs.Prelude.{◌≡◌, ◌∷◌, ℕ, List, Some, IfSome, MatchResult, map, option_map, string_bytes, codes};
 ghost use Rattle.json.specs.Json.{Json, value};
-ghost use Rattle.json.specs.Value.{value_view};
 ghost use Rattle.guppy_metadata.specs.Fault.{NoneIs, IsRead};
 ghost use Rattle.guppy_metadata.specs.Members.{data_of, is_among, AreTexts, IsListOf};
+ghost use Rattle.guppy_metadata.specs.Package.{AreTargets};
 ghost use Rattle.guppy_metadata.specs.Target.{IsTargetId, IsLibraryOf, IsTargetKind, IsTarget};
 
-use crate::fault::{Kind, Misfit};
+use crate::fault::Misfit;
 use crate::object::Object;
 use crate::read::read_object;
 use guppy_data::{
@@ -82,32 +82,36 @@ fn build_target(target: Object<'_, '_>) -> Result<BuildTargetRecord, Misfit>
     ensures { IsRead (IsTarget (data_of target.entry)) result }
 {
     let name = target.copied_text("name")?;
-    let (id, lib_name) = id_of(first_kind(target)?, name);
-    let kind = kind_of(&id, target.copied_texts("crate_types")?);
+    let kind = first_kind(target)?;
+    let doc_by_default = target.boolean("doc", true)?;
+    let doctest_by_default = target.boolean("doctest", true)?;
+    let test_by_default = target.boolean("test", true)?;
+    let crate_types = target.copied_texts("crate_types")?;
+    let required_features = target.copied_texts("required-features")?;
+    let path = target.copied_text("src_path")?;
+    let edition = target.copied_text("edition")?;
+    let (id, lib_name) = id_of(kind, name);
+    let kind = kind_of(&id, crate_types);
     Ok(BuildTargetRecord {
         id,
         kind,
         lib_name,
-        required_features: target.copied_texts("required-features")?,
-        path: Utf8PathBuf::new(target.copied_text("src_path")?),
-        edition: target.copied_text("edition")?,
-        doc_by_default: target.boolean("doc", true)?,
-        doctest_by_default: target.boolean("doctest", true)?,
-        test_by_default: target.boolean("test", true)?,
+        required_features,
+        path: Utf8PathBuf::new(path),
+        edition,
+        doc_by_default,
+        doctest_by_default,
+        test_by_default,
     })
 }
 
-/// The build targets that the items of the list `targets` are.
-pub(crate) fn build_targets(
-    alloc: Global,
-    value: &Value<'_>,
-) -> Result<Vec<BuildTargetRecord>, Misfit>
-    ensures { MatchResult result (λ targets. IsListOf IsTarget (value_view value.now) targets.items)
-        (NoneIs (IsListOf IsTarget (value_view value.now))) }
+/// The build targets of a package: the items of the list `targets`.
+pub(crate) fn build_targets(json: Object<'_, '_>) -> Result<Vec<BuildTargetRecord>, Misfit>
+    ensures { MatchResult result (λ targets. AreTargets (data_of json.entry) targets.items)
+        (NoneIs (AreTargets (data_of json.entry))) }
 {
-    let Value::Array(items) = value else {
-        return Err(Misfit::wrong_kind(alloc, "targets", Kind::List));
-    };
+    let alloc = json.alloc;
+    let items = json.list("targets")?;
     let mut targets = Vec::with_capacity(alloc, items.len())?;
     for (index, item) in items.iter().enumerate() {
         let target = Object::of_item(alloc, "targets", index, item)?;

@@ -3,7 +3,7 @@ ghost use Rattle.std.specs.Prelude.{◌≡◌, ℕ, List, Option, IfOk, MatchRes
 ghost use Rattle.json.specs.Json.{string};
 ghost use Rattle.json.specs.Find.{get};
 ghost use Rattle.guppy_metadata.specs.Fault.{NoneIs, IsRead};
-ghost use Rattle.guppy_metadata.specs.Members.{data_of, list_of, is_among, is_in_set};
+ghost use Rattle.guppy_metadata.specs.Members.{data_of, list_of, is_among, is_in_set, AreTexts};
 ghost use Rattle.guppy_metadata.specs.Workspace.{IsBuildDirectory, IsWorkspace};
 
 use crate::fault::Misfit;
@@ -12,13 +12,16 @@ use guppy_data::{PackageId, Utf8PathBuf, WorkspaceRecord};
 use indexmap::IndexSet;
 use std::alloc::{AllocError, Global};
 
-// The IDs that these texts are.
-fn ids_of(alloc: Global, texts: &[&str]) -> Result<Vec<PackageId>, AllocError>
-    ensures { IfOk result (λ ids. ids.items ≡ map (λ text. text.now) texts.now) }
+// The IDs of the members that Cargo's commands act on where none is named.
+fn default_members(metadata: Object<'_, '_>) -> Result<Vec<PackageId>, Misfit>
+    ensures { MatchResult result
+        (λ ids. AreTexts (codes "workspace_default_members") (data_of metadata.entry) ids.items)
+        (NoneIs (AreTexts (codes "workspace_default_members") (data_of metadata.entry))) }
 {
-    let mut ids = Vec::with_capacity(alloc, texts.len())?;
-    for text in texts {
-        ids.push(PackageId::new(String::from_str(alloc, text)?))?;
+    let texts = metadata.texts("workspace_default_members")?;
+    let mut ids = Vec::with_capacity(metadata.alloc, texts.len())?;
+    for text in texts.as_slice() {
+        ids.push(PackageId::new(String::from_str(metadata.alloc, text)?))?;
     }
     Ok(ids)
 }
@@ -45,15 +48,18 @@ fn build_directory(metadata: Object<'_, '_>) -> Result<Option<Utf8PathBuf>, Misf
 pub(crate) fn workspace_record(metadata: Object<'_, '_>) -> Result<WorkspaceRecord, Misfit>
     ensures { IsRead (IsWorkspace (data_of metadata.entry)) result }
 {
-    let alloc = metadata.alloc;
-    let root = Utf8PathBuf::new(metadata.copied_text("workspace_root")?);
-    let target_directory = Utf8PathBuf::new(metadata.copied_text("target_directory")?);
-    let default_members = metadata.texts("workspace_default_members")?;
-    let mut workspace = WorkspaceRecord::new(alloc, root, target_directory);
-    workspace.build_directory = build_directory(metadata)?;
-    workspace.metadata_table = metadata.table("metadata")?;
-    workspace.default_members = ids_of(alloc, default_members.as_slice())?;
-    Ok(workspace)
+    let root = metadata.copied_text("workspace_root")?;
+    let target_directory = metadata.copied_text("target_directory")?;
+    let build_directory = build_directory(metadata)?;
+    let default_members = default_members(metadata)?;
+    let metadata_table = metadata.table("metadata")?;
+    Ok(WorkspaceRecord {
+        root: Utf8PathBuf::new(root),
+        target_directory: Utf8PathBuf::new(target_directory),
+        build_directory,
+        metadata_table,
+        default_members,
+    })
 }
 
 /// The IDs of the workspace's members.

@@ -1,8 +1,9 @@
-use Rattle.std.proofs.Common.{subst, codes, arith}
+use Rattle.std.proofs.Common.{refl, subst, codes, arith}
 use Rattle.json.specs.Json.{string}
+use Rattle.json.specs.Find.{get}
 use Rattle.json.specs.Value.{value_view}
 use Rattle.guppy_metadata.specs.Dependency.{IsDeclared}
-use Rattle.guppy_metadata.specs.Fault.{NoneIs}
+use Rattle.guppy_metadata.specs.Members.{data_of}
 use Rattle.guppy_metadata.proofs.FittingLists.{next_fits, whole_list}
 use Rattle.guppy_metadata.proofs.Refused.{failed, lacking, no_member}
 use Rattle.guppy_metadata.proofs.WrongItems.{item_refused}
@@ -17,8 +18,8 @@ pub returns-in_err-dependency : goal.returns-in_err-dependency
 returns-in_err-dependency c =
     let item = c.item-item.result in
     failed _ _ _ _ c.from_residual-in_err-dependency.ensures (λ e is.
-    item_refused c.args.value.now c.in-Array.items c.deref-item-items.result.now c.in-Array.is c.deref-item-items.ensures.value c.loop-index.index item _ c.loop-index-test.true c.item-item.is e e (λ lacks. lacks)
-    IsDeclared (no_member (IsDeclared (value_view item)) (value_view item) (codes "name") e c.in_err-dependency.ensures (λ x holds. (string x.name.now, holds.name))))
+    item_refused (get (codes "dependencies") (data_of c.args.json)) c.in_ok-items.items.now.items c.deref-item-items.result.now c.in_ok-items.ensures c.deref-item-items.ensures.value c.loop-index.index item _ c.loop-index-test.true c.item-item.is e
+    IsDeclared (value_view item) e refl (λ lacks. lacks) (no_member (IsDeclared (value_view item)) (value_view item) (codes "name") e c.in_err-dependency.ensures (λ x holds. (string x.name.now, holds.name))))
 
 pub returns-in_err-push-in-Ok : goal.returns-in_err-push-in-Ok
 returns-in_err-push-in-Ok c =
@@ -26,9 +27,10 @@ returns-in_err-push-in-Ok c =
 
 pub returns-in-Err : goal.returns-in-Err
 returns-in-Err c =
-    let none : NoneIs (IsDeclared (value_view c.item-item.result)) c.in-Err.fault = subst (λ d. NoneIs (IsDeclared d) c.in-Err.fault) c.in_ok-dependency.ensures c.in-Err.ensures in
-    item_refused c.args.value.now c.in-Array.items c.deref-item-items.result.now c.in-Array.is c.deref-item-items.ensures.value c.loop-index.index _ _ c.loop-index-test.true c.item-item.is c.within_item.result c.in-Err.fault c.within_item.ensures IsDeclared none
+    item_refused (get (codes "dependencies") (data_of c.args.json)) c.in_ok-items.items.now.items c.deref-item-items.result.now c.in_ok-items.ensures c.deref-item-items.ensures.value c.loop-index.index c.item-item.result _ c.loop-index-test.true c.item-item.is c.within_item.result
+    IsDeclared _ c.in-Err.fault c.in_ok-dependency.ensures c.within_item.ensures c.in-Err.ensures
 
 pub returns : goal.returns
 returns c =
-    whole_list IsDeclared c.args.value.now c.in-Array.items c.deref-item-items.result.now c.loop-index.index c.loop-index.declared.items c.in-Array.is c.deref-item-items.ensures.value (let past = c.loop-index-test.false in omega arith) c.loop-index.invariant
+    whole_list IsDeclared (get (codes "dependencies") (data_of c.args.json)) c.in_ok-items.items.now.items c.deref-item-items.result.now c.in_ok-items.ensures c.deref-item-items.ensures.value c.loop-index.index c.loop-index.declared.items
+    (let past = c.loop-index-test.false in omega arith) c.loop-index.invariant

@@ -1,11 +1,10 @@
-use Rattle.std.proofs.Common.{◌≡◌, ◌∙◌, Some, None, sym, ap, subst}
+use Rattle.std.proofs.Common.{◌≡◌, ◌∙◌, Some, None, sym, ap}
 use Rattle.std.specs.Option.{option_copied}
-use Rattle.guppy_data.specs.declared.records.LinkRecord.{LinkRecord}
-use Rattle.guppy_metadata.specs.Links.{IsLink, IsAsked}
+use Rattle.guppy_metadata.specs.Links.{IsLink}
 use Rattle.guppy_metadata.specs.Members.{data_of}
 use Rattle.guppy_metadata.specs.Package.{with_id}
-use Rattle.guppy_metadata.proofs.Refused.{failed, handed}
-use Rattle.guppy_metadata.proofs.ResolvedOnce.{resolved_once, asked_alike}
+use Rattle.guppy_metadata.proofs.Refused.{refused}
+use Rattle.guppy_metadata.proofs.SamePackages.{asked_once}
 use Rattle.guppy_metadata.proofs.link.add_link.Goals as goal
 
 pub returns-in_default-clause-added : goal.returns-in_default-clause-added
@@ -44,16 +43,7 @@ returns-clause-added c =
 pub returns-in_err-add_link_between-clause-refused : goal.returns-in_err-add_link_between-clause-refused
 returns-in_err-add_link_between-clause-refused c =
     let packages = c.args.packages.packages.now in
-    let from = c.args.from.now in
-    let d = data_of c.args.dependency in
-    let resolved = c.in_ok-resolved.resolved in
-    let asking = c.in-Some.asking.now in
-    let needed = c.in-Some-with_id.needed.now in
-    let some : with_id from packages ≡ Some asking = sym c.requires.asking ∙ ap option_copied c.in-Some.is in
-    let asked : (link : LinkRecord) → IsLink packages from d link → IsAsked (Some asking) (Some needed) from resolved link =
-    λ link holds.
-    let same = resolved_once d holds.resolved resolved holds.resolved_is c.in_ok-resolved.ensures in
-    let other : with_id holds.resolved.id.now packages ≡ Some needed = ap (λ id. with_id id packages) same.id ∙ sym c.in-Some-with_id.ensures in
-    asked_alike (Some asking) (Some needed) from holds.resolved resolved same link
-    (subst (λ o. IsAsked (Some asking) o from holds.resolved link) other (subst (λ o. IsAsked o (with_id holds.resolved.id.now packages) from holds.resolved link) some holds.asked))
-    in failed _ _ _ _ c.from_residual-in_err-add_link_between.ensures (λ e is. handed (IsLink packages from d) (IsAsked (Some asking) (Some needed) from resolved) _ e is (λ link holds. (link, asked link holds)) c.in_err-add_link_between.ensures.refused)
+    let some : with_id c.args.from.now packages ≡ Some c.in-Some.asking.now = sym c.requires.asking ∙ ap option_copied c.in-Some.is in
+    refused _ _ _ c.from_residual-in_err-add_link_between.ensures
+    (λ link holds. (link, rw (some, sym c.in-Some-with_id.ensures) at (asked_once packages c.args.from.now (data_of c.args.dependency) link holds c.in_ok-resolved.resolved c.in_ok-resolved.ensures)))
+    c.in_err-add_link_between.ensures.refused

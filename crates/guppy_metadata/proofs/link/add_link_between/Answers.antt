@@ -1,11 +1,11 @@
-use Rattle.std.proofs.Common.{◌≡◌, ◌∙◌, [], false, true, filter, map, sym, ap, subst}
+use Rattle.std.proofs.Common.{◌≡◌, ◌∙◌, [], filter, map, sym, ap, subst}
 use Rattle.std.specs.Prelude.{is_ok}
 use Rattle.std.proofs.lemmas.Bool.{false≢true}
 use Rattle.semver.specs.Identifiers.{comparator_view}
-use Rattle.guppy_metadata.specs.Fits.{fits, are_matched}
+use Rattle.guppy_metadata.specs.Fits.{fits}
 use Rattle.guppy_metadata.specs.Gathered.{IsGathered, IsNamedAs, IsLinkOf}
 use Rattle.guppy_metadata.specs.Links.{Joins}
-use Rattle.guppy_metadata.proofs.MatchedDependencies.{picked_first, matched_alike}
+use Rattle.guppy_metadata.proofs.MatchedDependencies.{picked_first, whole, matched_whole}
 use Rattle.guppy_metadata.proofs.link.add_link_between.Goals as goal
 
 pub returns-clause-added : goal.returns-clause-added
@@ -18,7 +18,8 @@ returns-clause-added c =
     let texts = c.in_ok-texts.ensures in
     let bare = c.bare_link.ensures in
     let was : c.in_ok-link.link.now ≡ c.bare_link.result = c.in_ok-link.ensures.value in
-    let whole : filter p rest ≡ filter p c.args.asking.now.declared.items = c.from_first_fitting-declared.ensures.all ∙ ap (filter p) c.as_slice.ensures.value in
+    let same : filter p rest ≡ filter p c.args.asking.now.declared.items =
+    whole c.args.from.now c.args.resolved.now c.args.needed.now.record rest _ _ c.from_first_fitting-declared.ensures.all c.as_slice.ensures.value in
     let parts = picked_first p rest first c.in-Some.ensures.value c.from_first_fitting-declared.ensures.first in
     let joins : Joins c.args.from.now c.args.resolved.now.id.now c.args.resolved.now.name.now c.bare_link.result = record {
       from_is = bare.joins.from_is ∙ texts.from_is;
@@ -32,9 +33,9 @@ returns-clause-added c =
     let made : IsLinkOf (filter p c.args.asking.now.declared.items) link = record {
       first = first;
       others = parts.0;
-      parts = sym whole ∙ parts.1;
+      parts = sym same ∙ parts.1;
       named = adds.named first (subst (IsNamedAs first) (sym was) named);
-      gathered = subst (λ xs. IsGathered xs link) whole (adds.gathered (subst (IsGathered []) (sym was) bare.gathered));
+      gathered = subst (λ xs. IsGathered xs link) same (adds.gathered (subst (IsGathered []) (sym was) bare.gathered));
     } in (
       link,
       (c.push_mut.follows.holds link (ap is_ok c.in_ok-link.was)).0,
@@ -44,25 +45,11 @@ returns-clause-added c =
 
 pub returns-clause-matched : goal.returns-clause-matched
 returns-clause-matched c =
-    let from = c.args.from.now in
-    let resolved = c.args.resolved.now in
-    let needed = c.args.needed.now.record in
-    let rest = c.from_first_fitting-declared.result.now in
-    let all = c.args.asking.now.declared.items in
-    let usages = c.as_slice-usages.result.now in
-    let whole : filter (fits from resolved needed) rest ≡ filter (fits from resolved needed) all = c.from_first_fitting-declared.ensures.all ∙ ap (filter (fits from resolved needed)) c.as_slice.ensures.value in
-    let matched : are_matched from resolved needed rest usages ≡ true = sym c.if-not-are_matched.ensures in
-    subst (λ us. are_matched from resolved needed all us ≡ true) c.as_slice-usages.ensures.value (sym (matched_alike from resolved needed rest all whole usages) ∙ matched)
+    sym (matched_whole c.args.from.now c.args.resolved.now c.args.needed.now.record c.from_first_fitting-declared.result.now _ _ c.from_first_fitting-declared.ensures.all c.as_slice.ensures.value
+    c.as_slice-usages.result.now _ c.as_slice-usages.ensures.value) ∙ sym c.if-not-are_matched.ensures
 
 pub returns-then-not-are_matched-clause-refused : goal.returns-then-not-are_matched-clause-refused
 returns-then-not-are_matched-clause-refused c other link asked =
-    let from = c.args.from.now in
-    let resolved = c.args.resolved.now in
-    let needed = c.args.needed.now.record in
-    let rest = c.from_first_fitting-declared.result.now in
-    let all = c.args.asking.now.declared.items in
-    let usages = c.as_slice-usages.result.now in
-    let whole : filter (fits from resolved needed) rest ≡ filter (fits from resolved needed) all = c.from_first_fitting-declared.ensures.all ∙ ap (filter (fits from resolved needed)) c.as_slice.ensures.value in
-    let unmatched : are_matched from resolved needed rest usages ≡ false = sym c.if-not-are_matched.ensures in
-    let matched : are_matched from resolved needed all usages ≡ true = subst (λ us. are_matched from resolved needed all us ≡ true) (sym c.as_slice-usages.ensures.value) asked.1 in
-    false≢true (sym unmatched ∙ (matched_alike from resolved needed rest all whole usages ∙ matched))
+    false≢true (c.if-not-are_matched.ensures
+    ∙ (matched_whole c.args.from.now c.args.resolved.now c.args.needed.now.record c.from_first_fitting-declared.result.now _ _ c.from_first_fitting-declared.ensures.all c.as_slice.ensures.value
+    c.as_slice-usages.result.now _ c.as_slice-usages.ensures.value ∙ asked.1))

@@ -1,9 +1,10 @@
-use Rattle.std.proofs.Common.{◌∙◌, ◌∷◌, ◌++◌, [], sym, ap, subst, codes, arith}
+use Rattle.std.proofs.Common.{◌∙◌, ◌∷◌, ◌++◌, [], refl, sym, ap, subst, codes, arith}
 use Rattle.std.proofs.lemmas.List.{append_assoc, append-nil}
 use Rattle.json.specs.Json.{string}
+use Rattle.json.specs.Find.{get}
 use Rattle.json.specs.Value.{value_view}
-use Rattle.guppy_metadata.specs.Fault.{NoneIs}
 use Rattle.guppy_metadata.specs.Links.{IsLink}
+use Rattle.guppy_metadata.specs.Members.{data_of}
 use Rattle.guppy_metadata.proofs.FittingLists.{next_fits, whole_list}
 use Rattle.guppy_metadata.proofs.Refused.{failed, no_member}
 use Rattle.guppy_metadata.proofs.WrongItems.{item_refused}
@@ -28,20 +29,21 @@ pub returns-in_err-dependency-clause-refused : goal.returns-in_err-dependency-cl
 returns-in_err-dependency-clause-refused c =
     let is_link = IsLink c.args.packages.packages.now c.args.from.now in
     let item = c.item-item.result in
-    failed _ _ _ _ c.from_residual.ensures (λ e is.
-    item_refused c.args.value.now c.in-Array.items c.deref-item-items.result.now c.in-Array.is c.deref-item-items.ensures.value c.loop-index.index item _ c.loop-index-test.true c.item-item.is e e (λ lacks. lacks)
-    is_link (no_member (is_link (value_view item)) (value_view item) (codes "pkg") e c.in_err-dependency.ensures (λ link holds. (string holds.resolved.id.now, holds.resolved_is.id_is))))
+    failed _ _ _ _ c.from_residual-in_err-dependency.ensures (λ e is.
+    item_refused (get (codes "deps") (data_of c.args.node)) c.in_ok-items.items.now.items c.deref-item-items.result.now c.in_ok-items.ensures c.deref-item-items.ensures.value c.loop-index.index item _ c.loop-index-test.true c.item-item.is e
+    is_link (value_view item) e refl (λ lacks. lacks)
+    (no_member (is_link (value_view item)) (value_view item) (codes "pkg") e c.in_err-dependency.ensures (λ link holds. (string holds.resolved.id.now, holds.resolved_is.id_is))))
 
 pub returns-in-Err-clause-refused : goal.returns-in-Err-clause-refused
 returns-in-Err-clause-refused c =
-    let is_link = IsLink c.args.packages.packages.now c.args.from.now in
-    let none : NoneIs (is_link (value_view c.item-item.result)) c.in-Err.fault = subst (λ d. NoneIs (is_link d) c.in-Err.fault) c.in_ok-dependency.ensures c.in-Err.ensures.refused in
-    item_refused c.args.value.now c.in-Array.items c.deref-item-items.result.now c.in-Array.is c.deref-item-items.ensures.value c.loop-index.index _ _ c.loop-index-test.true c.item-item.is c.within_item.result c.in-Err.fault c.within_item.ensures is_link none
+    item_refused (get (codes "deps") (data_of c.args.node)) c.in_ok-items.items.now.items c.deref-item-items.result.now c.in_ok-items.ensures c.deref-item-items.ensures.value c.loop-index.index c.item-item.result _ c.loop-index-test.true c.item-item.is c.within_item.result
+    (IsLink c.args.packages.packages.now c.args.from.now) _ c.in-Err.fault c.in_ok-dependency.ensures c.within_item.ensures c.in-Err.ensures.refused
 
 pub returns-clause-added : goal.returns-clause-added
 returns-clause-added c =
     let were = c.loop-index.invariant in (
       were.0,
       were.1,
-      whole_list (IsLink c.args.packages.packages.now c.args.from.now) c.args.value.now c.in-Array.items c.deref-item-items.result.now c.loop-index.index were.0 c.in-Array.is c.deref-item-items.ensures.value (let past = c.loop-index-test.false in omega arith) were.2,
+      whole_list (IsLink c.args.packages.packages.now c.args.from.now) (get (codes "deps") (data_of c.args.node)) c.in_ok-items.items.now.items c.deref-item-items.result.now c.in_ok-items.ensures c.deref-item-items.ensures.value
+          c.loop-index.index were.0 (let past = c.loop-index-test.false in omega arith) were.2,
     )

@@ -1,6 +1,8 @@
-use Rattle.std.proofs.Common.{arith}
+use Rattle.std.proofs.Common.{refl, codes, arith}
+use Rattle.json.specs.Find.{get}
 use Rattle.json.specs.Value.{value_view}
 use Rattle.guppy_metadata.specs.Links.{IsUsage}
+use Rattle.guppy_metadata.specs.Members.{data_of}
 use Rattle.guppy_metadata.proofs.FittingLists.{next_fits, whole_list}
 use Rattle.guppy_metadata.proofs.Refused.{failed, lacking}
 use Rattle.guppy_metadata.proofs.WrongItems.{item_refused}
@@ -16,8 +18,10 @@ returns-in_err-push-in-Ok c =
 
 pub returns-in-Err : goal.returns-in-Err
 returns-in-Err c =
-    item_refused c.args.value.now c.in-Array.items c.deref-item-items.result.now c.in-Array.is c.deref-item-items.ensures.value c.loop-index.index _ _ c.loop-index-test.true c.item-item.is c.within_item.result c.in-Err.fault c.within_item.ensures IsUsage c.in-Err.ensures
+    item_refused (get (codes "dep_kinds") (data_of c.args.dependency)) c.in_ok-items.items.now.items c.deref-item-items.result.now c.in_ok-items.ensures c.deref-item-items.ensures.value c.loop-index.index c.item-item.result _ c.loop-index-test.true c.item-item.is c.within_item.result
+    IsUsage _ c.in-Err.fault refl c.within_item.ensures c.in-Err.ensures
 
 pub returns : goal.returns
 returns c =
-    whole_list IsUsage c.args.value.now c.in-Array.items c.deref-item-items.result.now c.loop-index.index c.loop-index.usages.items c.in-Array.is c.deref-item-items.ensures.value (let past = c.loop-index-test.false in omega arith) c.loop-index.invariant
+    whole_list IsUsage (get (codes "dep_kinds") (data_of c.args.dependency)) c.in_ok-items.items.now.items c.deref-item-items.result.now c.in_ok-items.ensures c.deref-item-items.ensures.value c.loop-index.index c.loop-index.usages.items
+    (let past = c.loop-index-test.false in omega arith) c.loop-index.invariant

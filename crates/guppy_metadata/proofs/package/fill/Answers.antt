@@ -1,40 +1,24 @@
-use Rattle.std.proofs.Common.{option_map, codes}
-use Rattle.std.specs.Prelude.{unwrap_or, string_bytes}
-use Rattle.json.specs.Json.{null}
-use Rattle.json.specs.Find.{get}
-use Rattle.json.specs.Value.{value_view}
-use Rattle.serde_json.specs.View.{view}
 use Rattle.guppy_metadata.specs.Feature.{AreFeatures}
-use Rattle.guppy_metadata.specs.Members.{data_of, IsText}
-use Rattle.guppy_metadata.specs.Package.{IsFilled, IsPublishable, IsRustVersion}
-use Rattle.guppy_metadata.specs.Table.{IsTable}
-use Rattle.guppy_metadata.proofs.Refused.{failed, lacking, part, handed}
+use Rattle.guppy_metadata.specs.Members.{data_of}
+use Rattle.guppy_metadata.specs.Package.{IsFilled}
+use Rattle.json.specs.Value.{value_view}
+use Rattle.guppy_metadata.proofs.Refused.{failed, refused, lacking, part}
 use Rattle.guppy_metadata.proofs.package.fill.Goals as goal
 
 pub returns-in_err-made-clause-refused : goal.returns-in_err-made-clause-refused
-returns-in_err-made-clause-refused c =
-    let d = data_of c.args.json in
-    failed _ _ _ _ c.from_residual.ensures (λ e is. handed (IsFilled d) (IsTable (unwrap_or (get (codes "metadata") d) null)) _ e is (λ r holds. (view r.metadata_table, holds.metadata_table)) c.in_err-made.ensures)
+returns-in_err-made-clause-refused c = refused _ _ _ c.from_residual.ensures (λ r holds. (_, holds.metadata_table)) c.in_err-made.ensures
 
 pub returns-in_err-made-2-clause-refused : goal.returns-in_err-made-2-clause-refused
-returns-in_err-made-2-clause-refused c =
-    let d = data_of c.args.json in
-    failed _ _ _ _ c.from_residual-in_err-made-2.ensures (λ e is. handed (IsFilled d) (IsText (codes "links") d) _ e is (λ r holds. (option_map string_bytes r.links, holds.links)) c.in_err-made-2.ensures)
+returns-in_err-made-2-clause-refused c = refused _ _ _ c.from_residual-in_err-made-2.ensures (λ r holds. (_, holds.links)) c.in_err-made-2.ensures
 
 pub returns-in_err-made-3-clause-refused : goal.returns-in_err-made-3-clause-refused
-returns-in_err-made-3-clause-refused c =
-    let d = data_of c.args.json in
-    failed _ _ _ _ c.from_residual-in_err-made-3.ensures (λ e is. handed (IsFilled d) (IsPublishable d) _ e is (λ r holds. (r.publish, holds.publish)) c.in_err-made-3.ensures)
+returns-in_err-made-3-clause-refused c = refused _ _ _ c.from_residual-in_err-made-3.ensures (λ r holds. (r.publish, holds.publish)) c.in_err-made-3.ensures
 
 pub returns-in_err-made-4-clause-refused : goal.returns-in_err-made-4-clause-refused
-returns-in_err-made-4-clause-refused c =
-    let d = data_of c.args.json in
-    failed _ _ _ _ c.from_residual-in_err-made-4.ensures (λ e is. handed (IsFilled d) (IsText (codes "default_run") d) _ e is (λ r holds. (option_map string_bytes r.default_run, holds.default_run)) c.in_err-made-4.ensures)
+returns-in_err-made-4-clause-refused c = refused _ _ _ c.from_residual-in_err-made-4.ensures (λ r holds. (_, holds.default_run)) c.in_err-made-4.ensures
 
 pub returns-in_err-made-5-clause-refused : goal.returns-in_err-made-5-clause-refused
-returns-in_err-made-5-clause-refused c =
-    let d = data_of c.args.json in
-    failed _ _ _ _ c.from_residual-in_err-made-5.ensures (λ e is. handed (IsFilled d) (IsRustVersion d) _ e is (λ r holds. (r.rust_version, holds.rust_version)) c.in_err-made-5.ensures)
+returns-in_err-made-5-clause-refused c = refused _ _ _ c.from_residual-in_err-made-5.ensures (λ r holds. (r.rust_version, holds.rust_version)) c.in_err-made-5.ensures
 
 pub returns-in_err-required-clause-refused : goal.returns-in_err-required-clause-refused
 returns-in_err-required-clause-refused c =

@@ -1,4 +1,7 @@
+use Rattle.std.proofs.lemmas.Result.{IfOk-weaker}
 use Rattle.guppy_metadata.proofs.package.package_with.Goals as goal
 
 pub returns : goal.returns
-returns c d same declared targets = c.in_ok-filled_package.ensures.told d same c.in_ok-id.ensures c.in_ok-record.ensures.0 c.in_ok-record.ensures.1 declared targets
+returns c =
+    IfOk-weaker c.filled_package.result _ _
+    (λ made told d same declared targets. told d same c.in_ok-id.ensures c.in_ok-source.ensures c.in_ok-record.ensures.0 c.in_ok-record.ensures.1 declared targets) c.filled_package.ensures.told

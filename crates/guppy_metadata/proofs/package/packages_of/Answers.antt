@@ -1,6 +1,8 @@
-use Rattle.std.proofs.Common.{sym, subst, arith}
+use Rattle.std.proofs.Common.{refl, sym, subst, codes, arith}
+use Rattle.json.specs.Find.{get}
 use Rattle.json.specs.Value.{value_view}
 use Rattle.guppy_metadata.specs.Fault.{LacksMemory}
+use Rattle.guppy_metadata.specs.Members.{data_of}
 use Rattle.guppy_metadata.specs.Package.{IsTold}
 use Rattle.guppy_metadata.proofs.FittingLists.{next_fits, whole_list}
 use Rattle.guppy_metadata.proofs.Refused.{failed, lacking}
@@ -14,7 +16,8 @@ loop-index-preserved c =
 pub returns-in_err-package_at : goal.returns-in_err-package_at
 returns-in_err-package_at c =
     failed _ _ _ _ c.from_residual-in_err-package_at.ensures (λ e is.
-    item_refused c.args.value.now c.in-Array.items c.deref-item-items.result.now c.in-Array.is c.deref-item-items.ensures.value c.loop-index.index _ _ c.loop-index-test.true c.item-item.is e _ (λ lacks. subst LacksMemory (sym is) lacks) IsTold c.in_err-package_at.ensures)
+    item_refused (get (codes "packages") (data_of c.args.metadata)) c.in_ok-items.items.now.items c.deref-item-items.result.now c.in_ok-items.ensures c.deref-item-items.ensures.value c.loop-index.index c.item-item.result _ c.loop-index-test.true c.item-item.is e
+    IsTold _ _ refl (λ lacks. subst LacksMemory (sym is) lacks) c.in_err-package_at.ensures)
 
 pub returns-in_err-push : goal.returns-in_err-push
 returns-in_err-push c =
@@ -22,4 +25,5 @@ returns-in_err-push c =
 
 pub returns : goal.returns
 returns c =
-    whole_list IsTold c.args.value.now c.in-Array.items c.deref-item-items.result.now c.loop-index.index c.loop-index.packages.items c.in-Array.is c.deref-item-items.ensures.value (let past = c.loop-index-test.false in omega arith) c.loop-index.invariant
+    whole_list IsTold (get (codes "packages") (data_of c.args.metadata)) c.in_ok-items.items.now.items c.deref-item-items.result.now c.in_ok-items.ensures c.deref-item-items.ensures.value c.loop-index.index c.loop-index.packages.items
+    (let past = c.loop-index-test.false in omega arith) c.loop-index.invariant

@@ -7,15 +7,15 @@ use Rattle.guppy_metadata.proofs.KnownMembers.{known_at}
 use Rattle.guppy_metadata.proofs.records.check_members.Goals as goal
 
 pub returns-then-is_none : goal.returns-then-is_none
-returns-then-is_none c =
-    let packages = c.args.packages.packages.now in
+returns-then-is_none c other =
+    let packages = c.args.packages.now in
     let known : List ℕ → Bool = is_among (map (λ p. p.id.now) packages) in
     list_all-map known (λ id. id.now) c.args.members.now
     ∙ list_all_at (λ id. known id.now) c.args.members.now c.loop-index.index _ c.loop-index-test.true (known_at _ packages c.with_id.result _ c.with_id.ensures c.if-is_none.ensures)
 
 pub loop-index-preserved : goal.loop-index-preserved
 loop-index-preserved c =
-    let packages = c.args.packages.packages.now in
+    let packages = c.args.packages.now in
     let known : List ℕ → Bool = is_among (map (λ p. p.id.now) packages) in
     let ids = c.args.members.now in
     let k = c.loop-index.index in
@@ -27,4 +27,4 @@ loop-index-preserved c =
 
 pub returns : goal.returns
 returns c =
-    ap (λ ids. are_known c.args.packages.packages.now (map (λ id. id.now) ids)) (sym (take_all c.loop-index.index c.args.members.now (let past = c.loop-index-test.false in omega arith))) ∙ c.loop-index.invariant
+    ap (λ ids. are_known c.args.packages.now (map (λ id. id.now) ids)) (sym (take_all c.loop-index.index c.args.members.now (let past = c.loop-index-test.false in omega arith))) ∙ c.loop-index.invariant

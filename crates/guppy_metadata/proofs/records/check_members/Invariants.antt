@@ -3,4 +3,4 @@ use Rattle.guppy_metadata.specs.Package.{are_known}
 use Rattle.guppy_metadata.proofs.records.check_members.Given as goal
 
 abbrev pub invariant-loop-index : goal.invariant-loop-index
-invariant-loop-index l = are_known l.packages.packages.now (map (λ id. id.now) (take l.index l.members)) ≡ true
+invariant-loop-index l = are_known l.packages (map (λ id. id.now) (take l.index l.members)) ≡ true

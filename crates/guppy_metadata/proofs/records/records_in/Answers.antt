@@ -1,53 +1,51 @@
-use Rattle.std.proofs.Common.{◌≡◌, true, ℕ, List, IsSomeAnd, map, sym, subst}
+use Rattle.std.proofs.Common.{◌≡◌, true, List, IsSomeAnd, map, refl, sym, subst}
 use Rattle.json.specs.Value.{value_view}
-use Rattle.guppy_metadata.specs.Links.{AreLinks, AreLinksOfList}
-use Rattle.guppy_metadata.specs.Members.{data_of, is_among, is_in_set}
+use Rattle.guppy_metadata.specs.Links.{AreLinks, AreLinksOfAll, AreLinksOfList}
+use Rattle.guppy_metadata.specs.Members.{data_of}
 use Rattle.guppy_metadata.specs.Package.{are_known}
 use Rattle.guppy_metadata.proofs.Packages.{packages_are}
-use Rattle.guppy_metadata.proofs.Refused.{failed, handed}
+use Rattle.guppy_metadata.proofs.Refused.{refused, failed, lacking}
 use Rattle.guppy_metadata.proofs.SaidRecords.{links_there, members_there, nodes_there, packages_there}
 use Rattle.guppy_metadata.proofs.records.records_in.Goals as goal
 
 pub returns-in_err-nodes : goal.returns-in_err-nodes
-returns-in_err-nodes c =
-    failed _ _ _ _ c.from_residual.ensures (λ e is. handed _ _ _ e is (λ said are. nodes_there (data_of c.args.metadata) said.0 said.1 said.2 are) c.in_err-nodes.ensures)
+returns-in_err-nodes c = refused _ _ _ c.from_residual.ensures (λ said are. nodes_there (data_of c.args.metadata) said.0 said.1 said.2 are) c.in_err-nodes.ensures
 
 pub returns-in_err-workspace : goal.returns-in_err-workspace
-returns-in_err-workspace c =
-    failed _ _ _ _ c.from_residual-in_err-workspace.ensures (λ e is. handed _ _ _ e is (λ said are. (said.2, are.workspace_is)) c.in_err-workspace.ensures)
+returns-in_err-workspace c = refused _ _ _ c.from_residual-in_err-workspace.ensures (λ said are. (said.2, are.workspace_is)) c.in_err-workspace.ensures
 
 pub returns-in_err-members : goal.returns-in_err-members
-returns-in_err-members c =
-    failed _ _ _ _ c.from_residual-in_err-members.ensures (λ e is. handed _ _ _ e is (λ said are. members_there (data_of c.args.metadata) said.0 said.1 said.2 are) c.in_err-members.ensures)
+returns-in_err-members c = refused _ _ _ c.from_residual-in_err-members.ensures (λ said are. members_there (data_of c.args.metadata) said.0 said.1 said.2 are) c.in_err-members.ensures
 
 pub returns-in_err-packages : goal.returns-in_err-packages
-returns-in_err-packages c =
-    failed _ _ _ _ c.from_residual-in_err-packages.ensures (λ e is. handed _ _ _ e is (λ said are. packages_there (data_of c.args.metadata) said.0 said.1 said.2 are) c.in_err-packages.ensures)
+returns-in_err-packages c = refused _ _ _ c.from_residual-in_err-packages.ensures (λ said are. packages_there (data_of c.args.metadata) said.0 said.1 said.2 are) c.in_err-packages.ensures
 
 pub returns-in_err-links : goal.returns-in_err-links
 returns-in_err-links c =
     let d = data_of c.args.metadata in
     let packages = c.as_slice.ensures.value in
     let members = c.as_slice-2.ensures.value in
-    failed _ _ _ _ c.from_residual-in_err-links.ensures (λ e is. handed _ _ _ e is
-    (λ said are. (said.1, rw (packages, members) (links_there d said.0 said.1 said.2 are c.in_ok-packages.packages.items _ _ c.in_ok-packages.ensures c.in_ok-nodes.ensures c.in_ok-members.ensures)))
-    c.in_err-links.ensures)
+    let nodes = c.as_slice-nodes.ensures.value in
+    refused _ _ _ c.from_residual-in_err-links.ensures
+    (λ said are. (said.1, rw (packages, members, nodes) (links_there d said.0 said.1 said.2 are c.in_ok-packages.packages.items _ _ c.in_ok-packages.ensures c.in_ok-nodes.ensures c.in_ok-members.ensures)))
+    c.in_err-links.ensures
 
 pub returns : goal.returns
 returns c =
     let d = data_of c.args.metadata in
     let packages = c.in_ok-packages.packages.items in
     let ids = map (λ id. id.now) c.in_ok-members.members.items in
-    let known = is_in_set c.in_ok-members-2.members in
-    let same : (id : List ℕ) → known id ≡ is_among ids id = λ id. rw (sym c.as_slice-3.ensures.value) (c.in_ok-members-2.ensures id) in
-    let between : (are_known packages ids ≡ true) × AreLinksOfList packages (value_view c.in_ok-nodes.nodes.now) c.in_ok-links.links.items =
-    rw (sym c.as_slice.ensures.value, sym c.as_slice-2.ensures.value) c.in_ok-links.ensures in
-    let links : AreLinks d c.in_ok-links.links.items = record {
+    let nodes = map value_view c.in_ok-nodes.nodes.now.items in
+    let links = c.in_ok-links.links.items in
+    let between : (are_known packages ids ≡ true) × AreLinksOfAll packages nodes links =
+    rw (sym c.as_slice.ensures.value, sym c.as_slice-2.ensures.value, sym c.as_slice-nodes.ensures.value) c.in_ok-links.ensures in
+    let links_are : AreLinks d links = record {
       packages = packages;
       packages_are = c.in_ok-packages.ensures;
-      links_are = subst (λ o. IsSomeAnd o (λ nodes. AreLinksOfList packages nodes c.in_ok-links.links.items)) (sym c.in_ok-nodes.ensures) between.1;
+      links_are = subst (λ o. IsSomeAnd o (λ nodes. AreLinksOfList packages nodes links)) (sym c.in_ok-nodes.ensures) (nodes, refl, between.1);
     } in record {
-      packages_are = packages_are d c.in_ok-workspace.workspace.root _ ids known packages _ c.as_path.ensures same c.in_ok-workspace.ensures.root c.in_ok-members.ensures c.in_ok-packages.ensures between.0 c.in_ok-packages-2.ensures;
-      links_are = links;
+      packages_are = packages_are d c.in_ok-workspace.workspace.root _ ids packages _ c.as_path-root.ensures c.in_ok-workspace.ensures.root c.in_ok-members.ensures c.in_ok-packages.ensures between.0
+          (rw (sym c.as_slice-3.ensures.value) c.in_ok-packages-2.ensures);
+      links_are = links_are;
       workspace_is = c.in_ok-workspace.ensures;
     }

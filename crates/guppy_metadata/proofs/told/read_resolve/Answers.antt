@@ -4,7 +4,8 @@ use Rattle.json.specs.Json.{read_key, value}
 use Rattle.json.specs.Reads.{token_of}
 use Rattle.json.proofs.Grammar.{read_key-shorter, left_some}
 use Rattle.guppy_metadata.specs.Links.{AreLinksOfList}
-use Rattle.guppy_metadata.proofs.ObjectMembers.{if_some, kept, put}
+use Rattle.guppy_metadata.proofs.ObjectMembers.{kept, put}
+use Rattle.guppy_metadata.proofs.Options.{if_some}
 use Rattle.guppy_metadata.proofs.Turns.{of_ok, value_takes, member_read, object_of, object_read, object_with}
 use Rattle.guppy_metadata.proofs.told.read_resolve.Goals as goal
 

@@ -3,7 +3,8 @@ use Rattle.std.specs.Str.{bytes_eq}
 use Rattle.json.specs.Json.{value}
 use Rattle.json.proofs.Grammar.{left_some}
 use Rattle.guppy_metadata.proofs.Nodes.{links_kept}
-use Rattle.guppy_metadata.proofs.ObjectMembers.{if_some, kept}
+use Rattle.guppy_metadata.proofs.ObjectMembers.{kept}
+use Rattle.guppy_metadata.proofs.Options.{if_some}
 use Rattle.guppy_metadata.proofs.Turns.{of_ok}
 use Rattle.guppy_metadata.proofs.node.Node.read_member.Goals as goal
 

@@ -6,7 +6,8 @@ use Rattle.json.proofs.Trees.{get_member-push}
 use Rattle.guppy_metadata.specs.Dependency.{IsDeclared}
 use Rattle.guppy_metadata.specs.Members.{IsListOf}
 use Rattle.guppy_metadata.specs.Target.{IsTarget}
-use Rattle.guppy_metadata.proofs.ObjectMembers.{if_some, kept}
+use Rattle.guppy_metadata.proofs.ObjectMembers.{kept}
+use Rattle.guppy_metadata.proofs.Options.{if_some}
 use Rattle.guppy_metadata.proofs.Turns.{of_ok}
 use Rattle.guppy_metadata.proofs.parts.Parts.read_member.Goals as goal
 

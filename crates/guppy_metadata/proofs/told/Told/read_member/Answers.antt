@@ -3,7 +3,8 @@ use Rattle.std.specs.Str.{bytes_eq}
 use Rattle.json.specs.Find.{get_member}
 use Rattle.json.specs.Value.{value_view, members_view}
 use Rattle.json.proofs.Trees.{get_member-push}
-use Rattle.guppy_metadata.proofs.ObjectMembers.{if_some, kept, told_alike, links_alike}
+use Rattle.guppy_metadata.proofs.ObjectMembers.{kept, told_alike, links_alike}
+use Rattle.guppy_metadata.proofs.Options.{if_some}
 use Rattle.guppy_metadata.proofs.Turns.{of_ok}
 use Rattle.guppy_metadata.proofs.told.Told.read_member.Goals as goal
 
