@@ -1,5 +1,5 @@
 -- What the JSON has that says records.
-use Rattle.std.proofs.Common.{◌≡◌, ◌∙◌, ℕ, true, List, Option, None, Some, IsSomeAnd, refl, sym, ap, subst, codes}
+use Rattle.std.proofs.Common.{◌≡◌, ◌∙◌, ℕ, true, List, Some, IsSomeAnd, sym, ap, subst, codes}
 use Rattle.json.specs.Json.{Json, Items, array}
 use Rattle.json.specs.Find.{get}
 use Rattle.json.specs.Value.{items_of}

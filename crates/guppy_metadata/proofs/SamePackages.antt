@@ -20,7 +20,6 @@ use Rattle.guppy_metadata.specs.declared.package.Package.{Package}
 use Rattle.guppy_metadata.specs.Dependency.{IsDeclared}
 use Rattle.guppy_metadata.specs.Fits.{library_name, used_name, takes, same_usage, is_used, fits, is_matched, are_matched}
 use Rattle.guppy_metadata.specs.Links.{IsResolved, IsUnasked, IsAsked, IsLink, AreLinksOf, AreLinksOfList}
-use Rattle.guppy_metadata.specs.Members.{IsListOf}
 use Rattle.guppy_metadata.specs.Package.{IsTold, AreTold, with_id}
 use Rattle.guppy_metadata.specs.Target.{IsTarget}
 use Rattle.guppy_metadata.proofs.AlikeDependencies.{IsSame, same_itself, declared_once, link_same}

@@ -12,7 +12,7 @@ use serde_json::{Map, Number, Value};
 use std::alloc::{AllocError, AllocFailed, Global};
 
 /// Why there is no copy of a JSON value.
-#[derive(Clone, Copy, Debug, PartialEq)]
+#[derive(Clone, Copy)]
 pub(crate) enum TableFault {
     /// One of its numbers is too large for a float.
     NumberOutOfRange,

@@ -4,7 +4,7 @@ use Rattle.guppy_data.specs.declared.texts.dependency_kind.DependencyKind.{Depen
 use Rattle.guppy_data.specs.declared.texts.dependency_kind.DependencyKind.TheVariants.{Normal, Development, Build}
 use Rattle.guppy_metadata.specs.Dependency.{NamesSection}
 use Rattle.guppy_metadata.specs.Members.{data_of, IsText}
-use Rattle.guppy_metadata.proofs.Refused.{failed, handed}
+use Rattle.guppy_metadata.proofs.Refused.{refused}
 use Rattle.guppy_metadata.proofs.declared.section_of.Goals as goal
 
 -- a section is named by a text, or by none
@@ -15,6 +15,4 @@ told d Development is = (Some (codes "dev"), is)
 told d Build is = (Some (codes "build"), is)
 
 pub returns-in_err-optional_text : goal.returns-in_err-optional_text
-returns-in_err-optional_text c =
-    let d = data_of c.args.object in
-    failed _ _ _ _ c.from_residual.ensures (λ e is. handed (NamesSection d) (IsText (codes "kind") d) _ e is (told d) c.in_err-optional_text.ensures)
+returns-in_err-optional_text c = refused _ _ _ c.from_residual.ensures (told (data_of c.args.object)) c.in_err-optional_text.ensures

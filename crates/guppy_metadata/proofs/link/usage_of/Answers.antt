@@ -1,15 +1,11 @@
 use Rattle.std.proofs.Common.{◌∙◌, ap}
 use Rattle.json.specs.Value.{value_view, members_view}
 use Rattle.json.proofs.Trees.{view-Object}
-use Rattle.guppy_metadata.specs.Dependency.{NamesSection}
-use Rattle.guppy_metadata.specs.Links.{IsUsage}
-use Rattle.guppy_metadata.proofs.Refused.{failed, handed}
+use Rattle.guppy_metadata.proofs.Refused.{refused}
 use Rattle.guppy_metadata.proofs.link.usage_of.Goals as goal
 
 pub returns-in_err-section_of : goal.returns-in_err-section_of
-returns-in_err-section_of c =
-    let d = value_view c.args.item.now in
-    failed _ _ _ _ c.from_residual.ensures (λ e is. handed (IsUsage d) (NamesSection d) _ e is (λ x holds. (x.section, holds.section)) c.in_err-section_of.ensures)
+returns-in_err-section_of c = refused _ _ _ c.from_residual.ensures (λ x holds. (x.section, holds.section)) c.in_err-section_of.ensures
 
 pub returns : goal.returns
 returns c = record {

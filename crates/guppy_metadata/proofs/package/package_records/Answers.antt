@@ -1,5 +1,4 @@
 use Rattle.std.proofs.Common.{map}
-use Rattle.std.specs.List.{AllZip}
 use Rattle.std.proofs.lemmas.Result.{IfOk-weaker}
 use Rattle.guppy_data.specs.Utf8Path.{path_text}
 use Rattle.guppy_metadata.specs.Members.{is_among, is_in_set}

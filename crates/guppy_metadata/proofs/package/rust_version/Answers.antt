@@ -3,7 +3,7 @@ use Rattle.semver.specs.declared.Version.{Version}
 use Rattle.json.specs.Json.{Json}
 use Rattle.guppy_metadata.specs.Members.{data_of, IsText}
 use Rattle.guppy_metadata.specs.Package.{IsRustVersion}
-use Rattle.guppy_metadata.proofs.Refused.{failed, handed}
+use Rattle.guppy_metadata.proofs.Refused.{refused}
 use Rattle.guppy_metadata.proofs.package.rust_version.Goals as goal
 
 text_told : (d : Json) (version : Option Version) → IsRustVersion d version → (text : Option (List ℕ)) × IsText (codes "rust_version") d text
@@ -11,6 +11,4 @@ text_told d None is = (None, is)
 text_told d (Some version) is = (Some is.0, is.1)
 
 pub returns-in_err-text : goal.returns-in_err-text
-returns-in_err-text c =
-    let d = data_of c.args.json in
-    failed _ _ _ _ c.from_residual.ensures (λ e is. handed (IsRustVersion d) (IsText (codes "rust_version") d) _ e is (text_told d) c.in_err-text.ensures)
+returns-in_err-text c = refused _ _ _ c.from_residual.ensures (text_told (data_of c.args.json)) c.in_err-text.ensures
