@@ -73,14 +73,20 @@ impl<'a> Case<'a> {
     }
 }
 
-/// The query that starts as the search does.
-pub(super) fn query_of<'a>(rt: &impl Abort, case: Case<'a>) -> PackageQuery<'a> {
+// The IDs that the search starts at.
+fn starts_of<'a>(rt: &impl Abort, case: Case<'a>) -> Vec<&'a PackageId> {
     let mut starts = Vec::new(case.graph.alloc());
     for (id, is_start) in case.ids.iter().zip(case.given.starts) {
         if *is_start {
             starts.push(id).expect(rt, "starts");
         }
     }
+    starts
+}
+
+/// The query that starts as the search does.
+pub(super) fn query_of<'a>(rt: &impl Abort, case: Case<'a>) -> PackageQuery<'a> {
+    let starts = starts_of(rt, case);
     let query = case
         .graph
         .query_directed(starts.iter().copied(), case.given.direction);
@@ -199,9 +205,18 @@ fn links_inside(
     inside
 }
 
+// The positions of the set's roots.
+fn listed_roots(
+    rt: &impl Abort,
+    alloc: Global,
+    set: &PackageSet<'_>,
+    direction: DependencyDirection,
+) -> Vec<usize> {
+    positions_of(rt, alloc, set.root_packages(direction).expect(rt, "roots"))
+}
+
 fn judge_roots(rt: &impl Abort, alloc: Global, inside: Given<'_>, set: &PackageSet<'_>) {
-    let roots = set.root_packages(inside.direction).expect(rt, "roots");
-    let roots = positions_of(rt, alloc, roots);
+    let roots = listed_roots(rt, alloc, set, inside.direction);
     let are_roots = is_kept(&ASCENDING, inside.starts, roots.as_slice());
     assert!(rt; are_roots, "roots");
 }
@@ -245,22 +260,46 @@ fn judge_walk(rt: &impl Abort, case: Case<'_>, reach: Reach<'_>, set: &PackageSe
     judge_links(rt, alloc, inside, set);
 }
 
-// The list of all packages is in order, and the set's lists are those of its members in that order, and
-// the same reversed.
-fn judge_lists(rt: &impl Abort, case: Case<'_>, reach: Reach<'_>, set: &PackageSet<'_>) {
-    let alloc = case.graph.alloc();
-    let all = case.graph.resolve_all().expect(rt, "all packages");
-    let order = positions_of(rt, alloc, all.packages(DependencyDirection::Forward));
-    let broken = reach.broken_list_rule(case.ids.len(), order.as_slice());
-    assert!(rt; broken.is_none(), "lists: {broken:?}");
-    let mut listed = positions_of(rt, alloc, set.packages(case.given.direction));
-    if case.given.direction == DependencyDirection::Reverse {
+// The positions of the set's list.
+fn listed(
+    rt: &impl Abort,
+    alloc: Global,
+    set: &PackageSet<'_>,
+    direction: DependencyDirection,
+) -> Vec<usize> {
+    positions_of(rt, alloc, set.packages(direction))
+}
+
+// The same, reversed where the direction is.
+fn listed_forward(
+    rt: &impl Abort,
+    alloc: Global,
+    set: &PackageSet<'_>,
+    direction: DependencyDirection,
+) -> Vec<usize> {
+    let mut listed = listed(rt, alloc, set, direction);
+    if direction == DependencyDirection::Reverse {
         listed.as_mut_slice().reverse();
     }
-    assert!(rt;
-        is_kept(order.as_slice(), case.given.starts, listed.as_slice()),
-        "lists"
-    );
+    listed
+}
+
+// The list of all packages, which is in order.
+fn judged_order(rt: &impl Abort, case: Case<'_>, reach: Reach<'_>) -> Vec<usize> {
+    let alloc = case.graph.alloc();
+    let all = case.graph.resolve_all().expect(rt, "all packages");
+    let order = listed(rt, alloc, &all, DependencyDirection::Forward);
+    let broken = reach.broken_list_rule(case.ids.len(), order.as_slice());
+    assert!(rt; broken.is_none(), "lists: {broken:?}");
+    order
+}
+
+// The set's lists are those of its members in that order, and the same reversed.
+fn judge_lists(rt: &impl Abort, case: Case<'_>, reach: Reach<'_>, set: &PackageSet<'_>) {
+    let order = judged_order(rt, case, reach);
+    let listed = listed_forward(rt, case.graph.alloc(), set, case.given.direction);
+    let is_kept = is_kept(order.as_slice(), case.given.starts, listed.as_slice());
+    assert!(rt; is_kept, "lists");
 }
 
 fn judge_sets(rt: &impl Abort, case: Case<'_>, reach: Reach<'_>) {
@@ -284,6 +323,31 @@ struct Drawing {
     events: Vec<Event>,
 }
 
+// The links whose bits are set, below the count.
+fn links_at(alloc: Global, link_count: usize, bits: u64) -> Result<Vec<usize>, AllocError>
+    ensures { IfOk result (λ links. All (λ n. n < link_count) links.items) }
+{
+    let mut links = Vec::new(alloc);
+    for link in 0..link_count.min(64) {
+        if (bits >> link) & 1 == 1 {
+            links.push(link)?;
+        }
+    }
+    Ok(links)
+}
+
+// Adds the question, and each link that is handed back.
+fn note(events: &mut Vec<Event>, question: Event, handed: &[usize]) -> Result<(), AllocError>
+    ensures { IfOk result (λ _. events.new.items
+        ≡ events.old.items ++ question ∷ map Event.HandBack handed.now) }
+{
+    events.push(question)?;
+    for link in handed {
+        events.push(Event::HandBack(*link))?;
+    }
+    Ok(())
+}
+
 impl Drawing {
     fn answer(
         &mut self,
@@ -295,16 +359,10 @@ impl Drawing {
         ensures noted { IfOk result (λ handed. self.new.events.items
             ≡ self.old.events.items ++ question ∷ map Event.HandBack handed.items) }
     {
-        self.events.push(question)?;
         self.drawn = mixed(self.drawn);
         let bits = self.drawn & mixed(self.drawn) & mixed(!self.drawn);
-        let mut handed = Vec::new(alloc);
-        for link in 0..link_count.min(64) {
-            if (bits >> link) & 1 == 1 {
-                handed.push(link)?;
-                self.events.push(Event::HandBack(link))?;
-            }
-        }
+        let handed = links_at(alloc, link_count, bits)?;
+        note(&mut self.events, question, handed.as_slice())?;
         Ok(handed)
     }
 }
@@ -373,20 +431,29 @@ fn drawn_pairs(drawn: u64) -> u64 {
     }
 }
 
+// Judges a buffered search of the same graph.
+fn judge_by_position(rt: &impl Abort, case: Case<'_>, drawn: u64) {
+    let (count, links) = (case.ids.len(), case.given.links);
+    let graph = positions_graph(rt, case.graph.alloc(), count, links);
+    judge_buffered(rt, &graph, case.given, drawn);
+}
+
+fn judge_drawn_case(rt: &impl Abort, case: Case<'_>, drawn: u64) {
+    let pattern = bits_of(rt, case.graph.alloc(), 64, mixed(drawn ^ 5));
+    judge_visitors(rt, case, pattern.as_slice());
+    judge_sets(rt, case, Reach::new(case.given.links));
+    judge_by_position(rt, case, drawn);
+}
+
 fn judge_drawn_graph(rt: &impl Abort, alloc: Global, drawn: u64) {
     let count = (drawn >> 32) as usize % 5 + 4;
     let links = links_of(rt, alloc, count, drawn_pairs(drawn), mixed(drawn ^ 3));
     let graph = numbered_graph(rt, alloc, count, links.as_slice());
-    let by_position = positions_graph(rt, alloc, count, links.as_slice());
     let ids = numbered_ids(rt, alloc, count);
     let starts = bits_of(rt, alloc, count, mixed(drawn ^ 4));
-    let pattern = bits_of(rt, alloc, 64, mixed(drawn ^ 5));
     for direction in DIRECTIONS {
         let given = Given::new(links.as_slice(), direction, starts.as_slice());
-        let case = Case::new(&graph, ids.as_slice(), given);
-        judge_visitors(rt, case, pattern.as_slice());
-        judge_sets(rt, case, Reach::new(given.links));
-        judge_buffered(rt, &by_position, given, drawn);
+        judge_drawn_case(rt, Case::new(&graph, ids.as_slice(), given), drawn);
     }
 }
 

@@ -94,6 +94,26 @@ fn put_refused(graph: &PackageGraph, out: &mut Answer) -> Result<(), Error> {
     }
 }
 
+fn put_verified(graph: &PackageGraph, out: &mut Answer) -> Result<(), Error> {
+    graph.verify()?;
+    out.put("ok");
+    Ok(())
+}
+
+fn put_witness(graph: &PackageGraph, listed: &[PackageId], out: &mut Answer) -> Result<(), Error> {
+    out.put_truth(graph.is_cycle_witness(listed)?);
+    Ok(())
+}
+
+fn tell_graph(graph: &PackageGraph, words: &[&str], out: &mut Answer) {
+    match words {
+        ["counts"] => put_counts(graph, out),
+        ["each"] => put_each(graph, out),
+        ["cycles"] => put_cycles(graph, false, out),
+        _ => put_cycles(graph, true, out),
+    }
+}
+
 /// Answers a question about the graph, or else about a set.
 pub(super) fn ask_graph(
     graph: &PackageGraph,
@@ -102,28 +122,24 @@ pub(super) fn ask_graph(
     out: &mut Answer,
 ) -> Result<(), Error> {
     match (words, ids) {
-        (["counts"], _) => put_counts(graph, out),
-        (["each"], _) => put_each(graph, out),
+        (["counts"] | ["each"] | ["cycles"] | ["cycles", "from-back"], _) => {
+            tell_graph(graph, words, out);
+            Ok(())
+        }
         ([relation @ ("depends" | "direct" | "cyclic"), ..], [_, from, to]) => {
-            put_relation(graph, relation, from, to, out)?;
+            put_relation(graph, relation, from, to, out)
         }
-        (["cache", ..], [_, asked @ ..]) => ask_cache(graph, asked, out)?,
-        (["verify"], _) => {
-            graph.verify()?;
-            out.put("ok");
-        }
-        (["cycle"], _) => put_refused(graph, out)?,
-        (["witness", ..], [_, listed @ ..]) => out.put_truth(graph.is_cycle_witness(listed)?),
-        (["publish"], _) => put_publish_order(graph, out)?,
-        (["affected", paths @ ..], _) => put_affected(graph, paths, &[], out)?,
+        (["cache", ..], [_, asked @ ..]) => ask_cache(graph, asked, out),
+        (["verify"], _) => put_verified(graph, out),
+        (["cycle"], _) => put_refused(graph, out),
+        (["witness", ..], [_, listed @ ..]) => put_witness(graph, listed, out),
+        (["publish"], _) => put_publish_order(graph, out),
+        (["affected", paths @ ..], _) => put_affected(graph, paths, &[], out),
         (["affected-but", ignored, paths @ ..], _) => {
-            put_affected(graph, paths, &[*ignored], out)?;
+            put_affected(graph, paths, &[*ignored], out)
         }
-        (["cycles"], _) => put_cycles(graph, false, out),
-        (["cycles", "from-back"], _) => put_cycles(graph, true, out),
-        _ => ask_set(graph, words, ids, out)?,
+        _ => ask_set(graph, words, ids, out),
     }
-    Ok(())
 }
 
 pub(super) const GRAPHS: &str = "

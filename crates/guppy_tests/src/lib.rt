@@ -26,6 +26,8 @@ mod large;
 #[cfg(test)]
 mod lists;
 #[cfg(test)]
+mod members;
+#[cfg(test)]
 mod queries;
 #[cfg(test)]
 mod reach;
@@ -35,4 +37,5 @@ mod records;
 mod sets;
 #[cfg(test)]
 mod views;
-pub mod visitors;
+#[cfg(test)]
+mod visitors;

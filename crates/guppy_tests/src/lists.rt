@@ -1,4 +1,5 @@
 //! Lists of sets, cycles, the publish order, the members that changes affect, and the looks for the order.
+ghost use Rattle.std.specs.Iterator.{IsFinite};
 
 use crate::examples::Answer;
 use crate::records::shape_of;
@@ -19,24 +20,33 @@ fn put_cycle(cycle: CycleIds<'_>, out: &mut Answer) {
     }
 }
 
+fn put_each_cycle<'g, I: Iterator<Item = CycleIds<'g>> + Drop>(cycles: I, out: &mut Answer)
+    requires can { I.can_next cycles }
+    requires ends { IsFinite (I.remaining cycles) }
+{
+    for cycle in cycles {
+        put_cycle(cycle, out);
+    }
+}
+
 pub(super) fn put_cycles(graph: &PackageGraph, is_from_back: bool, out: &mut Answer) {
     let cycles = graph.cycles().all_cycles();
     if is_from_back {
-        for cycle in cycles.rev() {
-            put_cycle(cycle, out);
-        }
+        put_each_cycle(cycles.rev(), out);
     } else {
-        for cycle in cycles {
-            put_cycle(cycle, out);
-        }
+        put_each_cycle(cycles, out);
+    }
+}
+
+fn put_ids(ids: &[&PackageId], out: &mut Answer) {
+    for id in ids {
+        out.put(id.repr());
     }
 }
 
 pub(super) fn put_publish_order(graph: &PackageGraph, out: &mut Answer) -> Result<(), Error> {
     let ids = publish_order(graph)?;
-    for id in &ids {
-        out.put(id.repr());
-    }
+    put_ids(ids.as_slice(), out);
     Ok(())
 }
 
@@ -56,9 +66,8 @@ pub(super) fn put_affected(
 ) -> Result<(), Error> {
     let paths = owned(graph.alloc(), paths)?;
     let ignored = owned(graph.alloc(), ignored)?;
-    for id in &affected(graph, paths.as_slice(), ignored.as_slice())? {
-        out.put(id.repr());
-    }
+    let ids = affected(graph, paths.as_slice(), ignored.as_slice())?;
+    put_ids(ids.as_slice(), out);
     Ok(())
 }
 

@@ -74,17 +74,37 @@ fn section(alloc: Global, is_present: bool) -> DependencyReqImpl {
     }
 }
 
+// Where a package is from: a member's place, another one's, or crates.io.
+#[derive(Clone, Copy)]
+enum Origin<'w> {
+    Member(&'w str),
+    Local(&'w str),
+    CratesIo,
+}
+
+fn source_of(rt: &impl Abort, alloc: Global, origin: Origin<'_>) -> PackageSourceRecord {
+    match origin {
+        Origin::Member(place) => PackageSourceRecord::Workspace(path(rt, alloc, place)),
+        Origin::Local(place) => PackageSourceRecord::Path(path(rt, alloc, place)),
+        Origin::CratesIo => {
+            let source = "registry+https://github.com/rust-lang/crates.io-index";
+            PackageSourceRecord::External(text(rt, alloc, source))
+        }
+    }
+}
+
+// Adds a package of this ID, name and origin.
 fn add_package(
     rt: &impl Abort,
     alloc: Global,
     packages: &mut Vec<PackageRecord>,
-    id_text: &str,
-    name: &str,
+    parts: (&str, &str, Origin<'_>),
+    version: Version,
 ) {
+    let (id_text, name, origin) = parts;
     let id = id(rt, alloc, id_text);
     let package_name = text(rt, alloc, name);
-    let version = Version::new(1, 2, 3);
-    let source = PackageSourceRecord::Path(no_path(alloc));
+    let source = source_of(rt, alloc, origin);
     let edition = String::new(alloc);
     let package = PackageRecord::new(
         alloc,
@@ -96,49 +116,6 @@ fn add_package(
         edition,
     );
     packages.push(package).expect(rt, name);
-}
-
-fn add_member(
-    rt: &impl Abort,
-    alloc: Global,
-    packages: &mut Vec<PackageRecord>,
-    id: &str,
-    name: &str,
-    place: &str,
-) {
-    add_package(rt, alloc, packages, id, name);
-    if let Some(package) = packages.last_mut() {
-        package.source = PackageSourceRecord::Workspace(path(rt, alloc, place));
-    }
-}
-
-fn add_local(rt: &impl Abort, alloc: Global, packages: &mut Vec<PackageRecord>, place: &str) {
-    add_package(rt, alloc, packages, place, place);
-    if let Some(package) = packages.last_mut() {
-        package.source = PackageSourceRecord::Path(path(rt, alloc, place));
-    }
-}
-
-fn add_external(rt: &impl Abort, alloc: Global, packages: &mut Vec<PackageRecord>, name: &str) {
-    add_package(rt, alloc, packages, name, name);
-    if let Some(package) = packages.last_mut() {
-        let source = "registry+https://github.com/rust-lang/crates.io-index";
-        package.source = PackageSourceRecord::External(text(rt, alloc, source));
-    }
-}
-
-fn add_versioned(
-    rt: &impl Abort,
-    alloc: Global,
-    packages: &mut Vec<PackageRecord>,
-    name: &str,
-    version: &str,
-) {
-    add_package(rt, alloc, packages, name, name);
-    let version = Version::parse(alloc, version).expect(rt, version);
-    if let Some(package) = packages.last_mut() {
-        package.version = version;
-    }
 }
 
 fn target_id(rt: &impl Abort, alloc: Global, kind: &str, name: &str) -> OwnedBuildTargetId {
@@ -187,26 +164,42 @@ fn add_target(
     targets.push(target).expect(rt, kind);
 }
 
+fn add_target_word(
+    rt: &impl Abort,
+    alloc: Global,
+    packages: &mut Vec<PackageRecord>,
+    target: &str,
+) {
+    let (kind, name) = target.split_once('=').unwrap_or((target, ""));
+    if let Some(package) = packages.last_mut() {
+        add_target(rt, alloc, &mut package.build_targets, kind, name);
+    }
+}
+
+// The ID, name and origin of a package without its version.
+fn parts_of(word: &str) -> (&str, &str, Origin<'_>) {
+    if let Some(place) = word.strip_prefix('@') {
+        (place, place, Origin::Member(place))
+    } else if let Some(name) = word.strip_prefix('%') {
+        (name, name, Origin::CratesIo)
+    } else if let Some(place) = word.strip_prefix('$') {
+        (place, place, Origin::Local(place))
+    } else {
+        let (id, name) = word.split_once('=').unwrap_or((word, word));
+        match name.split_once('@') {
+            Some((name, place)) => (id, name, Origin::Member(place)),
+            None => (id, name, Origin::Local("")),
+        }
+    }
+}
+
 fn add_package_word(rt: &impl Abort, alloc: Global, packages: &mut Vec<PackageRecord>, word: &str) {
     if let Some(target) = word.strip_prefix('+') {
-        let (kind, name) = target.split_once('=').unwrap_or((target, ""));
-        if let Some(package) = packages.last_mut() {
-            add_target(rt, alloc, &mut package.build_targets, kind, name);
-        }
-    } else if let Some(place) = word.strip_prefix('@') {
-        add_member(rt, alloc, packages, place, place, place);
-    } else if let Some(name) = word.strip_prefix('%') {
-        add_external(rt, alloc, packages, name);
-    } else if let Some(place) = word.strip_prefix('$') {
-        add_local(rt, alloc, packages, place);
-    } else if let Some((id, name)) = word.split_once('=') {
-        match name.split_once('@') {
-            Some((name, place)) => add_member(rt, alloc, packages, id, name, place),
-            None => add_package(rt, alloc, packages, id, name),
-        }
+        add_target_word(rt, alloc, packages, target);
     } else {
-        let (name, version) = word.split_once('#').unwrap_or((word, "1.2.3"));
-        add_versioned(rt, alloc, packages, name, version);
+        let (word, version) = word.split_once('#').unwrap_or((word, "1.2.3"));
+        let version = Version::parse(alloc, version).expect(rt, version);
+        add_package(rt, alloc, packages, parts_of(word), version);
     }
 }
 
@@ -302,7 +295,8 @@ fn add_numbered(
     position: usize,
 ) {
     let name = numbered_name(rt, alloc, position);
-    add_package(rt, alloc, packages, name.as_str(), name.as_str());
+    let parts = (name.as_str(), name.as_str(), Origin::Local(""));
+    add_package(rt, alloc, packages, parts, Version::new(1, 2, 3));
 }
 
 fn add_numbered_link(

@@ -9,7 +9,7 @@ ghost use Rattle.std.specs.Iterator.{IsFinite};
 
 use crate::examples::Answer;
 use guppy::graph::{DependencyDirection, IndexType};
-use guppy::{Error, PackageGraph, PackageId, PackageMetadata, PackageSet};
+use guppy::{Error, PackageGraph, PackageId, PackageMetadata, PackageQuery, PackageSet};
 use std::alloc::Global;
 use std::process::Abort;
 
@@ -23,18 +23,43 @@ pub(super) fn direction_of(word: &str) -> DependencyDirection {
     }
 }
 
-// The set, by a query that starts at a copy of it.
-fn resolved_again<'g>(set: &PackageSet<'g>) -> Result<PackageSet<'g>, Error> {
+// A query that starts at a copy of the set.
+fn query_again<'g>(set: &PackageSet<'g>) -> Result<PackageQuery<'g>, Error> {
     let copy = set.clone()?;
-    let query = copy.to_package_query(DependencyDirection::Forward)?;
-    let query = query.clone()?;
-    query.resolve()
+    copy.to_package_query(DependencyDirection::Forward)
+}
+
+// The set, by a copy of that query.
+fn resolved_again<'g>(set: &PackageSet<'g>) -> Result<PackageSet<'g>, Error> {
+    let query = query_again(set)?;
+    let copy = query.clone()?;
+    copy.resolve()
 }
 
 // What the package leads to, by a query that it makes.
 fn onwards<'g>(package: PackageMetadata<'g>) -> Result<PackageSet<'g>, Error> {
     let query = package.to_package_query(DependencyDirection::Forward)?;
     query.resolve()
+}
+
+// What a query leads to that starts at these IDs, or the set of them.
+fn set_from<'g, 'i, I: Iterator<Item = &'i PackageId> + Drop>(
+    graph: &'g PackageGraph,
+    question: &str,
+    ids: I,
+) -> Result<PackageSet<'g>, Error>
+    requires can { I.can_next ids }
+    requires ends { IsFinite (I.remaining ids) }
+{
+    match question {
+        "forward" => graph.query_forward(ids)?.resolve(),
+        "reverse" => graph.query_reverse(ids)?.resolve(),
+        "directed" => {
+            let query = graph.query_directed(ids, DependencyDirection::Reverse)?;
+            query.resolve()
+        }
+        _ => graph.resolve_ids(ids),
+    }
 }
 
 fn set_of<'g>(
@@ -49,9 +74,10 @@ fn set_of<'g>(
         (["name", name], _) => graph.resolve_package_name(name),
         (["only", _], [_, id]) => graph.metadata(id)?.to_package_set(),
         (["onwards", _], [_, id]) => onwards(graph.metadata(id)?),
-        (["forward", ..], [_, starts @ ..]) => graph.query_forward(starts.iter())?.resolve(),
-        (["reverse", ..], [_, starts @ ..]) => graph.query_reverse(starts.iter())?.resolve(),
-        _ => graph.resolve_ids(ids.iter()),
+        ([question @ ("forward" | "reverse"), ..], [_, starts @ ..]) => {
+            set_from(graph, question, starts.iter())
+        }
+        _ => set_from(graph, "ids", ids.iter()),
     }
 }
 
@@ -203,6 +229,19 @@ fn part_by_name(set: &PackageSet<'_>, name: &str, out: &mut Answer) -> Result<()
     Ok(())
 }
 
+fn put_has(set: &PackageSet<'_>, id: &PackageId, out: &mut Answer) -> Result<(), Error> {
+    out.put_truth(set.contains(id)?);
+    Ok(())
+}
+
+fn tell(set: &PackageSet<'_>, question: &str, direction: DependencyDirection, out: &mut Answer) {
+    match question {
+        "list" => put_list(set, direction, out),
+        "len" => put_lengths(set, direction, out),
+        _ => out.put("unknown question"),
+    }
+}
+
 fn read(
     set: &PackageSet<'_>,
     question: (&str, &str, &PackageId),
@@ -211,17 +250,17 @@ fn read(
     let (question, argument, id) = question;
     let direction = direction_of(argument);
     match question {
-        "has" => out.put_truth(set.contains(id)?),
-        "list" => put_list(set, direction, out),
-        "roots" => put_roots(set, direction, out)?,
-        "links" => put_links(set, direction, out)?,
-        "first-two" => filter_two(set, direction, out)?,
-        "second-apart" => part_second(set, out)?,
-        "apart" => part_by_name(set, argument, out)?,
-        "len" => put_lengths(set, direction, out),
-        _ => out.put("unknown question"),
+        "has" => put_has(set, id, out),
+        "roots" => put_roots(set, direction, out),
+        "links" => put_links(set, direction, out),
+        "first-two" => filter_two(set, direction, out),
+        "second-apart" => part_second(set, out),
+        "apart" => part_by_name(set, argument, out),
+        _ => {
+            tell(set, question, direction, out);
+            Ok(())
+        }
     }
-    Ok(())
 }
 
 fn ask(
@@ -247,18 +286,11 @@ fn ask_letters(
 
 // How many of the IDs each call leaves unread.
 fn put_unread(graph: &PackageGraph, ids: &[PackageId], out: &mut Answer) {
-    let mut unread = ids.iter();
-    let _refused = graph.query_directed(&mut unread, DependencyDirection::Reverse);
-    out.put_number(unread.len());
-    let mut unread = ids.iter();
-    let _refused = graph.query_forward(&mut unread);
-    out.put_number(unread.len());
-    let mut unread = ids.iter();
-    let _refused = graph.query_reverse(&mut unread);
-    out.put_number(unread.len());
-    let mut unread = ids.iter();
-    let _refused = graph.resolve_ids(&mut unread);
-    out.put_number(unread.len());
+    for question in ["directed", "forward", "reverse", "ids"] {
+        let mut unread = ids.iter();
+        let _refused = set_from(graph, question, &mut unread);
+        out.put_number(unread.len());
+    }
 }
 
 /// Answers a question about a set of the graph.
@@ -414,6 +446,10 @@ pub(super) fn other_graph(name: &str) -> &'static str {
     }
 }
 
+fn one_package<'g>(graph: &'g PackageGraph, id: &PackageId) -> Result<PackageSet<'g>, Error> {
+    graph.resolve_ids([id].into_iter())
+}
+
 /// Whether the graphs have the same packages, whether the packages and the sets of a are equal, and what
 /// their unions are.
 pub(super) fn beside(
@@ -425,9 +461,9 @@ pub(super) fn beside(
 ) -> Result<(), Error> {
     out.put_truth(one.same_packages(other));
     out.put_truth(one.metadata(a)? == other.metadata(a)?);
-    let here = one.resolve_ids([a].into_iter())?;
-    let there = other.resolve_ids([a].into_iter())?;
-    let far = other.resolve_ids([b].into_iter())?;
+    let here = one_package(one, a)?;
+    let there = one_package(other, a)?;
+    let far = one_package(other, b)?;
     put_sets(&here, (&there, &far), out)
 }
 

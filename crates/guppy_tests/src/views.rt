@@ -1,5 +1,6 @@
 //! What is read out of a graph: fields, links, build targets, members and default members.
 use crate::examples::Answer;
+use crate::members::{put_at_paths, put_named, put_unread};
 use crate::sets::direction_of;
 use guppy::graph::BuildTargetId;
 use guppy::{
@@ -45,22 +46,28 @@ fn put_list(package: PackageMetadata<'_>, field: &str, out: &mut Answer) {
     }
 }
 
-// Whether the package is so, or as `filled` says.
+// Whether the package's version, and what `filled` fills, is as it says.
+fn is_filled(package: PackageMetadata<'_>, field: &str) -> Option<bool> {
+    match field {
+        "version" => Some(*package.version() == Version::new(1, 2, 3)),
+        "rust-version" => Some(package.rust_version() == Some(&Version::new(1, 85, 0))),
+        "metadata-table" => Some(*package.metadata_table() == JsonValue::Bool(true)),
+        _ => None,
+    }
+}
+
+// Whether the package is so.
 fn holds(package: PackageMetadata<'_>, field: &str) -> Option<bool> {
-    let holds = match field {
-        "version" => *package.version() == Version::new(1, 2, 3),
-        "rust-version" => package.rust_version() == Some(&Version::new(1, 85, 0)),
-        "metadata-table" => *package.metadata_table() == JsonValue::Bool(true),
-        "in-workspace" => package.in_workspace(),
-        "publish" => package.publish().can_publish_to("registry"),
-        "has-default-feature" => package.has_default_feature(),
-        "proc-macro" => package.is_proc_macro(),
-        "build-script" => package.has_build_script(),
-        "one-feature" => package.named_features_full().len() == 1,
-        "one-optional-dep" => package.optional_deps_full().len() == 1,
-        _ => return None,
-    };
-    Some(holds)
+    match field {
+        "in-workspace" => Some(package.in_workspace()),
+        "publish" => Some(package.publish().can_publish_to("registry")),
+        "has-default-feature" => Some(package.has_default_feature()),
+        "proc-macro" => Some(package.is_proc_macro()),
+        "build-script" => Some(package.has_build_script()),
+        "one-feature" => Some(package.named_features_full().len() == 1),
+        "one-optional-dep" => Some(package.optional_deps_full().len() == 1),
+        _ => is_filled(package, field),
+    }
 }
 
 fn put_field(package: PackageMetadata<'_>, field: &str, out: &mut Answer) {
@@ -168,6 +175,17 @@ fn put_targets(package: PackageMetadata<'_>, name: &str, out: &mut Answer) {
     out.put_truth(test.is_some());
 }
 
+fn tell_package(package: PackageMetadata<'_>, words: &[&str], out: &mut Answer) {
+    match words {
+        ["of-links", field] => put_link_field(package, field, out),
+        ["list", field] => put_list(package, field, out),
+        ["links"] => put_links(package, out),
+        ["targets", name] => put_targets(package, name, out),
+        [field] => put_field(package, field, out),
+        _ => out.put("unknown question"),
+    }
+}
+
 /// Answers a question about the package.
 pub(super) fn ask_package(
     package: PackageMetadata<'_>,
@@ -175,15 +193,10 @@ pub(super) fn ask_package(
     ids: &[PackageId],
     out: &mut Answer,
 ) -> Result<(), Error> {
-    match (words, ids) {
-        (["link", relation, _], [_, _, other]) => put_between(package, other, relation, out)?,
-        (["of-links", field], _) => put_link_field(package, field, out),
-        (["list", field], _) => put_list(package, field, out),
-        (["links"], _) => put_links(package, out),
-        (["targets", name], _) => put_targets(package, name, out),
-        ([field], _) => put_field(package, field, out),
-        _ => out.put("unknown question"),
+    if let (["link", relation, _], [_, _, other]) = (words, ids) {
+        return put_between(package, other, relation, out);
     }
+    tell_package(package, words, out);
     Ok(())
 }
 
@@ -290,64 +303,6 @@ fn put_members(graph: &PackageGraph, out: &mut Answer) -> Result<(), Error> {
     Ok(())
 }
 
-// How many members the names name, or how many the set of them has.
-fn put_named(
-    graph: &PackageGraph,
-    question: &str,
-    names: [&str; 3],
-    out: &mut Answer,
-) -> Result<(), Error> {
-    let names = names.into_iter();
-    let count = match question {
-        "named" => graph.workspace().members_by_names(names)?.len(),
-        "set-named" => graph.resolve_workspace_names(names)?.len(),
-        _ => graph.query_workspace_names(names)?.resolve()?.len(),
-    };
-    out.put_number(count);
-    Ok(())
-}
-
-// How many members the paths name, how many the set of them has, and how many a resolve of them.
-fn put_at_paths(graph: &PackageGraph, paths: [&str; 2], out: &mut Answer) -> Result<(), Error> {
-    let [first, second] = paths;
-    let paths = [Utf8Path::new(first), Utf8Path::new(second)];
-    let members = graph.workspace().members_by_paths(paths.into_iter())?;
-    out.put_number(members.len());
-    let set = graph.resolve_workspace_paths(paths.into_iter())?;
-    out.put_number(set.len());
-    let query = graph.query_workspace_paths(paths.into_iter())?;
-    out.put_number(query.resolve()?.len());
-    Ok(())
-}
-
-// How many of the texts each call leaves unread, taken as names and as paths.
-fn put_unread(graph: &PackageGraph, texts: [&str; 3], out: &mut Answer) {
-    let mut names = texts.into_iter();
-    let _refused = graph.workspace().members_by_names(&mut names);
-    out.put_number(names.len());
-    let mut names = texts.into_iter();
-    let _refused = graph.resolve_workspace_names(&mut names);
-    out.put_number(names.len());
-    let mut names = texts.into_iter();
-    let _refused = graph.query_workspace_names(&mut names);
-    out.put_number(names.len());
-    let [first, second, third] = texts;
-    let texts = [
-        Utf8Path::new(first),
-        Utf8Path::new(second),
-        Utf8Path::new(third),
-    ];
-    let mut paths = texts.into_iter();
-    let _refused = graph.workspace().members_by_paths(&mut paths);
-    out.put_number(paths.len());
-    let mut paths = texts.into_iter();
-    let _refused = graph.resolve_workspace_paths(&mut paths);
-    out.put_number(paths.len());
-    let mut paths = texts.into_iter();
-    let _refused = graph.query_workspace_paths(&mut paths);
-    out.put_number(paths.len());
-}
-
 // The member with the path, and the one with the name.
 fn put_member(graph: &PackageGraph, path: &str, name: &str, out: &mut Answer) -> Result<(), Error> {
     let by_path = graph.workspace().member_by_path(Utf8Path::new(path))?;
@@ -384,21 +339,10 @@ fn workspace_holds(graph: &PackageGraph, question: &str, argument: &str) -> bool
     }
 }
 
-/// Answers a question about the workspace.
-pub(super) fn ask_workspace(
-    graph: &PackageGraph,
-    words: &[&str],
-    out: &mut Answer,
-) -> Result<(), Error> {
+fn tell_workspace(graph: &PackageGraph, words: &[&str], out: &mut Answer) {
     match words {
         ["order"] => put_order(graph, out),
-        ["members"] => put_members(graph, out)?,
-        [question @ ("named" | "set-named" | "query-named"), a, b, c] => {
-            put_named(graph, question, [a, b, c], out)?;
-        }
-        ["at-paths", a, b] => put_at_paths(graph, [a, b], out)?,
         ["unread", a, b, c] => put_unread(graph, [a, b, c], out),
-        ["member", path, name] => put_member(graph, path, name, out)?,
         ["defaults"] => put_defaults(graph, out),
         [question @ ("has-path" | "metadata-table")] => {
             out.put_truth(workspace_holds(graph, question, ""));
@@ -409,7 +353,26 @@ pub(super) fn ask_workspace(
         [directory] => put_directory(graph, directory, out),
         _ => out.put("unknown question"),
     }
-    Ok(())
+}
+
+/// Answers a question about the workspace.
+pub(super) fn ask_workspace(
+    graph: &PackageGraph,
+    words: &[&str],
+    out: &mut Answer,
+) -> Result<(), Error> {
+    match words {
+        ["members"] => put_members(graph, out),
+        [question @ ("named" | "set-named" | "query-named"), a, b, c] => {
+            put_named(graph, question, [a, b, c], out)
+        }
+        ["at-paths", a, b] => put_at_paths(graph, [Utf8Path::new(a), Utf8Path::new(b)], out),
+        ["member", path, name] => put_member(graph, path, name, out),
+        _ => {
+            tell_workspace(graph, words, out);
+            Ok(())
+        }
+    }
 }
 
 pub(super) const WORKSPACES: &str = "

@@ -12,8 +12,8 @@ use guppy::{Error, PackageLink, PackageLinkContext, PackageLinkVisitor, PackageQ
 
 /// Accepts the links at whose numbers the list is true. None stands beyond its end.
 #[derive(Drop)]
-pub struct ByPattern<'p> {
-    pub pattern: &'p [bool],
+pub(super) struct ByPattern<'p> {
+    pub(super) pattern: &'p [bool],
 }
 
 impl PackageLinkVisitor for ByPattern<'_> {
@@ -30,8 +30,8 @@ impl PackageLinkVisitor for ByPattern<'_> {
 
 /// Accepts its first calls, so many.
 #[derive(Drop)]
-pub struct First {
-    pub left: usize,
+pub(super) struct First {
+    pub(super) left: usize,
 }
 
 impl PackageLinkVisitor for First {
@@ -46,8 +46,8 @@ impl PackageLinkVisitor for First {
 
 /// Accepts its odd calls, and counts them all.
 #[derive(Drop)]
-pub struct Odd {
-    pub calls: usize,
+pub(super) struct Odd {
+    pub(super) calls: usize,
 }
 
 impl PackageLinkVisitor for Odd {
@@ -61,7 +61,7 @@ impl PackageLinkVisitor for Odd {
 }
 
 /// How many links the query shows where every second one is accepted: what the visitor has counted.
-pub fn odd_calls(query: PackageQuery<'_>) -> Result<usize, Error>
+pub(super) fn odd_calls(query: PackageQuery<'_>) -> Result<usize, Error>
     ensures { IfOk result (λ calls. (trace : List (ℕ × Bool)) × (set : List Bool)
         × JudgesResolve query.entry.direction query.entry.graph.links query.entry.initials trace set
         × (calls ≡ length trace % 2 ^ 64)) }
@@ -73,7 +73,7 @@ pub fn odd_calls(query: PackageQuery<'_>) -> Result<usize, Error>
 
 /// What the query includes over the links with even numbers. The closure keeps the set of the packages
 /// that these lead to, and is owed links that leave one of these, or one that the query starts at.
-pub fn over_even_links<'g>(query: PackageQuery<'g>) -> Result<PackageSet<'g>, Error> {
+pub(super) fn over_even_links<'g>(query: PackageQuery<'g>) -> Result<PackageSet<'g>, Error> {
     let graph = query.graph();
     let mut led_to = IxSet::<Packages>::empty(graph.alloc(), graph.package_count())?;
     query.resolve_with_fn(
@@ -103,7 +103,7 @@ pub fn over_even_links<'g>(query: PackageQuery<'g>) -> Result<PackageSet<'g>, Er
 
 /// Accepts the links that are there for development alone.
 #[derive(Drop)]
-pub struct DevOnly;
+pub(super) struct DevOnly;
 
 impl PackageLinkVisitor for DevOnly {
     ghost visits = { λ _ _ link answer _. IsSomeAnd (slice_get link.graph.links link.number)
@@ -117,8 +117,8 @@ impl PackageLinkVisitor for DevOnly {
 /// Accepts the links with a number above all those that it was shown before, and above the one that it
 /// has at first.
 #[derive(Drop)]
-pub struct Rising {
-    pub highest: usize,
+pub(super) struct Rising {
+    pub(super) highest: usize,
 }
 
 impl PackageLinkVisitor for Rising {
@@ -134,8 +134,8 @@ impl PackageLinkVisitor for Rising {
 
 /// Refuses the first link to the package d, and no other.
 #[derive(Drop)]
-pub struct RefusesOnce {
-    pub has_refused: bool,
+pub(super) struct RefusesOnce {
+    pub(super) has_refused: bool,
 }
 
 impl PackageLinkVisitor for RefusesOnce {
