@@ -31,12 +31,24 @@ impl GraphSpec for Packages {
 
 /// The graph of checked records that guppy's `PackageGraph` stands on. A package's position is its place
 /// in the list that the graph was made of, a link's number its place in the list of links.
-#[derive(Drop)]
 pub struct RecordGraph {
     graph: Graph<Packages>,
     workspace: WorkspaceRecord,
     indexes: Indexes,
     order: Order,
+}
+
+// Written out, so that where a graph is let go in another crate this is cited, and not the drop of each record proved
+// again.
+impl Drop for RecordGraph {
+    fn drop(self) {
+        let RecordGraph {
+            graph: _,
+            workspace: _,
+            indexes: _,
+            order: _,
+        } = self;
+    }
 }
 
 impl Model for RecordGraph {
