@@ -1,8 +1,7 @@
 //! What is read of a text that stands here, and what is told of bad ones.
 
 use guppy::IntoGraph;
-use guppy_data::{LinkRecord, PackageRecord};
-use guppy_metadata::{MetadataFault, records_of};
+use guppy_metadata::{MetadataFault, Records, records_of};
 use std::alloc::Global;
 use std::fmt;
 use std::process::Abort;
@@ -79,200 +78,113 @@ pub(super) const METADATA: &str = r#"{
 "target_directory": "/w/target", "build_directory": "/build", "version": 1, "workspace_root": "/w",
 "metadata": {"shared": true}}"#;
 
-fn shows<T: fmt::Debug>(rt: &impl Abort, alloc: Global, name: &str, value: &T, wanted: &str) {
-    let shown = format!(in alloc; "{value:?}").expect(rt, name);
+fn shows<T: fmt::Debug>(rt: &impl Abort, alloc: Global, value: &T, wanted: &str) {
+    let shown = format!(in alloc; "{value:?}").expect(rt, wanted);
     let shown = shown.as_str();
-    assert!(rt; shown == wanted, "{name}: {shown} is not {wanted}");
+    assert!(rt; shown == wanted, "{shown} is not {wanted}");
 }
 
-fn app_is_read(rt: &impl Abort, alloc: Global, app: &PackageRecord) {
-    let id = "PackageId { text: \"path+file:///w/app#0.3.1-pre.1\" }";
-    shows(rt, alloc, "id", &app.id, id);
-    shows(rt, alloc, "name", &app.name, "\"app\"");
-    let version = "Version { major: 0, minor: 3, patch: 1, pre: Prerelease(\"pre.1\") }";
-    shows(rt, alloc, "version", &app.version, version);
-    shows(rt, alloc, "authors", &app.authors, "[\"A <a@b>\", \"B\"]");
-    shows(
-        rt,
-        alloc,
-        "description",
-        &app.description,
-        "Some(\"An app\")",
-    );
-    shows(rt, alloc, "license", &app.license, "Some(\"MIT\")");
-    let license_file = "Some(Utf8PathBuf { text: \"LICENSE\" })";
-    shows(rt, alloc, "license_file", &app.license_file, license_file);
-    let source = "Workspace(Utf8PathBuf { text: \"app\" })";
-    shows(rt, alloc, "source", &app.source, source);
-    let manifest_path = "Utf8PathBuf { text: \"/w/app/Cargo.toml\" }";
-    shows(
-        rt,
-        alloc,
-        "manifest_path",
-        &app.manifest_path,
-        manifest_path,
-    );
-    shows(rt, alloc, "categories", &app.categories, "[\"c1\"]");
-    shows(rt, alloc, "keywords", &app.keywords, "[\"k1\", \"k2\"]");
-    let readme = "Some(Utf8PathBuf { text: \"README.md\" })";
-    shows(rt, alloc, "readme", &app.readme, readme);
-    shows(rt, alloc, "repository", &app.repository, "Some(\"r\")");
-    shows(rt, alloc, "homepage", &app.homepage, "Some(\"h\")");
-    shows(
-        rt,
-        alloc,
-        "documentation",
-        &app.documentation,
-        "Some(\"d\")",
-    );
-    shows(rt, alloc, "edition", &app.edition, "\"2021\"");
-    let table = "Object {\"docs\": Array [Number(1), String(\"x\")]}";
-    shows(rt, alloc, "metadata_table", &app.metadata_table, table);
-    shows(rt, alloc, "links", &app.links, "Some(\"zed\")");
-    shows(rt, alloc, "publish", &app.publish, "Registries([])");
-    shows(rt, alloc, "default_run", &app.default_run, "Some(\"app\")");
-    let rust_version = "Some(Version { major: 1, minor: 70, patch: 0 })";
-    shows(rt, alloc, "rust_version", &app.rust_version, rust_version);
-    let features = "{\"default\": [NamedFeature(\"slow\")], \
-        \"slow\": [OptionalDependency(\"lib-one\"), DependencyNamedFeature { dep_name: \"far-ext\", \
-        feature: \"std\", weak: true }, DependencyNamedFeature { dep_name: \"lib-one\", \
-        feature: \"a\", weak: false }]}";
-    shows(rt, alloc, "features", &app.named_features, features);
-    let optional = "{\"far-ext\", \"ext\", \"lib-one\"}";
-    shows(rt, alloc, "optional_deps", &app.optional_deps, optional);
-}
-
-const TARGETS: &[&str] = &[
-    "BuildTargetRecord { id: Library, \
-        kind: LibraryOrExample(SortedSet { items: [\"cdylib\", \"rlib\"] }), lib_name: Some(\"app\"), \
-        required_features: [], path: Utf8PathBuf { text: \"/w/app/src/lib.rs\" }, edition: \"2021\", \
-        doc_by_default: true, doctest_by_default: true, test_by_default: true }",
-    "BuildTargetRecord { id: Binary(\"app\"), kind: Binary, lib_name: None, \
-        required_features: [\"slow\"], path: Utf8PathBuf { text: \"/w/app/src/main.rs\" }, \
-        edition: \"2021\", doc_by_default: true, doctest_by_default: false, test_by_default: true }",
-    "BuildTargetRecord { id: Example(\"e\"), kind: LibraryOrExample(SortedSet { items: [\"bin\"] }), \
-        lib_name: None, required_features: [], path: Utf8PathBuf { text: \"/w/app/examples/e.rs\" }, \
-        edition: \"2021\", doc_by_default: false, doctest_by_default: false, test_by_default: false }",
-    "BuildTargetRecord { id: Test(\"t\"), kind: Binary, lib_name: None, required_features: [], \
-        path: Utf8PathBuf { text: \"/w/app/tests/t.rs\" }, edition: \"2021\", doc_by_default: false, \
-        doctest_by_default: false, test_by_default: true }",
-    "BuildTargetRecord { id: Benchmark(\"b\"), kind: Binary, lib_name: None, required_features: [], \
-        path: Utf8PathBuf { text: \"/w/app/benches/b.rs\" }, edition: \"2021\", doc_by_default: false, \
-        doctest_by_default: false, test_by_default: false }",
-    "BuildTargetRecord { id: BuildScript, kind: Binary, lib_name: Some(\"build-script-build\"), \
-        required_features: [], path: Utf8PathBuf { text: \"/w/app/build.rs\" }, edition: \"2021\", \
-        doc_by_default: false, doctest_by_default: false, test_by_default: false }",
+const PACKAGE_RECORDS: &[&str] = &[
+    "PackageRecord { id: PackageId { text: \"path+file:///w/app#0.3.1-pre.1\" }, name: \"app\", version: Version { \
+        major: 0, minor: 3, patch: 1, pre: Prerelease(\"pre.1\") }, authors: [\"A <a@b>\", \"B\"], description: \
+        Some(\"An app\"), license: Some(\"MIT\"), license_file: Some(Utf8PathBuf { text: \"LICENSE\" }), source: \
+        Workspace(Utf8PathBuf { text: \"app\" }), manifest_path: Utf8PathBuf { text: \"/w/app/Cargo.toml\" }, \
+        categories: [\"c1\"], keywords: [\"k1\", \"k2\"], readme: Some(Utf8PathBuf { text: \"README.md\" }), \
+        repository: Some(\"r\"), homepage: Some(\"h\"), documentation: Some(\"d\"), edition: \"2021\", \
+        metadata_table: Object {\"docs\": Array [Number(1), String(\"x\")]}, links: Some(\"zed\"), publish: \
+        Registries([]), default_run: Some(\"app\"), rust_version: Some(Version { major: 1, minor: 70, patch: 0 }), \
+        named_features: {\"default\": [NamedFeature(\"slow\")], \"slow\": [OptionalDependency(\"lib-one\"), \
+        DependencyNamedFeature { dep_name: \"far-ext\", feature: \"std\", weak: true }, DependencyNamedFeature { \
+        dep_name: \"lib-one\", feature: \"a\", weak: false }]}, optional_deps: {\"far-ext\", \"ext\", \"lib-one\"}, \
+        build_targets: [BuildTargetRecord { id: Library, kind: LibraryOrExample(SortedSet { items: [\"cdylib\", \
+        \"rlib\"] }), lib_name: Some(\"app\"), required_features: [], path: Utf8PathBuf { text: \
+        \"/w/app/src/lib.rs\" }, edition: \"2021\", doc_by_default: true, doctest_by_default: true, \
+        test_by_default: true }, BuildTargetRecord { id: Binary(\"app\"), kind: Binary, lib_name: None, \
+        required_features: [\"slow\"], path: Utf8PathBuf { text: \"/w/app/src/main.rs\" }, edition: \"2021\", \
+        doc_by_default: true, doctest_by_default: false, test_by_default: true }, BuildTargetRecord { id: \
+        Example(\"e\"), kind: LibraryOrExample(SortedSet { items: [\"bin\"] }), lib_name: None, required_features: \
+        [], path: Utf8PathBuf { text: \"/w/app/examples/e.rs\" }, edition: \"2021\", doc_by_default: false, \
+        doctest_by_default: false, test_by_default: false }, BuildTargetRecord { id: Test(\"t\"), kind: Binary, \
+        lib_name: None, required_features: [], path: Utf8PathBuf { text: \"/w/app/tests/t.rs\" }, edition: \
+        \"2021\", doc_by_default: false, doctest_by_default: false, test_by_default: true }, BuildTargetRecord { \
+        id: Benchmark(\"b\"), kind: Binary, lib_name: None, required_features: [], path: Utf8PathBuf { text: \
+        \"/w/app/benches/b.rs\" }, edition: \"2021\", doc_by_default: false, doctest_by_default: false, \
+        test_by_default: false }, BuildTargetRecord { id: BuildScript, kind: Binary, lib_name: \
+        Some(\"build-script-build\"), required_features: [], path: Utf8PathBuf { text: \"/w/app/build.rs\" }, \
+        edition: \"2021\", doc_by_default: false, doctest_by_default: false, test_by_default: false }] }",
+    "PackageRecord { id: PackageId { text: \"ext 1.2.0\" }, name: \"ext\", version: Version { major: 1, minor: 2, \
+        patch: 0 }, authors: [], description: None, license: None, license_file: None, source: \
+        External(\"registry+https://github.com/rust-lang/crates.io-index\"), manifest_path: Utf8PathBuf { text: \
+        \"/r/ext/Cargo.toml\" }, categories: [], keywords: [], readme: None, repository: None, homepage: None, \
+        documentation: None, edition: \"2018\", metadata_table: Null, links: None, publish: Unrestricted, \
+        default_run: None, rust_version: None, named_features: {}, optional_deps: {}, build_targets: \
+        [BuildTargetRecord { id: Library, kind: ProcMacro, lib_name: Some(\"ext\"), required_features: [], path: \
+        Utf8PathBuf { text: \"/r/ext/src/lib.rs\" }, edition: \"2018\", doc_by_default: true, doctest_by_default: \
+        true, test_by_default: true }] }",
+    "PackageRecord { id: PackageId { text: \"lib-one\" }, name: \"lib-one\", version: Version { major: 0, minor: 1, \
+        patch: 0 }, authors: [], description: None, license: None, license_file: None, source: Path(Utf8PathBuf { \
+        text: \"../lib-one\" }), manifest_path: Utf8PathBuf { text: \"/lib-one/Cargo.toml\" }, categories: [], \
+        keywords: [], readme: None, repository: None, homepage: None, documentation: None, edition: \"2018\", \
+        metadata_table: Null, links: None, publish: Registries([\"mine\"]), default_run: None, rust_version: \
+        Some(Version { major: 2, minor: 0, patch: 0 }), named_features: {\"a\": [], \"b\": []}, optional_deps: {}, \
+        build_targets: [BuildTargetRecord { id: Library, kind: LibraryOrExample(SortedSet { items: [\"lib\"] }), \
+        lib_name: Some(\"one\"), required_features: [], path: Utf8PathBuf { text: \"/lib-one/src/lib.rs\" }, \
+        edition: \"2018\", doc_by_default: true, doctest_by_default: true, test_by_default: true }] }",
 ];
 
-fn targets_are_read(rt: &impl Abort, alloc: Global, app: &PackageRecord) {
-    assert!(rt; app.build_targets.len() == TARGETS.len());
-    for (target, wanted) in app.build_targets.iter().zip(TARGETS.iter()) {
-        shows(rt, alloc, "target", target, wanted);
+const LINK_RECORDS: &[&str] = &[
+    "LinkRecord { from: PackageId { text: \"path+file:///w/app#0.3.1-pre.1\" }, to: PackageId { text: \"ext 1.2.0\" \
+        }, dep_name: \"far-ext\", resolved_name: \"far_ext\", version_req: VersionReq { comparators: [Comparator { \
+        op: Caret, major: 1, minor: None, patch: None, pre: Prerelease(\"\") }] }, registry: \
+        Some(\"https://registry\"), path: None, normal: DependencyReqImpl { required: DepRequiredOrOptional { \
+        build_if: Specs([]), default_features_if: Specs([]), no_default_features_if: Specs([]), feature_targets: {} \
+        }, optional: DepRequiredOrOptional { build_if: Always, default_features_if: Always, no_default_features_if: \
+        Specs([]), feature_targets: {} } }, build: DependencyReqImpl { required: DepRequiredOrOptional { build_if: \
+        Specs([]), default_features_if: Specs([]), no_default_features_if: Specs([]), feature_targets: {} }, \
+        optional: DepRequiredOrOptional { build_if: Specs([]), default_features_if: Specs([]), \
+        no_default_features_if: Specs([]), feature_targets: {} } }, dev: DependencyReqImpl { required: \
+        DepRequiredOrOptional { build_if: Specs([]), default_features_if: Specs([]), no_default_features_if: \
+        Specs([]), feature_targets: {} }, optional: DepRequiredOrOptional { build_if: Specs([]), \
+        default_features_if: Specs([]), no_default_features_if: Specs([]), feature_targets: {} } } }",
+    "LinkRecord { from: PackageId { text: \"path+file:///w/app#0.3.1-pre.1\" }, to: PackageId { text: \"lib-one\" \
+        }, dep_name: \"lib-one\", resolved_name: \"one\", version_req: VersionReq { comparators: [Comparator { op: \
+        Caret, major: 0, minor: Some(1), patch: None, pre: Prerelease(\"\") }] }, registry: None, path: \
+        Some(Utf8PathBuf { text: \"/lib-one\" }), normal: DependencyReqImpl { required: DepRequiredOrOptional { \
+        build_if: Specs([]), default_features_if: Specs([]), no_default_features_if: Specs([]), feature_targets: {} \
+        }, optional: DepRequiredOrOptional { build_if: Always, default_features_if: Specs([TargetSpec { text: \
+        \"cfg(windows)\" }]), no_default_features_if: Always, feature_targets: {\"a\": Always, \"b\": \
+        Specs([TargetSpec { text: \"cfg(windows)\" }])} } }, build: DependencyReqImpl { required: \
+        DepRequiredOrOptional { build_if: Always, default_features_if: Always, no_default_features_if: Specs([]), \
+        feature_targets: {} }, optional: DepRequiredOrOptional { build_if: Specs([]), default_features_if: \
+        Specs([]), no_default_features_if: Specs([]), feature_targets: {} } }, dev: DependencyReqImpl { required: \
+        DepRequiredOrOptional { build_if: Specs([TargetSpec { text: \"cfg(unix)\" }]), default_features_if: \
+        Specs([TargetSpec { text: \"cfg(unix)\" }]), no_default_features_if: Specs([]), feature_targets: {} }, \
+        optional: DepRequiredOrOptional { build_if: Specs([]), default_features_if: Specs([]), \
+        no_default_features_if: Specs([]), feature_targets: {} } } }",
+];
+
+fn are_read<T: fmt::Debug>(rt: &impl Abort, alloc: Global, records: &[T], wanted: &[&str]) {
+    assert!(rt; records.len() == wanted.len());
+    for (record, text) in records.iter().zip(wanted.iter()) {
+        shows(rt, alloc, record, text);
     }
 }
 
-fn others_are_read(rt: &impl Abort, alloc: Global, ext: &PackageRecord, one: &PackageRecord) {
-    let source = "External(\"registry+https://github.com/rust-lang/crates.io-index\")";
-    shows(rt, alloc, "source", &ext.source, source);
-    shows(rt, alloc, "publish", &ext.publish, "Unrestricted");
-    shows(rt, alloc, "rust_version", &ext.rust_version, "None");
-    shows(rt, alloc, "metadata_table", &ext.metadata_table, "Null");
-    let source = "Path(Utf8PathBuf { text: \"../lib-one\" })";
-    shows(rt, alloc, "source", &one.source, source);
-    shows(rt, alloc, "publish", &one.publish, "Registries([\"mine\"])");
-    let rust_version = "Some(Version { major: 2, minor: 0, patch: 0 })";
-    shows(rt, alloc, "rust_version", &one.rust_version, rust_version);
-    for target in ext.build_targets.iter() {
-        shows(rt, alloc, "kind", &target.kind, "ProcMacro");
-    }
-}
-
-const NEVER: &str = "DepRequiredOrOptional { build_if: Specs([]), default_features_if: Specs([]), \
-    no_default_features_if: Specs([]), feature_targets: {} }";
-
-fn link_to_ext_is_read(rt: &impl Abort, alloc: Global, link: &LinkRecord) {
-    let from = "PackageId { text: \"path+file:///w/app#0.3.1-pre.1\" }";
-    shows(rt, alloc, "from", &link.from, from);
-    shows(
-        rt,
-        alloc,
-        "to",
-        &link.to,
-        "PackageId { text: \"ext 1.2.0\" }",
-    );
-    shows(rt, alloc, "dep_name", &link.dep_name, "\"far-ext\"");
-    shows(
-        rt,
-        alloc,
-        "resolved_name",
-        &link.resolved_name,
-        "\"far_ext\"",
-    );
-    shows(
-        rt,
-        alloc,
-        "registry",
-        &link.registry,
-        "Some(\"https://registry\")",
-    );
-    shows(rt, alloc, "path", &link.path, "None");
-    let optional = "DepRequiredOrOptional { build_if: Always, default_features_if: Always, \
-        no_default_features_if: Specs([]), feature_targets: {} }";
-    shows(rt, alloc, "optional", &link.normal.optional, optional);
-    shows(rt, alloc, "required", &link.normal.required, NEVER);
-}
-
-fn link_to_one_is_read(rt: &impl Abort, alloc: Global, link: &LinkRecord) {
-    shows(rt, alloc, "to", &link.to, "PackageId { text: \"lib-one\" }");
-    shows(rt, alloc, "dep_name", &link.dep_name, "\"lib-one\"");
-    shows(rt, alloc, "resolved_name", &link.resolved_name, "\"one\"");
-    let req = "VersionReq { comparators: [Comparator { op: Caret, major: 0, minor: Some(1), \
-        patch: None, pre: Prerelease(\"\") }] }";
-    shows(rt, alloc, "version_req", &link.version_req, req);
-    let path = "Some(Utf8PathBuf { text: \"/lib-one\" })";
-    shows(rt, alloc, "path", &link.path, path);
-    shows(rt, alloc, "normal, required", &link.normal.required, NEVER);
-    let normal = "DepRequiredOrOptional { build_if: Always, \
-        default_features_if: Specs([TargetSpec { text: \"cfg(windows)\" }]), \
-        no_default_features_if: Always, feature_targets: {\"a\": Always, \
-        \"b\": Specs([TargetSpec { text: \"cfg(windows)\" }])} }";
-    shows(rt, alloc, "normal, optional", &link.normal.optional, normal);
-    let build = "DepRequiredOrOptional { build_if: Always, default_features_if: Always, \
-        no_default_features_if: Specs([]), feature_targets: {} }";
-    shows(rt, alloc, "build, required", &link.build.required, build);
-    shows(rt, alloc, "build, optional", &link.build.optional, NEVER);
-    let dev = "DepRequiredOrOptional { build_if: Specs([TargetSpec { text: \"cfg(unix)\" }]), \
-        default_features_if: Specs([TargetSpec { text: \"cfg(unix)\" }]), \
-        no_default_features_if: Specs([]), feature_targets: {} }";
-    shows(rt, alloc, "dev, required", &link.dev.required, dev);
-    shows(rt, alloc, "dev, optional", &link.dev.optional, NEVER);
-}
-
-#[test]
-fn metadata_is_read(rt: HostRuntime) {
-    let alloc = rt.alloc();
-    let records = records_of(alloc, METADATA).expect(&rt, "records");
-    match records.packages.as_slice() {
-        [app, ext, one] => {
-            app_is_read(&rt, alloc, app);
-            targets_are_read(&rt, alloc, app);
-            others_are_read(&rt, alloc, ext, one);
-        }
-        _ => assert!(rt; false, "packages"),
-    }
-    match records.links.as_slice() {
-        [to_ext, to_one] => {
-            link_to_ext_is_read(&rt, alloc, to_ext);
-            link_to_one_is_read(&rt, alloc, to_one);
-        }
-        _ => assert!(rt; false, "links"),
-    }
+fn records_are_read(rt: &impl Abort, alloc: Global, records: &Records) {
+    are_read(rt, alloc, records.packages.as_slice(), PACKAGE_RECORDS);
+    are_read(rt, alloc, records.links.as_slice(), LINK_RECORDS);
     let workspace = "WorkspaceRecord { root: Utf8PathBuf { text: \"/w\" }, \
         target_directory: Utf8PathBuf { text: \"/w/target\" }, \
         build_directory: Some(Utf8PathBuf { text: \"/build\" }), \
         metadata_table: Object {\"shared\": Bool(true)}, \
         default_members: [PackageId { text: \"path+file:///w/app#0.3.1-pre.1\" }] }";
-    shows(&rt, alloc, "workspace", &records.workspace, workspace);
+    shows(rt, alloc, &records.workspace, workspace);
+}
+
+#[test]
+fn metadata_is_read(rt: HostRuntime) {
+    let records = records_of(rt.alloc(), METADATA).expect(&rt, "records");
+    records_are_read(&rt, rt.alloc(), &records);
     let graph = records.into_graph().expect(&rt, "graph");
     assert!(rt; graph.package_count() == 3);
     assert!(rt; graph.link_count() == 2);

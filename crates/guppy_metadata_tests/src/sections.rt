@@ -1,10 +1,10 @@
 //! Which sections of a link are on for a platform.
 
+use guppy::IntoGraph;
 use guppy::platform::{EnabledTernary, PlatformSpec};
-use guppy::{IntoGraph, PackageId};
 use guppy_metadata::records_of;
 use guppy_target::{CfgEval, Platform, SectionsOn, sections_on};
-use std::test::Fail;
+use std::process::Abort;
 
 // A link that is normal on Windows, optional to build on Unix, and for development where nobody can tell.
 const METADATA: &str = r#"{"packages": [
@@ -22,11 +22,14 @@ const METADATA: &str = r#"{"packages": [
  {"id": "b", "deps": []}]}}"#;
 
 #[test]
-fn sections(rt: HostRuntime) -> Result<(), Fail> {
+fn sections(rt: HostRuntime) {
     let alloc = rt.alloc();
-    let graph = records_of(alloc, METADATA)?.into_graph()?;
-    let on_linux = PlatformSpec::one(alloc, Platform::new(alloc, "linux", "unix")?)?;
-    let package = graph.metadata(&PackageId::new(String::from_str(alloc, "a")?))?;
+    let records = records_of(alloc, METADATA).expect(&rt, "records");
+    let graph = records.into_graph().expect(&rt, "a graph");
+    let platform = Platform::new(alloc, "linux", "unix").expect(&rt, "a platform");
+    let on_linux = PlatformSpec::one(alloc, platform).expect(&rt, "a question");
+    let workspace = graph.workspace();
+    let package = workspace.member_by_name("a").expect(&rt, "a member");
     let wanted = SectionsOn {
         normal: EnabledTernary::Disabled,
         build: EnabledTernary::Enabled,
@@ -35,5 +38,4 @@ fn sections(rt: HostRuntime) -> Result<(), Fail> {
     let link = package.direct_links().next();
     let on = link.map(|link| sections_on(link, &on_linux, &CfgEval));
     assert_eq!(rt; on, Some(wanted));
-    Ok(())
 }

@@ -45,11 +45,11 @@ fn ask_status(rt: &impl Print, alloc: Global, call: &str) -> Result<(), AllocErr
 fn ask_question(rt: &impl Print, alloc: Global, call: &str) -> Result<(), AllocError> {
     begin(rt);
     let question = if call == "platforms" {
-        PlatformSpec::platforms(alloc, ["linux", "windows"].into_iter())?
+        PlatformSpec::platforms(alloc, ["linux", "windows"].into_iter())
     } else {
-        PlatformSpec::one(alloc, "linux")?
+        PlatformSpec::one(alloc, "linux")
     };
-    if let PlatformSpec::Platforms(platforms) = &question {
+    if let PlatformSpec::Platforms(platforms) = &question? {
         for platform in platforms {
             tell(rt, *platform);
         }
@@ -76,11 +76,11 @@ fn ask_id(rt: &impl Print, alloc: Global) -> Result<(), AllocError> {
 }
 
 pub(crate) fn ask(rt: &impl Print, alloc: Global, call: &str) -> Result<(), RunFault> {
-    match call {
-        "from_items" => ask_sorted(rt, alloc)?,
-        "platforms" | "one" => ask_question(rt, alloc, call)?,
-        "id_clone" => ask_id(rt, alloc)?,
-        _ => ask_status(rt, alloc, call)?,
-    }
-    Ok(())
+    let asked = match call {
+        "from_items" => ask_sorted(rt, alloc),
+        "platforms" | "one" => ask_question(rt, alloc, call),
+        "id_clone" => ask_id(rt, alloc),
+        _ => ask_status(rt, alloc, call),
+    };
+    Ok(asked?)
 }

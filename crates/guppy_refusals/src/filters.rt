@@ -77,13 +77,13 @@ fn ask_filter_partition(rt: &impl Print, set: &PackageSet<'_>, is_lent: bool) ->
 
 pub(crate) fn ask(rt: &impl Print, world: &World<'_>, call: &str) -> Result<(), RunFault> {
     let all = world.graph.resolve_all()?;
-    match call {
-        "filter" => ask_filter(rt, &all, false)?,
-        "filter_mut" => ask_filter(rt, &all, true)?,
-        "partition" => ask_partition(rt, &all, false)?,
-        "partition_mut" => ask_partition(rt, &all, true)?,
-        "filter_partition" => ask_filter_partition(rt, &all, false)?,
-        _ => ask_filter_partition(rt, &all, true)?,
-    }
-    Ok(())
+    let asked = match call {
+        "filter" => ask_filter(rt, &all, false),
+        "filter_mut" => ask_filter(rt, &all, true),
+        "partition" => ask_partition(rt, &all, false),
+        "partition_mut" => ask_partition(rt, &all, true),
+        "filter_partition" => ask_filter_partition(rt, &all, false),
+        _ => ask_filter_partition(rt, &all, true),
+    };
+    Ok(asked?)
 }

@@ -55,15 +55,20 @@ fn tell_cycle(rt: &impl Print, cycle: Option<Vec<PackageIx>>) {
     }
 }
 
-pub(crate) fn ask(rt: &impl Print, alloc: Global, call: &str) -> Result<(), RunFault> {
-    let graph = graph_of(alloc)?;
-    let ixs = ixs_of(&graph, &[2, 0, 2])?;
+fn ask_graph(rt: &impl Print, graph: &Graph<DevLinks>, call: &str) -> Result<(), AllocError> {
+    let ixs = ixs_of(graph, &[2, 0, 2])?;
     begin(rt);
     match call {
-        "from_ixs" => tell_positions(rt, &made(&graph, ixs.as_slice())?),
-        "core_from_ixs" => tell_positions(rt, made_core(&graph, ixs.as_slice())?.included()),
-        "find_cycle" => tell_cycle(rt, any_cycle(&graph)?),
-        _ => tell_cycle(rt, firm_cycle(&graph)?),
+        "from_ixs" => tell_positions(rt, &made(graph, ixs.as_slice())?),
+        "core_from_ixs" => tell_positions(rt, made_core(graph, ixs.as_slice())?.included()),
+        "find_cycle" => tell_cycle(rt, any_cycle(graph)?),
+        _ => tell_cycle(rt, firm_cycle(graph)?),
     }
     Ok(())
+}
+
+pub(crate) fn ask(rt: &impl Print, alloc: Global, call: &str) -> Result<(), RunFault> {
+    let graph = graph_of(alloc)?;
+    let asked = ask_graph(rt, &graph, call);
+    Ok(asked?)
 }

@@ -3,7 +3,7 @@
 use crate::told::{begin, tell_line};
 use crate::world::World;
 use guppy::graph::DependencyDirection;
-use guppy::{DependsCache, PackageId, Utf8Path};
+use guppy::{DependsCache, Error, PackageId, Utf8Path};
 use guppy_program::RunFault;
 use guppy_program::lines::records::id_of;
 use std::alloc::Global;
@@ -13,24 +13,24 @@ fn tell_cache(
     rt: &impl Print,
     world: &World<'_>,
     cache: &mut DependsCache<'_>,
-) -> Result<(), RunFault> {
+) -> Result<(), Error> {
     tell_line(rt, &cache.depends_on(world.c, world.a)?);
     tell_line(rt, &cache.depends_on(world.a, world.c)?);
     Ok(())
 }
 
-fn ask_new_cache(rt: &impl Print, world: &World<'_>, call: &str) -> Result<(), RunFault> {
+fn ask_new_cache(rt: &impl Print, world: &World<'_>, call: &str) -> Result<(), Error> {
     begin(rt);
-    let mut cache = if call == "new_depends_cache" {
-        world.graph.new_depends_cache()?
+    let cache = if call == "new_depends_cache" {
+        world.graph.new_depends_cache()
     } else {
-        DependsCache::new(world.graph)?
+        DependsCache::new(world.graph)
     };
-    tell_cache(rt, world, &mut cache)
+    tell_cache(rt, world, &mut cache?)
 }
 
 // Asks a cache of an unknown package, and tells what it answers before and after that.
-fn ask_cache(rt: &impl Print, world: &World<'_>, unknown: &PackageId) -> Result<(), RunFault> {
+fn ask_cache(rt: &impl Print, world: &World<'_>, unknown: &PackageId) -> Result<(), Error> {
     let mut cache = world.graph.new_depends_cache()?;
     tell_cache(rt, world, &mut cache)?;
     begin(rt);
@@ -46,16 +46,16 @@ fn ask_of_two(
     call: &str,
     from: &PackageId,
     to: &PackageId,
-) -> Result<(), RunFault> {
+) -> Result<(), Error> {
     let graph = world.graph;
     begin(rt);
     let holds = match call {
-        "directly_depends_on" => graph.directly_depends_on(from, to)?,
-        "is_cyclic" => graph.cycles().is_cyclic(from, to)?,
-        "contains" => world.x.contains(to)?,
-        _ => graph.depends_on(from, to)?,
+        "directly_depends_on" => graph.directly_depends_on(from, to),
+        "is_cyclic" => graph.cycles().is_cyclic(from, to),
+        "contains" => world.x.contains(to),
+        _ => graph.depends_on(from, to),
     };
-    tell_line(rt, &holds);
+    tell_line(rt, &holds?);
     Ok(())
 }
 
@@ -65,7 +65,7 @@ fn ask_for_unknown(
     world: &World<'_>,
     call: &str,
     unknown: &PackageId,
-) -> Result<(), RunFault> {
+) -> Result<(), Error> {
     let package = world.graph.metadata(world.a)?;
     begin(rt);
     match call {
@@ -99,7 +99,7 @@ pub(crate) fn ask(
     call: &str,
 ) -> Result<(), RunFault> {
     let unknown = id_of(alloc, "z")?;
-    match call {
+    let asked = match call {
         "depends_on" => ask_of_two(rt, world, call, world.a, world.c),
         "new" | "new_depends_cache" => ask_new_cache(rt, world, call),
         "cache" => ask_cache(rt, world, &unknown),
@@ -107,5 +107,6 @@ pub(crate) fn ask(
             ask_of_two(rt, world, call, world.a, &unknown)
         }
         _ => ask_for_unknown(rt, world, call, &unknown),
-    }
+    };
+    Ok(asked?)
 }

@@ -175,6 +175,68 @@ fn made_core(
     }
 }
 
+// Positions in an order: roots, or all by their components.
+fn listed(
+    graph: &Graph<DevLinks>,
+    x: &ResolveCore<DevLinks>,
+    sccs: &Sccs<PackageIx>,
+    call: &str,
+) -> Result<Vec<PackageIx>, AllocError>
+    requires x { length x.now ≡ length graph.now.nodes }
+    requires sccs { length (concat sccs.now) ≡ length graph.now.nodes }
+{
+    match call {
+        "externals" => sccs.externals(graph, x.included(), FORWARD),
+        "core_roots" => x.roots(graph, sccs, FORWARD),
+        _ => sccs.node_iter(FORWARD).collect(graph.alloc()),
+    }
+}
+
+fn ask_core_links(
+    rt: &impl Print,
+    graph: &Graph<DevLinks>,
+    x: &ResolveCore<DevLinks>,
+    sccs: &Sccs<PackageIx>,
+) -> Result<(), AllocError>
+    requires x { length x.now ≡ length graph.now.nodes }
+    requires sccs { length (concat sccs.now) ≡ length graph.now.nodes }
+{
+    for (_, _, number) in x.links(graph, sccs, FORWARD)? {
+        tell(rt, number);
+    }
+    tell_line(rt, &"links");
+    Ok(())
+}
+
+fn ask_edge_dfs(
+    rt: &impl Print,
+    graph: &Graph<DevLinks>,
+    x: &IxSet<DevLinks>,
+) -> Result<(), AllocError>
+    requires x { length x.now ≡ length graph.now.nodes }
+{
+    for (_, _, number) in EdgeDfs::new(graph, x, FORWARD, x)? {
+        tell(rt, number);
+    }
+    tell_line(rt, &"links");
+    Ok(())
+}
+
+fn ask_listed(
+    rt: &impl Print,
+    graph: &Graph<DevLinks>,
+    x: &ResolveCore<DevLinks>,
+    sccs: &Sccs<PackageIx>,
+    call: &str,
+) -> Result<(), AllocError>
+    requires x { length x.now ≡ length graph.now.nodes }
+    requires sccs { length (concat sccs.now) ≡ length graph.now.nodes }
+{
+    let positions = listed(graph, x, sccs, call)?;
+    tell_list(rt, positions.as_slice());
+    Ok(())
+}
+
 fn ask_lists(
     rt: &impl Print,
     graph: &Graph<DevLinks>,
@@ -184,37 +246,14 @@ fn ask_lists(
     requires x { length x.now ≡ length graph.now.nodes }
 {
     let sccs = components(rt, graph, call)?;
-    match call {
-        "externals" => {
-            begin(rt);
-            let roots = sccs.externals(graph, x.included(), FORWARD)?;
-            tell_list(rt, roots.as_slice());
-        }
-        "core_roots" => {
-            begin(rt);
-            let roots = x.roots(graph, &sccs, FORWARD)?;
-            tell_list(rt, roots.as_slice());
-        }
-        "core_links" => {
-            begin(rt);
-            for (_, _, number) in x.links(graph, &sccs, FORWARD)? {
-                tell(rt, number);
-            }
-            tell_line(rt, &"links");
-        }
-        "edge_dfs" => {
-            begin(rt);
-            for (_, _, number) in EdgeDfs::new(graph, x.included(), FORWARD, x.included())? {
-                tell(rt, number);
-            }
-            tell_line(rt, &"links");
-        }
-        _ => {
-            let order: Vec<PackageIx> = sccs.node_iter(FORWARD).collect(graph.alloc())?;
-            tell_list(rt, order.as_slice());
-        }
+    if let "externals" | "core_roots" | "core_links" | "edge_dfs" = call {
+        begin(rt);
     }
-    Ok(())
+    match call {
+        "core_links" => ask_core_links(rt, graph, x, &sccs),
+        "edge_dfs" => ask_edge_dfs(rt, graph, x.included()),
+        _ => ask_listed(rt, graph, x, &sccs, call),
+    }
 }
 
 fn ask_graph(rt: &impl Print, alloc: Global, is_large: bool) -> Result<(), AllocError> {
@@ -230,39 +269,61 @@ fn ask_graph(rt: &impl Print, alloc: Global, is_large: bool) -> Result<(), Alloc
     Ok(())
 }
 
-fn ask_core(rt: &impl Print, graph: &Graph<DevLinks>, call: &str) -> Result<(), AllocError> {
-    let x = ResolveCore::from_included(set_of(graph, &[0, 1])?);
-    let y = ResolveCore::from_included(set_of(graph, &[1, 2])?);
+fn ask_of_cores(
+    rt: &impl Print,
+    graph: &Graph<DevLinks>,
+    x: &ResolveCore<DevLinks>,
+    y: &ResolveCore<DevLinks>,
+    call: &str,
+) -> Result<(), AllocError>
+    requires x { length x.now ≡ length graph.now.nodes }
+    requires y { length y.now ≡ length graph.now.nodes }
+{
     tell_positions(rt, x.included());
     match call {
         "core_difference" | "core_clone" | "core_new" | "core_all_nodes" | "core_empty" => {
-            let set = made_core(rt, graph, &x, &y, call);
+            let set = made_core(rt, graph, x, y, call);
             tell_positions(rt, x.included());
             tell_positions(rt, set?.included());
+            Ok(())
         }
         _ => {
-            let told = ask_lists(rt, graph, &x, call);
+            let told = ask_lists(rt, graph, x, call);
             tell_positions(rt, x.included());
-            told?;
+            told
         }
     }
+}
+
+fn ask_core(rt: &impl Print, graph: &Graph<DevLinks>, call: &str) -> Result<(), AllocError> {
+    let x = ResolveCore::from_included(set_of(graph, &[0, 1])?);
+    let y = ResolveCore::from_included(set_of(graph, &[1, 2])?);
+    ask_of_cores(rt, graph, &x, &y, call)
+}
+
+fn ask_set(rt: &impl Print, graph: &Graph<DevLinks>, call: &str) -> Result<(), AllocError> {
+    let x = set_of(graph, &[0, 1])?;
+    let y = set_of(graph, &[1, 2])?;
+    tell_positions(rt, &x);
+    let set = made(rt, graph, &x, &y, call);
+    tell_positions(rt, &x);
+    tell_positions(rt, &set?);
     Ok(())
 }
 
-pub(crate) fn ask(rt: &impl Print, alloc: Global, call: &str) -> Result<(), RunFault> {
+fn ask_small(rt: &impl Print, alloc: Global, call: &str) -> Result<(), AllocError> {
     let graph = graph_of(alloc)?;
-    let x = set_of(&graph, &[0, 1])?;
-    let y = set_of(&graph, &[1, 2])?;
     match call {
-        "from_parts" => ask_graph(rt, alloc, false)?,
-        "thousand_by_sevens" => ask_graph(rt, alloc, true)?,
-        "difference" | "clone" | "reachable" | "empty" => {
-            tell_positions(rt, &x);
-            let set = made(rt, &graph, &x, &y, call);
-            tell_positions(rt, &x);
-            tell_positions(rt, &set?);
-        }
-        _ => ask_core(rt, &graph, call)?,
+        "difference" | "clone" | "reachable" | "empty" => ask_set(rt, &graph, call),
+        _ => ask_core(rt, &graph, call),
     }
-    Ok(())
+}
+
+pub(crate) fn ask(rt: &impl Print, alloc: Global, call: &str) -> Result<(), RunFault> {
+    let asked = match call {
+        "from_parts" => ask_graph(rt, alloc, false),
+        "thousand_by_sevens" => ask_graph(rt, alloc, true),
+        _ => ask_small(rt, alloc, call),
+    };
+    Ok(asked?)
 }

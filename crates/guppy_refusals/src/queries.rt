@@ -12,19 +12,19 @@ fn made<'g>(rt: &impl Print, world: &World<'g>, call: &str) -> Result<PackageQue
     let package = graph.metadata(world.b)?;
     begin(rt);
     let query = match call {
-        "query_workspace" => graph.query_workspace()?,
-        "query_workspace_paths" => graph.query_workspace_paths(paths.into_iter())?,
-        "query_workspace_names" => graph.query_workspace_names(["c", "a"].into_iter())?,
-        "query_directed" => { graph.query_directed(ids.into_iter(), DependencyDirection::Reverse)? }
-        "query_forward" => graph.query_forward(ids.into_iter())?,
-        "query_reverse" => graph.query_reverse(ids.into_iter())?,
-        "unknown_path" => graph.query_workspace_paths([Utf8Path::new("z")].into_iter())?,
-        "unknown_name" => graph.query_workspace_names(["a", "z"].into_iter())?,
-        "set_to_package_query" => world.x.to_package_query(DependencyDirection::Reverse)?,
-        "package_to_package_query" => package.to_package_query(DependencyDirection::Reverse)?,
-        _ => world.query.clone()?,
+        "query_workspace" => graph.query_workspace(),
+        "query_workspace_paths" => graph.query_workspace_paths(paths.into_iter()),
+        "query_workspace_names" => graph.query_workspace_names(["c", "a"].into_iter()),
+        "query_directed" => graph.query_directed(ids.into_iter(), DependencyDirection::Reverse),
+        "query_reverse" => graph.query_reverse(ids.into_iter()),
+        "unknown_path" => graph.query_workspace_paths([Utf8Path::new("z")].into_iter()),
+        "unknown_name" => graph.query_workspace_names(["a", "z"].into_iter()),
+        "set_to_package_query" => world.x.to_package_query(DependencyDirection::Reverse),
+        "package_to_package_query" => package.to_package_query(DependencyDirection::Reverse),
+        "clone" => return Ok(world.query.clone()?),
+        _ => graph.query_forward(ids.into_iter()),
     };
-    Ok(query)
+    Ok(query?)
 }
 
 pub(crate) fn ask(rt: &impl Print, world: &World<'_>, call: &str) -> Result<(), RunFault> {

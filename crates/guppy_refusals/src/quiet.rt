@@ -94,8 +94,8 @@ fn ask_verify(rt: &impl Print, alloc: Global) -> Result<(), RunFault> {
     }
     let graph = records.into_graph()?;
     begin(rt);
-    graph.verify()?;
-    Ok(())
+    let verified = graph.verify();
+    Ok(verified?)
 }
 
 fn tell_cycle(rt: &impl Print, cycle: CycleIds<'_>) {
@@ -220,6 +220,27 @@ fn ask_data(rt: &impl Print, alloc: Global) -> Result<(), AllocError> {
     Ok(())
 }
 
+fn ask_packages(rt: &impl Print, world: &World<'_>, call: &str) -> Result<(), Error> {
+    match call {
+        "look_ups" => ask_look_ups(rt, world)?,
+        "members" => ask_members(rt, world)?,
+        "iterators" => ask_iterators(rt, world)?,
+        "cache" => ask_cache(rt, world)?,
+        "fields" => ask_fields(rt, world),
+        _ => ask_lists(rt, world),
+    }
+    Ok(())
+}
+
+fn ask_numbers(rt: &impl Print, alloc: Global, call: &str) -> Result<(), AllocError> {
+    match call {
+        "index" => ask_index(rt, alloc),
+        "data" => ask_data(rt, alloc),
+        "cores" => ask_cores(rt, alloc),
+        _ => ask_positions(rt, alloc),
+    }
+}
+
 pub(crate) fn ask(
     rt: &impl Print,
     alloc: Global,
@@ -227,17 +248,8 @@ pub(crate) fn ask(
     call: &str,
 ) -> Result<(), RunFault> {
     match call {
-        "look_ups" => ask_look_ups(rt, world)?,
-        "members" => ask_members(rt, world)?,
-        "fields" => ask_fields(rt, world),
-        "verify" => ask_verify(rt, alloc)?,
-        "lists" => ask_lists(rt, world),
-        "iterators" => ask_iterators(rt, world)?,
-        "cache" => ask_cache(rt, world)?,
-        "index" => ask_index(rt, alloc)?,
-        "data" => ask_data(rt, alloc)?,
-        "cores" => ask_cores(rt, alloc)?,
-        _ => ask_positions(rt, alloc)?,
+        "verify" => ask_verify(rt, alloc),
+        "index" | "data" | "cores" | "positions" => Ok(ask_numbers(rt, alloc, call)?),
+        _ => Ok(ask_packages(rt, world, call)?),
     }
-    Ok(())
 }

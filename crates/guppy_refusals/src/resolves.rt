@@ -129,7 +129,7 @@ impl PackageLinkVisitor for RefusesOnce {
 }
 
 // Forward from the package a.
-fn ask_diamond(rt: &impl Print, graph: &PackageGraph) -> Result<(), Error> {
+fn ask_once(rt: &impl Print, graph: &PackageGraph) -> Result<(), Error> {
     let first = graph.workspace().member_by_name("a")?;
     let query = first.to_package_query(FORWARD)?;
     let mut visitor = RefusesOnce {
@@ -142,6 +142,12 @@ fn ask_diamond(rt: &impl Print, graph: &PackageGraph) -> Result<(), Error> {
     tell_calls(rt, visitor.calls);
     tell_set(rt, &set?);
     Ok(())
+}
+
+fn ask_diamond(rt: &impl Print, alloc: Global) -> Result<(), RunFault> {
+    let graph = records_of(alloc, DIAMOND)?.into_graph()?;
+    let asked = ask_once(rt, &graph);
+    Ok(asked?)
 }
 
 // Copies the context at its first call, and keeps whether that was refused.
@@ -165,6 +171,18 @@ fn ask_context(rt: &impl Print, query: PackageQuery<'_>) -> Result<(), Error> {
     Ok(())
 }
 
+fn ask_query(rt: &impl Print, alloc: Global, world: &World<'_>, call: &str) -> Result<(), Error> {
+    let query = world.query.clone()?;
+    match call {
+        "resolve" => ask_plain(rt, query),
+        "resolve_recorded" => ask_recorded(rt, query),
+        "resolve_with_box" => ask_box(rt, alloc, query),
+        "resolve_with_fn" | "resolve_with_fn_mut" => ask_closure(rt, query, call),
+        "context_clone" => ask_context(rt, query),
+        _ => ask_counted(rt, query, call),
+    }
+}
+
 pub(crate) fn ask(
     rt: &impl Print,
     alloc: Global,
@@ -172,18 +190,7 @@ pub(crate) fn ask(
     call: &str,
 ) -> Result<(), RunFault> {
     if call == "diamond_under_refusals" {
-        let graph = records_of(alloc, DIAMOND)?.into_graph()?;
-        ask_diamond(rt, &graph)?;
-        return Ok(());
+        return ask_diamond(rt, alloc);
     }
-    let query = world.query.clone()?;
-    match call {
-        "resolve" => ask_plain(rt, query)?,
-        "resolve_recorded" => ask_recorded(rt, query)?,
-        "resolve_with_box" => ask_box(rt, alloc, query)?,
-        "resolve_with_fn" | "resolve_with_fn_mut" => ask_closure(rt, query, call)?,
-        "context_clone" => ask_context(rt, query)?,
-        _ => ask_counted(rt, query, call)?,
-    }
-    Ok(())
+    Ok(ask_query(rt, alloc, world, call)?)
 }

@@ -227,16 +227,20 @@ fn ask_cache(rt: &impl Print, graph: &Graph<DevLinks>) -> Result<(), AllocError>
     Ok(())
 }
 
-pub(crate) fn ask(rt: &impl Print, alloc: Global, call: &str) -> Result<(), RunFault> {
-    let graph = graph_of(alloc)?;
-    let start = set_of(&graph, &[0])?;
+fn ask_graph(rt: &impl Print, graph: &Graph<DevLinks>, call: &str) -> Result<(), AllocError> {
+    let start = set_of(graph, &[0])?;
     match call {
         "reachable_with_fn" | "reachable_filtered" | "with_edge_filter" | "with_edge_filter_mut" =>
-            { ask_closure(rt, &graph, &start, call)? }
-        "reachable_with" => ask_lent(rt, &graph, &start)?,
-        "reachable_recorded" => ask_recorded(rt, &graph, &start)?,
-        "reach_cache" => ask_cache(rt, &graph)?,
-        _ => ask_buffered(rt, &graph, &start, call)?,
+            { ask_closure(rt, graph, &start, call) }
+        "reachable_with" => ask_lent(rt, graph, &start),
+        "reachable_recorded" => ask_recorded(rt, graph, &start),
+        "reach_cache" => ask_cache(rt, graph),
+        _ => ask_buffered(rt, graph, &start, call),
     }
-    Ok(())
+}
+
+pub(crate) fn ask(rt: &impl Print, alloc: Global, call: &str) -> Result<(), RunFault> {
+    let graph = graph_of(alloc)?;
+    let asked = ask_graph(rt, &graph, call);
+    Ok(asked?)
 }

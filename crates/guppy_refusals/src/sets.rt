@@ -14,19 +14,19 @@ fn made<'g>(rt: &impl Print, world: &World<'g>, call: &str) -> Result<PackageSet
     let package = graph.metadata(world.b)?;
     begin(rt);
     let set = match call {
-        "resolve_none" => graph.resolve_none()?,
-        "resolve_workspace" => graph.resolve_workspace()?,
-        "resolve_package_name" => graph.resolve_package_name("b")?,
-        "resolve_ids" => graph.resolve_ids([world.c, world.a].into_iter())?,
-        "resolve_workspace_paths" => graph.resolve_workspace_paths(paths.into_iter())?,
-        "resolve_workspace_names" => graph.resolve_workspace_names(["c", "a"].into_iter())?,
-        "unknown_path" => { graph.resolve_workspace_paths([Utf8Path::new("z")].into_iter())? }
-        "unknown_name" => graph.resolve_workspace_names(["a", "z"].into_iter())?,
-        "to_package_set" => package.to_package_set()?,
-        "clone" => world.x.clone()?,
-        _ => graph.resolve_all()?,
+        "resolve_none" => graph.resolve_none(),
+        "resolve_workspace" => graph.resolve_workspace(),
+        "resolve_package_name" => graph.resolve_package_name("b"),
+        "resolve_ids" => graph.resolve_ids([world.c, world.a].into_iter()),
+        "resolve_workspace_paths" => graph.resolve_workspace_paths(paths.into_iter()),
+        "resolve_workspace_names" => graph.resolve_workspace_names(["c", "a"].into_iter()),
+        "unknown_path" => graph.resolve_workspace_paths([Utf8Path::new("z")].into_iter()),
+        "unknown_name" => graph.resolve_workspace_names(["a", "z"].into_iter()),
+        "to_package_set" => package.to_package_set(),
+        "clone" => return Ok(world.x.clone()?),
+        _ => graph.resolve_all(),
     };
-    Ok(set)
+    Ok(set?)
 }
 
 fn combined<'g>(
@@ -37,12 +37,12 @@ fn combined<'g>(
     requires { ids_of x.now.graph.packages ≡ ids_of y.now.graph.packages }
 {
     let set = match call {
-        "union" => x.union(y)?,
-        "intersection" => x.intersection(y)?,
-        "difference" => x.difference(y)?,
-        _ => x.symmetric_difference(y)?,
+        "union" => x.union(y),
+        "intersection" => x.intersection(y),
+        "difference" => x.difference(y),
+        _ => x.symmetric_difference(y),
     };
-    Ok(set)
+    Ok(set?)
 }
 
 fn ask_combined(rt: &impl Print, world: &World<'_>, call: &str) -> Result<(), RunFault> {
