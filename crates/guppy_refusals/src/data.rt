@@ -42,19 +42,26 @@ fn ask_status(rt: &impl Print, alloc: Global, call: &str) -> Result<(), AllocErr
     grown
 }
 
-fn ask_question(rt: &impl Print, alloc: Global, call: &str) -> Result<(), AllocError> {
-    begin(rt);
-    let question = if call == "platforms" {
+fn question_of(alloc: Global, call: &str) -> Result<PlatformSpec<&'static str>, AllocError> {
+    if call == "platforms" {
         PlatformSpec::platforms(alloc, ["linux", "windows"].into_iter())
     } else {
         PlatformSpec::one(alloc, "linux")
-    };
-    if let PlatformSpec::Platforms(platforms) = &question? {
+    }
+}
+
+fn tell_question(rt: &impl Print, question: &PlatformSpec<&str>) {
+    if let PlatformSpec::Platforms(platforms) = question {
         for platform in platforms {
             tell(rt, *platform);
         }
     }
     tell_line(rt, &"platforms");
+}
+
+fn ask_question(rt: &impl Print, alloc: Global, call: &str) -> Result<(), AllocError> {
+    begin(rt);
+    tell_question(rt, &question_of(alloc, call)?);
     Ok(())
 }
 

@@ -21,8 +21,8 @@ mod told;
 mod verifying;
 mod world;
 
-use crate::world::{World, tell_world};
-use guppy::{Error, IntoGraph};
+use crate::world::{World, graph_of_lines, tell_world};
+use guppy::{Error, IntoGraph, PackageGraph};
 use guppy_program::{RunFault, records_of};
 use std::alloc::Global;
 use std::process::ExitCode;
@@ -75,11 +75,20 @@ fn try_case(rt: &impl Print, alloc: Global, world: &World<'_>, case: &str) {
     tell_world(rt, world);
 }
 
-fn run_case(rt: &impl Print, alloc: Global, case: &str) -> Result<(), RunFault> {
-    let graph = records_of(alloc, INPUT)?.into_graph()?;
-    let world = World::new(&graph)?;
+fn try_in(
+    rt: &impl Print,
+    alloc: Global,
+    graph: &PackageGraph,
+    case: &str,
+) -> Result<(), RunFault> {
+    let world = World::new(graph)?;
     try_case(rt, alloc, &world, case);
     Ok(())
+}
+
+fn run_case(rt: &impl Print, alloc: Global, case: &str) -> Result<(), RunFault> {
+    let graph = graph_of_lines(alloc, INPUT)?;
+    try_in(rt, alloc, &graph, case)
 }
 
 fn run_cases(rt: &(impl Print + Env + AllocGlobal)) -> io::Result<()> {

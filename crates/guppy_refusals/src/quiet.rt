@@ -5,10 +5,15 @@ use crate::data::status_of;
 use crate::positions::{DevLinks, graph_of, index_of, set_of, tell_list, tell_positions};
 use crate::told::{begin, tell, tell_line, tell_set};
 use crate::world::{World, tell_graph};
-use guppy::graph::{DependencyDirection, DependencyReqImpl, ExternalSource, IndexType, PackageIx};
+use guppy::graph::{
+    DependencyDirection, DependencyReqImpl, ExternalSource, IndexType, LinkRecord, PackageIx,
+};
 use guppy::platform::{EnabledTernary, PlatformSpec, PlatformStatus, TargetEval, TargetSpec};
 use guppy::positions::{IxSet, ResolveCore};
-use guppy::{CycleIds, DependsCache, Error, IntoGraph, PackageMetadata, SortedSet, Utf8Path};
+use guppy::{
+    CycleIds, DependsCache, Error, IntoGraph, PackageGraph, PackageMetadata, PackageSet, RootIds,
+    RootPackages, SortedSet, Utf8Path, WalkedLinks,
+};
 use guppy_program::{RunFault, records_of};
 use std::alloc::{AllocError, Global};
 
@@ -86,13 +91,22 @@ fn ask_fields(rt: &impl Print, world: &World<'_>) {
     }
 }
 
-// A graph whose only link has no section: no cycle is looked for.
-fn ask_verify(rt: &impl Print, alloc: Global) -> Result<(), RunFault> {
-    let mut records = records_of(alloc, b"package a\npackage b\nlink a b dev\n")?;
-    for link in &mut records.links {
+fn leave_out_sections(alloc: Global, links: &mut [LinkRecord]) {
+    for link in links {
         link.dev = DependencyReqImpl::never(alloc);
     }
-    let graph = records.into_graph()?;
+}
+
+// A graph whose only link has no section.
+fn unasked_graph(alloc: Global) -> Result<PackageGraph, RunFault> {
+    let mut records = records_of(alloc, b"package a\npackage b\nlink a b dev\n")?;
+    leave_out_sections(alloc, records.links.as_mut_slice());
+    Ok(records.into_graph()?)
+}
+
+// No cycle is looked for.
+fn ask_verify(rt: &impl Print, alloc: Global) -> Result<(), RunFault> {
+    let graph = unasked_graph(alloc)?;
     begin(rt);
     let verified = graph.verify();
     Ok(verified?)
@@ -122,13 +136,12 @@ fn ask_lists(rt: &impl Print, world: &World<'_>) {
     tell_set(rt, &world.x);
 }
 
-// The iterators are made before.
-fn ask_iterators(rt: &impl Print, world: &World<'_>) -> Result<(), Error> {
-    let all = world.graph.resolve_all()?;
-    let links = all.links(FORWARD)?;
-    let ids = all.root_ids(FORWARD)?;
-    let packages = all.root_packages(REVERSE)?;
-    begin(rt);
+fn tell_iterators(
+    rt: &impl Print,
+    links: WalkedLinks<'_>,
+    ids: RootIds<'_>,
+    packages: RootPackages<'_>,
+) {
     for link in links {
         tell(rt, link.link_ix());
     }
@@ -139,6 +152,15 @@ fn ask_iterators(rt: &impl Print, world: &World<'_>) -> Result<(), Error> {
         tell(rt, package.name());
     }
     tell_line(rt, &"left");
+}
+
+// The iterators are made before.
+fn ask_iterators(rt: &impl Print, all: &PackageSet<'_>) -> Result<(), Error> {
+    let links = all.links(FORWARD)?;
+    let ids = all.root_ids(FORWARD)?;
+    let packages = all.root_packages(REVERSE)?;
+    begin(rt);
+    tell_iterators(rt, links, ids, packages);
     Ok(())
 }
 
@@ -224,7 +246,7 @@ fn ask_packages(rt: &impl Print, world: &World<'_>, call: &str) -> Result<(), Er
     match call {
         "look_ups" => ask_look_ups(rt, world)?,
         "members" => ask_members(rt, world)?,
-        "iterators" => ask_iterators(rt, world)?,
+        "iterators" => ask_iterators(rt, &world.graph.resolve_all()?)?,
         "cache" => ask_cache(rt, world)?,
         "fields" => ask_fields(rt, world),
         _ => ask_lists(rt, world),

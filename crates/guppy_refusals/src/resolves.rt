@@ -3,13 +3,13 @@ ghost use Rattle.std.specs.Prelude.{◌≡◌, ◌==◌, ◌||◌, ℕ, ◌+◌,
 ghost use Rattle.guppy.specs.Visitors.{MayVisitAt};
 
 use crate::told::{begin, tell, tell_calls, tell_line, tell_set};
-use crate::world::World;
+use crate::world::{World, graph_of_lines};
 use guppy::graph::DependencyDirection;
 use guppy::{
-    Error, IntoGraph, PackageGraph, PackageLink, PackageLinkContext, PackageLinkVisitor,
-    PackageQuery, PackageSet,
+    Error, PackageGraph, PackageLink, PackageLinkContext, PackageLinkVisitor, PackageQuery,
+    PackageSet,
 };
-use guppy_program::{RunFault, records_of};
+use guppy_program::RunFault;
 use std::alloc::Global;
 
 const FORWARD: DependencyDirection = DependencyDirection::Forward;
@@ -145,7 +145,7 @@ fn ask_once(rt: &impl Print, graph: &PackageGraph) -> Result<(), Error> {
 }
 
 fn ask_diamond(rt: &impl Print, alloc: Global) -> Result<(), RunFault> {
-    let graph = records_of(alloc, DIAMOND)?.into_graph()?;
+    let graph = graph_of_lines(alloc, DIAMOND)?;
     let asked = ask_once(rt, &graph);
     Ok(asked?)
 }

@@ -4,16 +4,16 @@ ghost use Rattle.guppy.specs.Ids.{ids_of};
 
 use crate::told::{begin, tell_line, tell_set};
 use crate::world::World;
-use guppy::{PackageSet, Utf8Path};
+use guppy::{Error, PackageSet, Utf8Path};
 use guppy_program::RunFault;
 
 // The set that a maker makes.
-fn made<'g>(rt: &impl Print, world: &World<'g>, call: &str) -> Result<PackageSet<'g>, RunFault> {
+fn made<'g>(rt: &impl Print, world: &World<'g>, call: &str) -> Result<PackageSet<'g>, Error> {
     let graph = world.graph;
     let paths = [Utf8Path::new("c/."), Utf8Path::new("a")];
     let package = graph.metadata(world.b)?;
     begin(rt);
-    let set = match call {
+    match call {
         "resolve_none" => graph.resolve_none(),
         "resolve_workspace" => graph.resolve_workspace(),
         "resolve_package_name" => graph.resolve_package_name("b"),
@@ -25,27 +25,21 @@ fn made<'g>(rt: &impl Print, world: &World<'g>, call: &str) -> Result<PackageSet
         "to_package_set" => package.to_package_set(),
         "clone" => return Ok(world.x.clone()?),
         _ => graph.resolve_all(),
-    };
-    Ok(set?)
+    }
 }
 
-fn combined<'g>(
-    x: &PackageSet<'g>,
-    y: &PackageSet<'_>,
-    call: &str,
-) -> Result<PackageSet<'g>, RunFault>
+fn combined<'g>(x: &PackageSet<'g>, y: &PackageSet<'_>, call: &str) -> Result<PackageSet<'g>, Error>
     requires { ids_of x.now.graph.packages ≡ ids_of y.now.graph.packages }
 {
-    let set = match call {
+    match call {
         "union" => x.union(y),
         "intersection" => x.intersection(y),
         "difference" => x.difference(y),
         _ => x.symmetric_difference(y),
-    };
-    Ok(set?)
+    }
 }
 
-fn ask_combined(rt: &impl Print, world: &World<'_>, call: &str) -> Result<(), RunFault> {
+fn ask_combined(rt: &impl Print, world: &World<'_>, call: &str) -> Result<(), Error> {
     if !world.x.same_packages(&world.y) {
         tell_line(rt, &"sets of two graphs");
         return Ok(());
@@ -55,10 +49,17 @@ fn ask_combined(rt: &impl Print, world: &World<'_>, call: &str) -> Result<(), Ru
     Ok(())
 }
 
-pub(crate) fn ask(rt: &impl Print, world: &World<'_>, call: &str) -> Result<(), RunFault> {
-    if let "union" | "intersection" | "difference" | "symmetric_difference" = call {
-        return ask_combined(rt, world, call);
-    }
+fn ask_made(rt: &impl Print, world: &World<'_>, call: &str) -> Result<(), Error> {
     tell_set(rt, &made(rt, world, call)?);
     Ok(())
+}
+
+pub(crate) fn ask(rt: &impl Print, world: &World<'_>, call: &str) -> Result<(), RunFault> {
+    let asked = match call {
+        "union" | "intersection" | "difference" | "symmetric_difference" => {
+            ask_combined(rt, world, call)
+        }
+        _ => ask_made(rt, world, call),
+    };
+    Ok(asked?)
 }

@@ -1,9 +1,9 @@
 //! Verifying, and what stands on it: cycles over links that aren't dev-only, and the order to publish in.
 use crate::told::{begin, tell, tell_line};
-use crate::world::{World, tell_graph};
-use guppy::{Error, IntoGraph, PackageGraph, PackageId};
+use crate::world::{World, graph_of_lines, tell_graph};
+use guppy::{Error, PackageGraph, PackageId};
+use guppy_program::RunFault;
 use guppy_program::lines::records::id_of;
-use guppy_program::{RunFault, records_of};
 use guppy_publish::publish_order;
 use std::alloc::{AllocError, Global};
 
@@ -72,7 +72,7 @@ fn ask_graph(
 }
 
 fn ask_turning(rt: &impl Print, alloc: Global, call: &str) -> Result<(), RunFault> {
-    let turning = records_of(alloc, TURNING)?.into_graph()?;
+    let turning = graph_of_lines(alloc, TURNING)?;
     let asked = ask_graph(rt, alloc, &turning, call);
     Ok(asked?)
 }

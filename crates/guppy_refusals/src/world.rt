@@ -1,7 +1,14 @@
 //! What stands before a case begins: a graph, sets and a query of it.
 use crate::told::{tell, tell_line, tell_set};
 use guppy::graph::DependencyDirection;
-use guppy::{Error, PackageGraph, PackageId, PackageQuery, PackageSet};
+use guppy::{Error, IntoGraph, PackageGraph, PackageId, PackageQuery, PackageSet};
+use guppy_program::{RunFault, records_of};
+use std::alloc::Global;
+
+/// The graph of these lines.
+pub(crate) fn graph_of_lines(alloc: Global, lines: &[u8]) -> Result<PackageGraph, RunFault> {
+    Ok(records_of(alloc, lines)?.into_graph()?)
+}
 
 /// A graph, and what was made of it.
 #[derive(Drop)]
