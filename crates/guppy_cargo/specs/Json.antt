@@ -1,5 +1,5 @@
 -- What `guppy-cargo` reads, and what it calls packages.
-use Rattle.std.specs.Prelude.{◌≡◌, ℕ, List, None, IsSomeAnd, codes}
+use Rattle.std.specs.Prelude.{◌≡◌, ℕ, false, List, None, IsSomeAnd, codes}
 use Rattle.std.specs.Str.{IsUtf8}
 use Rattle.json.specs.Json.{document}
 use Rattle.guppy_data.specs.declared.records.PackageRecord.{PackageRecord}
@@ -8,25 +8,25 @@ use Rattle.guppy_data.specs.declared.records.WorkspaceRecord.{WorkspaceRecord}
 use Rattle.guppy_metadata.specs.declared.fault.MetadataFault.{MetadataFault}
 use Rattle.guppy_metadata.specs.Fault.{IsNotJson, IsNotResolved, IsOutOfMemory}
 use Rattle.guppy_metadata.specs.Members.{present}
-use Rattle.guppy_metadata.specs.Records.{AreRecords, SaysNoRecords}
+use Rattle.guppy_metadata.specs.Records.{AreRecordsWith, SaysNoRecordsWith}
 use Rattle.guppy_program.specs.Format.{Format}
 use Rattle.guppy_cargo.specs.declared.fault.CargoFault.{CargoFault}
 use Rattle.guppy_cargo.specs.declared.fault.CargoFault.TheVariants.{Metadata, NoText}
 use Rattle.guppy_cargo.specs.Command.{asked_of}
 use Rattle.guppy_cargo.specs.Names.{text, meant}
 
--- the input is JSON that says these records
+-- the input is JSON that says these records, without details
 abbrev pub SaysRecords : List ℕ → List PackageRecord → List LinkRecord → WorkspaceRecord → Type 0
 SaysRecords input packages links workspace =
-    IsSomeAnd (document input) (λ d. AreRecords d packages links workspace)
+    IsSomeAnd (document input) (λ d. AreRecordsWith false d packages links workspace)
 
 -- the fault of the JSON is told where it may be: that it is none where it is none, that no dependencies are
--- resolved where none are, and any but want of memory where it says no records
+-- resolved where none are, and any but want of memory where it says no records, not even without details
 pub record IsMisread (input : List ℕ) (fault : MetadataFault) : Type 0 where
   pub no_json : IsNotJson fault → document input ≡ None
   pub not_resolved : IsNotResolved fault
       → IsSomeAnd (document input) (λ d. present (codes "resolve") d ≡ None)
-  pub no_records : ¬ IsOutOfMemory fault → SaysNoRecords input
+  pub no_records : ¬ IsOutOfMemory fault → SaysNoRecordsWith false input
 
 -- the input is no UTF-8, or the JSON has the fault
 abbrev pub IsInputFault : List ℕ → CargoFault → Type 0

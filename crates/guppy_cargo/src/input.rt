@@ -11,11 +11,11 @@ use crate::names::Names;
 use crate::unknown::unknown;
 use guppy::{PackageGraph, PackageId};
 use guppy_data::{PackageRecord, Records};
-use guppy_metadata::records_of;
+use guppy_metadata::plain_records_of;
 use guppy_program::format::has_package;
 use guppy_program::{Asked, Format};
+use simdutf8::basic::from_utf8;
 use std::alloc::{AllocError, Global};
-use std::str;
 
 /// What `cargo metadata` prints: with it `run_with` is the program.
 #[derive(Clone, Copy, Debug)]
@@ -47,10 +47,10 @@ impl Format for Json {
     }
 
     fn records_of(alloc: Global, input: &[u8]) -> Result<Records, CargoFault> {
-        let Ok(text) = str::from_utf8(input) else {
+        let Ok(text) = from_utf8(input) else {
             return Err(CargoFault::NoText);
         };
-        Ok(records_of(alloc, text)?)
+        Ok(plain_records_of(alloc, text)?)
     }
 
     fn names_of(alloc: Global, packages: &[PackageRecord]) -> Result<Names, AllocError> {

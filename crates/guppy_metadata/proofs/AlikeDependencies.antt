@@ -13,7 +13,7 @@ use Rattle.guppy_data.specs.declared.records.LinkRecord.{LinkRecord}
 use Rattle.guppy_data.specs.declared.texts.dependency_kind.DependencyKind.{DependencyKind}
 use Rattle.guppy_data.specs.declared.texts.dependency_kind.DependencyKind.TheVariants.{Normal, Development, Build}
 use Rattle.guppy_metadata.specs.declared.declared.Declared.{Declared}
-use Rattle.guppy_metadata.specs.Dependency.{IsDeclared, manifest_name}
+use Rattle.guppy_metadata.specs.Dependency.{AreAsked, IsDeclared, manifest_name}
 use Rattle.guppy_metadata.specs.Gathered.{status_for, asked_too, asks_for, feature_status, targets_of, IsSide, IsSection, same_section, is_of_section, first_of, IsGathered, IsNamedAs, IsLinkOf}
 use Rattle.guppy_metadata.proofs.AlikeLists.{made_alike, flat_alike, picked_alike}
 use Rattle.guppy_metadata.proofs.OnceTold.{text_once, optional_text_once, truth_once, texts_once, section_once, requirement_once}
@@ -45,9 +45,14 @@ same_itself x = record {
   path = refl;
 }
 
+-- one JSON asks for the same features
+asked_once : (details : Bool) (d : Json) (texts others : List (List ℕ)) → AreAsked details d texts → AreAsked details d others → texts ≡ others
+asked_once true d texts others are also = texts_once d (codes "features") texts others (are.told refl) (also.told refl)
+asked_once false d texts others are also = are.left_out refl ∙ sym (also.left_out refl)
+
 -- one JSON declares the same
-pub declared_once : (d : Json) (x y : Declared) → IsDeclared d x → IsDeclared d y → IsSame x y
-declared_once d x y is also = record {
+pub declared_once : (details : Bool) (d : Json) (x y : Declared) → IsDeclared details d x → IsDeclared details d y → IsSame x y
+declared_once details d x y is also = record {
   name = text_once d (codes "name") x.name.now y.name.now is.name also.name;
   rename = optional_text_once d (codes "rename") (option_copied x.rename) (option_copied y.rename) is.rename also.rename;
   requirement = requirement_once d x.requirement y.requirement is.requirement also.requirement;
@@ -55,7 +60,7 @@ declared_once d x y is also = record {
   target = optional_text_once d (codes "target") (option_copied x.target) (option_copied y.target) is.target also.target;
   optional = truth_once d (codes "optional") false x.optional y.optional is.optional also.optional;
   default_features = truth_once d (codes "uses_default_features") true x.default_features y.default_features is.default_features also.default_features;
-  features = texts_once d (codes "features") (map (λ text. text.now) x.features.items) (map (λ text. text.now) y.features.items) is.features also.features;
+  features = asked_once details d (map (λ text. text.now) x.features.items) (map (λ text. text.now) y.features.items) is.features also.features;
   registry = optional_text_once d (codes "registry") (option_copied x.registry) (option_copied y.registry) is.registry also.registry;
   path = optional_text_once d (codes "path") (option_copied x.path) (option_copied y.path) is.path also.path;
 }

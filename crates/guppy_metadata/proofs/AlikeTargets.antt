@@ -16,7 +16,7 @@ abbrev is_library_kind : List ℕ → Bool
 is_library_kind kind = not (bytes_eq kind (codes "custom-build") || bytes_eq kind (codes "bin") || bytes_eq kind (codes "example")
     || bytes_eq kind (codes "test") || bytes_eq kind (codes "bench"))
 
-differs : (text other : List ℕ) → text ≢ other → bytes_eq text other ≡ false
+pub differs : (text other : List ℕ) → text ≢ other → bytes_eq text other ≡ false
 differs text other not_same = false_from_ne_true _ (λ same. not_same ((bytes_eq-Decides text other).0 same))
 
 library_kind : (kind : List ℕ) → IsLibraryKind kind → is_library_kind kind ≡ true

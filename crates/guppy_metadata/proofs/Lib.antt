@@ -5,12 +5,14 @@ pub mod Dependencies
 pub mod Features
 pub mod FittingLists
 pub mod KnownMembers
+pub mod LetGo
 pub mod MatchedDependencies
 pub mod Nodes
 pub mod Objects
 pub mod Options
 pub mod Packages
 pub mod Paths
+pub mod Positions
 pub mod Refused
 pub mod Requirements
 pub mod ResolvedOnce

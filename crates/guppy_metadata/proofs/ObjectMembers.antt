@@ -1,5 +1,5 @@
 -- What is told by an object, where a member is put behind its others.
-use Rattle.std.proofs.Common.{◌≡◌, ◌≢◌, ◌⊎◌, ◌∙◌, ℕ, false, true, cond, List, [], map, Option, None, Some, IsSomeAnd, option_and_then, refl, sym, ap, subst, codes}
+use Rattle.std.proofs.Common.{◌≡◌, ◌≢◌, ◌⊎◌, ◌∙◌, ℕ, Bool, false, true, cond, List, [], map, Option, None, Some, IsSomeAnd, option_and_then, refl, sym, ap, subst, codes}
 use Rattle.std.specs.Prelude.{unwrap_or}
 use Rattle.std.specs.Str.{bytes_eq}
 use Rattle.json.specs.Json.{Json, null, string, array}
@@ -9,7 +9,7 @@ use Rattle.serde_json.specs.View.{view}
 use Rattle.guppy_data.specs.declared.records.LinkRecord.{LinkRecord}
 use Rattle.guppy_data.specs.declared.records.WorkspaceRecord.{WorkspaceRecord}
 use Rattle.guppy_metadata.specs.declared.package.Package.{Package}
-use Rattle.guppy_metadata.specs.Links.{AreLinks, AreLinksOfList}
+use Rattle.guppy_metadata.specs.Links.{AreLinksWith, AreLinksOfList}
 use Rattle.guppy_metadata.specs.Members.{IsListOf, AreTexts, unless_null}
 use Rattle.guppy_metadata.specs.Package.{IsTold, AreTold}
 use Rattle.guppy_metadata.specs.Table.{IsTable}
@@ -17,13 +17,14 @@ use Rattle.guppy_metadata.specs.Told.{IsWith, IsOther}
 use Rattle.guppy_metadata.specs.Workspace.{IsBuildDirectory, IsWorkspace}
 
 module _ (d e : Json) where
-  pub told_alike : (packages : List Package) → get (codes "packages") d ≡ get (codes "packages") e → AreTold d packages → AreTold e packages
-  told_alike packages same are = subst (λ o. IsSomeAnd o (λ told. IsListOf IsTold told packages)) same are
+  pub told_alike : (details : Bool) (packages : List Package) → get (codes "packages") d ≡ get (codes "packages") e → AreTold details d packages → AreTold details e packages
+  told_alike details packages same are = subst (λ o. IsSomeAnd o (λ told. IsListOf (IsTold details) told packages)) same are
 
-  pub links_alike : (links : List LinkRecord) → get (codes "packages") d ≡ get (codes "packages") e → get (codes "resolve") d ≡ get (codes "resolve") e → AreLinks d links → AreLinks e links
-  links_alike links same alike are = record {
+  pub links_alike : (details : Bool) (links : List LinkRecord) → get (codes "packages") d ≡ get (codes "packages") e → get (codes "resolve") d ≡ get (codes "resolve") e
+      → AreLinksWith details d links → AreLinksWith details e links
+  links_alike details links same alike are = record {
     packages = are.packages;
-    packages_are = told_alike are.packages same are.packages_are;
+    packages_are = told_alike details are.packages same are.packages_are;
     links_are = subst (λ o. IsSomeAnd (option_and_then (get (codes "nodes")) o) (λ nodes. AreLinksOfList are.packages nodes links)) alike are.links_are;
   }
 

@@ -1,5 +1,5 @@
 -- Packages that one JSON tells: the links between them are the same.
-use Rattle.std.proofs.Common.{◌≡◌, ◌∙◌, ℕ, ◌==◌, ◌&&◌, ◌||◌, List, Option, None, Some, map, length, refl, sym, ap, subst, string_bytes, codes}
+use Rattle.std.proofs.Common.{◌≡◌, ◌∙◌, ◌⊎◌, inl, inr, filter, [], ◌∷◌, ℕ, ◌==◌, ◌&&◌, ◌||◌, Bool, List, Option, None, Some, map, length, refl, sym, ap, subst, string_bytes, codes}
 use Rattle.std.specs.List.{AllZip}
 use Rattle.std.specs.Str.{bytes_eq}
 use Rattle.std.proofs.lemmas.List.{length-map}
@@ -19,6 +19,7 @@ use Rattle.guppy_metadata.specs.declared.link.Usage.{Usage}
 use Rattle.guppy_metadata.specs.declared.package.Package.{Package}
 use Rattle.guppy_metadata.specs.Dependency.{IsDeclared}
 use Rattle.guppy_metadata.specs.Fits.{library_name, used_name, takes, same_usage, is_used, fits, is_matched, are_matched}
+use Rattle.guppy_metadata.specs.Gathered.{IsLinkOf}
 use Rattle.guppy_metadata.specs.Links.{IsResolved, IsUnasked, IsAsked, IsLink, AreLinksOf, AreLinksOfList}
 use Rattle.guppy_metadata.specs.Package.{IsTold, AreTold, with_id}
 use Rattle.guppy_metadata.specs.Target.{IsTarget}
@@ -29,13 +30,13 @@ use Rattle.guppy_metadata.proofs.OnceTold.{text_once}
 use Rattle.guppy_metadata.proofs.Options.{some_and}
 use Rattle.guppy_metadata.proofs.ResolvedOnce.{UsedAlike, ResolvedAlike, resolved_once}
 
--- what links look at is the same
+-- what links look at is the same, but that the first may declare nothing
 pub record IsAlike (p q : Package) : Type 0 where
   pub id : p.id.now ≡ q.id.now
   pub name : string_bytes p.record.name ≡ string_bytes q.record.name
   pub version : parts_of p.record.version ≡ parts_of q.record.version
   pub library : library_name p.record.build_targets.items ≡ library_name q.record.build_targets.items
-  pub declared : AllZip IsSame p.declared.items q.declared.items
+  pub declared : AllZip IsSame p.declared.items q.declared.items ⊎ (p.declared.items ≡ [])
 
 alike_itself : (p : Package) → IsAlike p p
 alike_itself p = record {
@@ -43,24 +44,24 @@ alike_itself p = record {
   name = refl;
   version = refl;
   library = refl;
-  declared = each_itself IsSame same_itself p.declared.items;
+  declared = inl (each_itself IsSame same_itself p.declared.items);
 }
 
 -- one JSON tells such
-told_once : (d : Json) (p q : Package) → IsTold d p → IsTold d q → IsAlike p q
-told_once d p q is also = record {
+told_once : (details : Bool) (d : Json) (p q : Package) → IsTold details d p → IsTold details d q → IsAlike p q
+told_once details d p q is also = record {
   id = text_once d (codes "id") p.id.now q.id.now is.id also.id;
   name = text_once d (codes "name") (string_bytes p.record.name) (string_bytes q.record.name) is.named.name also.named.name;
   version =
       let text = text_once d (codes "version") is.named.version.0 also.named.version.0 is.named.version.1 also.named.version.1 in
       ok-value _ _ (sym is.named.version.2 ∙ (ap version_parts text ∙ also.named.version.2));
   library = library_same _ _ (lists_fit IsTarget IsTarget IsSameTarget target_once (get (codes "targets") d) p.record.build_targets.items q.record.build_targets.items is.targets also.targets);
-  declared = lists_fit IsDeclared IsDeclared IsSame declared_once (get (codes "dependencies") d) p.declared.items q.declared.items is.declared also.declared;
+  declared = inl (lists_fit (IsDeclared details) (IsDeclared details) IsSame (declared_once details) (get (codes "dependencies") d) p.declared.items q.declared.items is.declared also.declared);
 }
 
 -- one list tells such, place by place
-packages_once : (d : Json) (packages others : List Package) → AreTold d packages → AreTold d others → AllZip IsAlike packages others
-packages_once d packages others are also = lists_fit IsTold IsTold IsAlike told_once (get (codes "packages") d) packages others are also
+packages_once : (details : Bool) (d : Json) (packages others : List Package) → AreTold details d packages → AreTold details d others → AllZip IsAlike packages others
+packages_once details d packages others are also = lists_fit (IsTold details) (IsTold details) IsAlike (told_once details) (get (codes "packages") d) packages others are also
 
 with_id_same : (id : List ℕ) (packages others : List Package) → AllZip IsAlike packages others → OptionsFit IsAlike (with_id id packages) (with_id id others)
 with_id_same id packages others all =
@@ -106,6 +107,10 @@ module _ (from : List ℕ) (a b : Resolved) (resolved : ResolvedAlike a b) (need
       (λ x y same. ap (λ p. p && fits from a needed.record x) (usage_same x y same u v used) ∙ ap (λ p. same_usage y v && p) (fits_same x y same)) xs ys all)
       a.usages.items b.usages.items resolved.usages
 
+-- no link is asked for by no dependency
+asked_of_none : (xs : List Declared) (r : LinkRecord) → xs ≡ [] → IsLinkOf xs r → ⊥
+asked_of_none xs r none is = let same : [] ≡ is.first ∷ is.others = sym none ∙ is.parts in cc
+
 -- a link that the ones ask for is asked for by the others
 asked_same : (asking asking_too needed needed_too : Option Package) → OptionsFit IsAlike asking asking_too → OptionsFit IsAlike needed needed_too
     → (from : List ℕ) (a b : Resolved) → ResolvedAlike a b → (r : LinkRecord) → IsAsked asking needed from a r → IsAsked asking_too needed_too from b r
@@ -115,10 +120,14 @@ asked_same (Some p) None needed needed_too one two from a b alike r asked = absu
 asked_same (Some p) (Some q) None None one two from a b alike r asked = subst (λ name. IsUnasked name r) alike.name asked
 asked_same (Some p) (Some q) None (Some m) one two from a b alike r asked = absurd two
 asked_same (Some p) (Some q) (Some n) None one two from a b alike r asked = absurd two
-asked_same (Some p) (Some q) (Some n) (Some m) one two from a b alike r asked = (
-  link_same _ _ r (picked_alike IsSame (fits from a n.record) (fits from b m.record) (fits_same from a b alike n m two) p.declared.items q.declared.items one.declared) asked.0,
-  sym (matched_same from a b alike n m two p.declared.items q.declared.items one.declared) ∙ asked.1,
-)
+asked_same (Some p) (Some q) (Some n) (Some m) one two from a b alike r asked = by one.declared
+  where
+    by : (AllZip IsSame p.declared.items q.declared.items ⊎ (p.declared.items ≡ [])) → IsAsked (Some q) (Some m) from b r
+    by (inl all) = (
+      link_same _ _ r (picked_alike IsSame (fits from a n.record) (fits from b m.record) (fits_same from a b alike n m two) p.declared.items q.declared.items all) asked.0,
+      sym (matched_same from a b alike n m two p.declared.items q.declared.items all) ∙ asked.1,
+    )
+    by (inr none) = absurd (asked_of_none (filter (fits from a n.record) p.declared.items) r (ap (filter (fits from a n.record)) none) asked.0)
 
 -- lists of alike packages, place by place
 module _ (packages others : List Package) (all : AllZip IsAlike packages others) where
@@ -142,7 +151,7 @@ module _ (packages others : List Package) (all : AllZip IsAlike packages others)
   }
 
   -- the links that leave the package of a node
-  links_of_between : (d : Json) (links : List LinkRecord) → AreLinksOf packages d links → AreLinksOf others d links
+  pub links_of_between : (d : Json) (links : List LinkRecord) → AreLinksOf packages d links → AreLinksOf others d links
   links_of_between d links are = record {
     id = are.id;
     id_is = are.id_is;
@@ -150,7 +159,7 @@ module _ (packages others : List Package) (all : AllZip IsAlike packages others)
   }
 
   -- the links of all nodes of a list
-  links_of_list_between : (nodes : Json) (links : List LinkRecord) → AreLinksOfList packages nodes links → AreLinksOfList others nodes links
+  pub links_of_list_between : (nodes : Json) (links : List LinkRecord) → AreLinksOfList packages nodes links → AreLinksOfList others nodes links
   links_of_list_between nodes links are = (
     are.0,
     are.1,
@@ -163,6 +172,6 @@ pub asked_once : (packages : List Package) (from : List ℕ) (d : Json) (r : Lin
 asked_once packages from d r is resolved resolved_is = asked_between packages packages (each_itself IsAlike alike_itself packages) from d r is resolved resolved_is
 
 -- what is told of links between packages is told of those between the packages that the same JSON tells
-pub links_between_told : (d : Json) (packages others : List Package) (nodes : Json) (links : List LinkRecord) → AreTold d packages → AreTold d others
+pub links_between_told : (details : Bool) (d : Json) (packages others : List Package) (nodes : Json) (links : List LinkRecord) → AreTold details d packages → AreTold details d others
     → AreLinksOfList others nodes links → AreLinksOfList packages nodes links
-links_between_told d packages others nodes links are also = links_of_list_between others packages (packages_once d others packages also are) nodes links
+links_between_told details d packages others nodes links are also = links_of_list_between others packages (packages_once details d others packages also are) nodes links

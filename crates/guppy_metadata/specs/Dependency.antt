@@ -1,5 +1,5 @@
 -- What the JSON of a declared dependency says.
-use Rattle.std.specs.Prelude.{◌≡◌, ◌⊎◌, ℕ, true, false, List, [], Option, Some, None, Ok, String, map, unwrap_or, if◌then◌else◌, codes}
+use Rattle.std.specs.Prelude.{◌≡◌, ◌⊎◌, ℕ, Bool, true, false, List, [], Option, Some, None, Ok, String, map, unwrap_or, if◌then◌else◌, codes}
 use Rattle.std.specs.declared.alloc.Global.{Global}
 use Rattle.std.specs.List.{filter_map}
 use Rattle.std.specs.Option.{option_copied}
@@ -27,8 +27,13 @@ abbrev pub NamesRequirement : Json → VersionReq → Type 0
 NamesRequirement d req = (text : List ℕ) × (get (codes "req") d ≡ Some (string text))
     × (req_of text ≡ Ok (map comparator_view req.comparators.items))
 
+-- the features that a dependency asks for, or none where details are left out
+pub record AreAsked (details : Bool) (d : Json) (texts : List (List ℕ)) : Type 0 where
+  pub told : details ≡ true → AreTexts (codes "features") d texts
+  pub left_out : details ≡ false → texts ≡ []
+
 -- a declared dependency
-pub record IsDeclared (d : Json) (x : Declared) : Type 0 where
+pub record IsDeclared (details : Bool) (d : Json) (x : Declared) : Type 0 where
   pub name : get (codes "name") d ≡ Some (string x.name.now)
   pub rename : IsText (codes "rename") d (option_copied x.rename)
   pub requirement : NamesRequirement d x.requirement
@@ -36,7 +41,7 @@ pub record IsDeclared (d : Json) (x : Declared) : Type 0 where
   pub target : IsText (codes "target") d (option_copied x.target)
   pub optional : IsTruth (codes "optional") d false x.optional
   pub default_features : IsTruth (codes "uses_default_features") d true x.default_features
-  pub features : AreTexts (codes "features") d (map (λ text. text.now) x.features.items)
+  pub features : AreAsked details d (map (λ text. text.now) x.features.items)
   pub registry : IsText (codes "registry") d (option_copied x.registry)
   pub path : IsText (codes "path") d (option_copied x.path)
 
@@ -55,4 +60,4 @@ NamesOptional declared names =
 
 -- these are the names of the optional ones among the dependencies of a list
 abbrev pub AreOptional : {S : Type 0} → Json → IndexSet (String Global) S → Type 0
-AreOptional d names = (declared : List Declared) × IsListOf IsDeclared d declared × NamesOptional declared names
+AreOptional d names = (declared : List Declared) × IsListOf (IsDeclared true) d declared × NamesOptional declared names

@@ -1,5 +1,5 @@
 -- What the JSON says of links.
-use Rattle.std.specs.Prelude.{◌≡◌, ℕ, true, List, [], Option, Some, None, IsSomeAnd, option_and_then, filter, string_bytes, codes}
+use Rattle.std.specs.Prelude.{◌≡◌, ℕ, Bool, true, List, [], Option, Some, None, IsSomeAnd, option_and_then, filter, string_bytes, codes}
 use Rattle.std.specs.List.{AllZip, flat_map}
 use Rattle.std.specs.Option.{option_copied}
 use Rattle.json.specs.Json.{Json, Members, string, array, object}
@@ -91,8 +91,12 @@ AreLinksOfList packages told links = (nodes : List Json) × (told ≡ array (ite
 abbrev pub nodes_in : Json → Option Json
 nodes_in d = option_and_then (get (codes "nodes")) (get (codes "resolve") d)
 
--- the links of what is resolved, between the packages
-pub record AreLinks (d : Json) (links : List LinkRecord) : Type 0 where
+-- the links of what is resolved, between the packages, with details or without
+pub record AreLinksWith (details : Bool) (d : Json) (links : List LinkRecord) : Type 0 where
   pub packages : List Package
-  pub packages_are : AreTold d packages
+  pub packages_are : AreTold details d packages
   pub links_are : IsSomeAnd (nodes_in d) (λ nodes. AreLinksOfList packages nodes links)
+
+-- the links of what is resolved, between the packages
+abbrev pub AreLinks : Json → List LinkRecord → Type 0
+AreLinks d links = AreLinksWith true d links

@@ -1,8 +1,8 @@
 -- What the JSON of a package says.
-use Rattle.std.specs.Prelude.{◌≡◌, ◌==◌, ℕ, zero, suc, Bool, true, false, List, [], ◌++◌, Option, Some, None, IsSomeAnd, Ok, length, filter, map, option_map, option_and_then, unwrap_or, slice_get, string_bytes, codes}
+use Rattle.std.specs.Prelude.{◌≡◌, ◌==◌, ◌⊎◌, ℕ, zero, suc, Bool, true, false, List, [], ◌∷◌, ◌++◌, Option, Some, None, IsSomeAnd, Ok, length, cond, filter, map, option_map, unwrap_or, string_bytes, codes}
 use Rattle.std.specs.Borrow.{Bor}
-use Rattle.std.specs.List.{last_or}
-use Rattle.std.specs.Option.{option_copied}
+use Rattle.std.specs.List.{AllZip, last_or}
+use Rattle.std.specs.Option.{option_copied, option_or}
 use Rattle.std.specs.Str.{bytes_eq}
 use Rattle.indexmap.specs.IndexMap.{IndexMap, get_by}
 use Rattle.semver.specs.Identifiers.{parts_of}
@@ -11,6 +11,7 @@ use Rattle.semver.specs.declared.Version.{Version}
 use Rattle.json.specs.Json.{Json, null, string}
 use Rattle.json.specs.Find.{get}
 use Rattle.serde_json.specs.View.{view}
+use Rattle.serde_json.specs.declared.value.Value.{Null}
 use Rattle.guppy_data.specs.declared.records.BuildTargetRecord.{BuildTargetRecord}
 use Rattle.guppy_data.specs.declared.records.PackageRecord.{PackageRecord}
 use Rattle.guppy_data.specs.declared.records.PackagePublishRecord.{PackagePublishRecord}
@@ -36,7 +37,13 @@ IsFrom root manifest is_member told (External source) =
 IsFrom root manifest is_member told (Path folder) =
     (is_member ≡ false) × (told ≡ None) × IsFolderFrom root manifest folder
 
--- what each package has
+-- where the package may be published: everywhere where nothing is told
+abbrev pub IsPublishable : Json → PackagePublishRecord → Type 0
+IsPublishable d Unrestricted = present (codes "publish") d ≡ None
+IsPublishable d (Registries names) =
+    present (codes "publish") d ≡ Some (list_of (map string_bytes names.items))
+
+-- what is read of each package, with details or without
 pub record IsNamed (d : Json) (r : PackageRecord) : Type 0 where
   pub id : get (codes "id") d ≡ Some (string r.id)
   pub name : get (codes "name") d ≡ Some (string (string_bytes r.name))
@@ -44,25 +51,20 @@ pub record IsNamed (d : Json) (r : PackageRecord) : Type 0 where
       × (version_parts text ≡ Ok (parts_of r.version))
   pub manifest_path : get (codes "manifest_path") d ≡ Some (string r.manifest_path)
   pub edition : get (codes "edition") d ≡ Some (string (string_bytes r.edition))
-
--- what is told of a package for people
-pub record IsDescribed (d : Json) (r : PackageRecord) : Type 0 where
-  pub authors : AreTexts (codes "authors") d (map string_bytes r.authors.items)
   pub description : IsText (codes "description") d (option_map string_bytes r.description)
   pub license : IsText (codes "license") d (option_map string_bytes r.license)
+  pub repository : IsText (codes "repository") d (option_map string_bytes r.repository)
+  pub publish : IsPublishable d r.publish
+
+-- what else is told of a package for people
+pub record IsDescribed (d : Json) (r : PackageRecord) : Type 0 where
+  pub authors : AreTexts (codes "authors") d (map string_bytes r.authors.items)
   pub license_file : IsText (codes "license_file") d r.license_file
   pub categories : AreTexts (codes "categories") d (map string_bytes r.categories.items)
   pub keywords : AreTexts (codes "keywords") d (map string_bytes r.keywords.items)
   pub readme : IsText (codes "readme") d r.readme
-  pub repository : IsText (codes "repository") d (option_map string_bytes r.repository)
   pub homepage : IsText (codes "homepage") d (option_map string_bytes r.homepage)
   pub documentation : IsText (codes "documentation") d (option_map string_bytes r.documentation)
-
--- where the package may be published: everywhere where nothing is told
-abbrev pub IsPublishable : Json → PackagePublishRecord → Type 0
-IsPublishable d Unrestricted = present (codes "publish") d ≡ None
-IsPublishable d (Registries names) =
-    present (codes "publish") d ≡ Some (list_of (map string_bytes names.items))
 
 -- as many zeros as a version with so many dots leaves out
 abbrev pub zeros_behind : ℕ → List ℕ
@@ -84,73 +86,113 @@ IsRustVersion d None = IsText (codes "rust_version") d None
 IsRustVersion d (Some version) = (text : List ℕ) × IsText (codes "rust_version") d (Some text)
     × (version_parts (whole_version text) ≡ Ok (parts_of version))
 
--- what is told of a package for Cargo
+-- what else is told of a package for Cargo
 pub record IsFilled (d : Json) (r : PackageRecord) : Type 0 where
   pub metadata_table : IsTable (unwrap_or (get (codes "metadata") d) null) (view r.metadata_table)
   pub links : IsText (codes "links") d (option_map string_bytes r.links)
-  pub publish : IsPublishable d r.publish
   pub default_run : IsText (codes "default_run") d (option_map string_bytes r.default_run)
   pub rust_version : IsRustVersion d r.rust_version
   pub features : IsSomeAnd (get (codes "features") d) (λ told. AreFeatures told r.named_features.entries)
+
+-- nothing of this is told of a package
+pub record IsPlain (r : PackageRecord) : Type 0 where
+  pub authors : r.authors.items ≡ []
+  pub license_file : r.license_file ≡ None
+  pub categories : r.categories.items ≡ []
+  pub keywords : r.keywords.items ≡ []
+  pub readme : r.readme ≡ None
+  pub homepage : r.homepage ≡ None
+  pub documentation : r.documentation ≡ None
+  pub metadata_table : r.metadata_table ≡ Null
+  pub links : r.links ≡ None
+  pub default_run : r.default_run ≡ None
+  pub rust_version : r.rust_version ≡ None
+  pub features : r.named_features.entries ≡ []
+  pub optional_deps : r.optional_deps.keys ≡ []
+
+-- the details that are told of a package, or none of them where they are left out
+pub record IsDetailed (details : Bool) (d : Json) (r : PackageRecord) : Type 0 where
+  pub described : details ≡ true → IsDescribed d r
+  pub filled : details ≡ true → IsFilled d r
+  pub plain : details ≡ false → IsPlain r
 
 -- these are the build targets that are told of a package
 abbrev pub AreTargets : Json → List BuildTargetRecord → Type 0
 AreTargets d targets = IsSomeAnd (get (codes "targets") d) (λ told. IsListOf IsTarget told targets)
 
 -- these are the dependencies that a package declares
-abbrev pub AreDeclared : Json → List Declared → Type 0
-AreDeclared d declared = IsSomeAnd (get (codes "dependencies") d) (λ told. IsListOf IsDeclared told declared)
+abbrev pub AreDeclared : Bool → Json → List Declared → Type 0
+AreDeclared details d declared = IsSomeAnd (get (codes "dependencies") d) (λ told. IsListOf (IsDeclared details) told declared)
 
 -- a package as the JSON tells it, but for where it comes from
-pub record IsTold (d : Json) (p : Package) : Type 0 where
+pub record IsTold (details : Bool) (d : Json) (p : Package) : Type 0 where
   pub id : get (codes "id") d ≡ Some (string p.id.now)
   pub source : IsText (codes "source") d (option_copied p.source)
   pub named : IsNamed d p.record
-  pub described : IsDescribed d p.record
-  pub filled : IsFilled d p.record
+  pub detailed : IsDetailed details d p.record
   pub targets : AreTargets d p.record.build_targets.items
-  pub declared : AreDeclared d p.declared.items
-  pub optional : NamesOptional p.declared.items p.record.optional_deps
+  pub declared : AreDeclared details d p.declared.items
+  pub optional : details ≡ true → NamesOptional p.declared.items p.record.optional_deps
 
--- it is neither the name of the dependencies nor that of the build targets
-abbrev pub IsOwn : List ℕ → Type 0
-IsOwn name = (bytes_eq (codes "dependencies") name ≡ false) × (bytes_eq (codes "targets") name ≡ false)
+-- whether the member of this name is asked for: without details, whether it is none
+abbrev pub is_asked : Bool → List ℕ → Bool
+is_asked true name = true
+is_asked false name = is_among (codes "id" ∷ codes "name" ∷ codes "version" ∷ codes "source" ∷ codes "manifest_path" ∷ codes "edition" ∷ codes "description" ∷ codes "license" ∷ codes "repository" ∷ codes "publish" ∷ []) name
 
--- the members of the two objects are the same, but for the dependencies and build targets
-abbrev pub AreAlike : Json → Json → Type 0
-AreAlike d e = (name : List ℕ) → IsOwn name → get name d ≡ get name e
+-- the member of this name is asked for, and is neither the dependencies nor the build targets
+abbrev pub IsOwn : Bool → List ℕ → Type 0
+IsOwn details name = (bytes_eq (codes "dependencies") name ≡ false) × (bytes_eq (codes "targets") name ≡ false) × (is_asked details name ≡ true)
+
+-- the members of the two objects that are asked for are the same, but for the dependencies and build targets
+abbrev pub AreAlike : Bool → Json → Json → Type 0
+AreAlike details d e = (name : List ℕ) → IsOwn details name → get name d ≡ get name e
 
 -- the packages that the JSON tells
-abbrev pub AreTold : Json → List Package → Type 0
-AreTold d packages = IsSomeAnd (get (codes "packages") d) (λ told. IsListOf IsTold told packages)
+abbrev pub AreTold : Bool → Json → List Package → Type 0
+AreTold details d packages = IsSomeAnd (get (codes "packages") d) (λ told. IsListOf (IsTold details) told packages)
+
+-- the second is the first package, whose dependencies may have been let go
+pub record IsLetGo (p q : Package) : Type 0 where
+  pub id : p.id ≡ q.id
+  pub source : p.source ≡ q.source
+  pub record_is : p.record ≡ q.record
+  pub declared : (p.declared.items ≡ q.declared.items) ⊎ (q.declared.items ≡ [])
+
+-- the packages that the JSON tells, whose dependencies may have been let go
+pub record AreLeft (details : Bool) (d : Json) (packages : List Package) : Type 0 where
+  pub whole : List Package
+  pub told : AreTold details d whole
+  pub left : AllZip IsLetGo whole packages
 
 -- the record of the package, in a workspace at the root of which these IDs are the members
 pub record IsRecordOf (root : List ℕ) (is_member : List ℕ → Bool) (p : Package) (r : PackageRecord) : Type 0 where
   pub source : IsFrom root r.manifest_path (is_member p.id.now) (option_copied p.source) r.source
   pub named : (d : Json) → IsNamed d p.record → IsNamed d r
-  pub described : (d : Json) → IsDescribed d p.record → IsDescribed d r
-  pub filled : (d : Json) → IsFilled d p.record → IsFilled d r
+  pub detailed : (details : Bool) (d : Json) → IsDetailed details d p.record → IsDetailed details d r
   pub targets : r.build_targets ≡ p.record.build_targets
   pub optional : r.optional_deps ≡ p.record.optional_deps
 
 -- a package's record, in a workspace at the root of which these IDs are the members
-pub record IsPackage (root : List ℕ) (is_member : List ℕ → Bool) (d : Json) (r : PackageRecord) : Type 0 where
+pub record IsPackage (details : Bool) (root : List ℕ) (is_member : List ℕ → Bool) (d : Json) (r : PackageRecord) : Type 0 where
   pub named : IsNamed d r
-  pub described : IsDescribed d r
-  pub filled : IsFilled d r
+  pub detailed : IsDetailed details d r
   pub targets : AreTargets d r.build_targets.items
-  pub optional : IsSomeAnd (get (codes "dependencies") d) (λ told. AreOptional told r.optional_deps)
+  pub optional : details ≡ true → IsSomeAnd (get (codes "dependencies") d) (λ told. AreOptional told r.optional_deps)
   pub source : Option (List ℕ)
   pub source_is : IsText (codes "source") d source
   pub comes_from : IsFrom root r.manifest_path (is_member r.id) source r.source
 
--- the packages, in their order, of which each member is one
-abbrev pub ArePackages : Json → List PackageRecord → Type 0
-ArePackages d records = (root : List ℕ) × (members : List (List ℕ))
+-- the packages, in their order, of which each member is one, with details or without
+abbrev pub ArePackagesWith : Bool → Json → List PackageRecord → Type 0
+ArePackagesWith details d records = (root : List ℕ) × (members : List (List ℕ))
     × (get (codes "workspace_root") d ≡ Some (string root))
     × (get (codes "workspace_members") d ≡ Some (list_of members))
     × (are_among (map (λ r. r.id) records) members ≡ true)
-    × IsSomeAnd (get (codes "packages") d) (λ told. IsListOf (IsPackage root (is_among members)) told records)
+    × IsSomeAnd (get (codes "packages") d) (λ told. IsListOf (IsPackage details root (is_among members)) told records)
+
+-- the packages, in their order, of which each member is one
+abbrev pub ArePackages : Json → List PackageRecord → Type 0
+ArePackages d records = ArePackagesWith true d records
 
 -- whether each of these is the ID of one of the packages
 abbrev pub are_known : List Package → List (List ℕ) → Bool
@@ -160,7 +202,12 @@ are_known packages ids = are_among (map (λ p. p.id.now) packages) ids
 abbrev pub with_id : List ℕ → List Package → Option Package
 with_id id packages = last_or None (filter (λ p. bytes_eq p.id.now id) packages)
 
+-- the position of the last of these IDs that is this one
+abbrev pub last_position : List ℕ → List (List ℕ) → Option ℕ
+last_position id [] = None
+last_position id (other ∷ ids) = option_or (option_map suc (last_position id ids)) (cond (bytes_eq other id) (Some 0) None)
+
 -- the positions of the packages behind their IDs
 abbrev pub ArePositions : {S : Type 0} → List Package → IndexMap (Bor (List ℕ)) ℕ S → Type 0
 ArePositions packages positions = (id : List ℕ)
-    → option_and_then (slice_get packages) (get_by (λ key. bytes_eq id key.now) positions) ≡ with_id id packages
+    → get_by (λ key. bytes_eq id key.now) positions ≡ last_position id (map (λ p. p.id.now) packages)

@@ -1,8 +1,8 @@
 //! A dependency as a package declares it.
-ghost use Rattle.std.specs.Prelude.{◌≡◌, Some, unwrap_or, IfOk, IfSome, MatchResult};
+ghost use Rattle.std.specs.Prelude.{◌≡◌, Some, map, unwrap_or, IfOk, IfSome, MatchResult};
 ghost use Rattle.std.specs.Option.{option_copied};
 ghost use Rattle.json.specs.Json.{Json, value};
-ghost use Rattle.guppy_metadata.specs.Dependency.{IsDeclared, NamesSection, NamesOptional};
+ghost use Rattle.guppy_metadata.specs.Dependency.{AreAsked, IsDeclared, NamesSection, NamesOptional};
 ghost use Rattle.guppy_metadata.specs.Fault.{NoneIs, IsRead};
 ghost use Rattle.guppy_metadata.specs.Members.{data_of, IsListOf};
 ghost use Rattle.guppy_metadata.specs.Package.{AreDeclared};
@@ -33,7 +33,7 @@ pub(crate) struct Declared<'a> {
     pub(crate) optional: bool,
     /// Whether its default features are asked for.
     pub(crate) default_features: bool,
-    /// The features that are asked for.
+    /// The features that are asked for, or none where details are left out.
     pub(crate) features: Vec<&'a str>,
     /// The registry that is asked for.
     pub(crate) registry: Option<&'a str>,
@@ -79,8 +79,21 @@ pub(crate) fn section_of(object: Object<'_, '_>) -> Result<DependencyKind, Misfi
     }
 }
 
-fn declared_of<'a>(dependency: Object<'_, 'a>) -> Result<Declared<'a>, Misfit>
-    ensures { IsRead (IsDeclared (data_of dependency.entry)) result }
+// The features that are asked for.
+fn features_of<'a>(dependency: Object<'_, 'a>, details: bool) -> Result<Vec<&'a str>, Misfit>
+    ensures { MatchResult result
+        (λ features. AreAsked details (data_of dependency.entry) (map (λ text. text.now) features.items))
+        (NoneIs (AreAsked details (data_of dependency.entry))) }
+{
+    if details {
+        dependency.texts("features")
+    } else {
+        Ok(Vec::new(dependency.alloc))
+    }
+}
+
+fn declared_of<'a>(dependency: Object<'_, 'a>, details: bool) -> Result<Declared<'a>, Misfit>
+    ensures { IsRead (IsDeclared details (data_of dependency.entry)) result }
 {
     let name = dependency.text("name")?;
     let rename = dependency.optional_text("rename")?;
@@ -91,7 +104,7 @@ fn declared_of<'a>(dependency: Object<'_, 'a>) -> Result<Declared<'a>, Misfit>
     let default_features = dependency.boolean("uses_default_features", true)?;
     let registry = dependency.optional_text("registry")?;
     let path = dependency.optional_text("path")?;
-    let features = dependency.texts("features")?;
+    let features = features_of(dependency, details)?;
     let requirement = requirement_of(dependency.alloc, "req", text)?;
     Ok(Declared {
         name,
@@ -107,18 +120,21 @@ fn declared_of<'a>(dependency: Object<'_, 'a>) -> Result<Declared<'a>, Misfit>
     })
 }
 
-/// The dependencies that a package declares: the items of the list `dependencies`.
-pub(crate) fn declared_dependencies<'a>(json: Object<'_, 'a>) -> Result<Vec<Declared<'a>>, Misfit>
+/// The dependencies that a package declares, with details or without: the items of the list `dependencies`.
+pub(crate) fn declared_dependencies<'a>(
+    json: Object<'_, 'a>,
+    details: bool,
+) -> Result<Vec<Declared<'a>>, Misfit>
     ensures { MatchResult result
-        (λ declared. AreDeclared (data_of json.entry) declared.items)
-        (NoneIs (AreDeclared (data_of json.entry))) }
+        (λ declared. AreDeclared details (data_of json.entry) declared.items)
+        (NoneIs (AreDeclared details (data_of json.entry))) }
 {
     let alloc = json.alloc;
     let items = json.list("dependencies")?;
     let mut declared = Vec::with_capacity(alloc, items.len())?;
     for (index, item) in items.iter().enumerate() {
         let dependency = Object::of_item(alloc, "dependencies", index, item)?;
-        match declared_of(dependency) {
+        match declared_of(dependency, details) {
             Ok(dependency) => declared.push(dependency)?,
             Err(fault) => return Err(fault.within_item(alloc, "dependencies", index)),
         }
@@ -131,21 +147,23 @@ fn read_dependency<'a>(
     item: &mut Value<'a>,
     alloc: Global,
     reader: &mut Reader<'a>,
+    details: bool,
 ) -> Option<Declared<'a>>
     ensures { IfSome result (λ made. (told : Json)
-        × (value 124 reader.old ≡ Some (told, reader.new)) × IsDeclared told made) }
+        × (value 124 reader.old ≡ Some (told, reader.new)) × IsDeclared details told made) }
 {
     read_object(item, alloc, reader, MAX_DEPTH - 4)?;
-    declared_of(Object { alloc, value: item }).ok()
+    declared_of(Object { alloc, value: item }, details).ok()
 }
 
-/// The dependencies that the list that comes next tells.
+/// The dependencies that the list that comes next tells, with details or without.
 pub(crate) fn read_dependencies<'a>(
     alloc: Global,
     reader: &mut Reader<'a>,
+    details: bool,
 ) -> Option<Vec<Declared<'a>>>
     ensures { IfSome result (λ declared. (told : Json)
-        × (value 125 reader.old ≡ Some (told, reader.new)) × IsListOf IsDeclared told declared.items) }
+        × (value 125 reader.old ≡ Some (told, reader.new)) × IsListOf (IsDeclared details) told declared.items) }
 {
     let Some(Token::BeginArray) = reader.next() else {
         return None;
@@ -153,7 +171,7 @@ pub(crate) fn read_dependencies<'a>(
     let mut declared = Vec::new(alloc);
     let mut item = Value::Null;
     while !reader.take_end_array() {
-        let dependency = read_dependency(&mut item, alloc, reader)?;
+        let dependency = read_dependency(&mut item, alloc, reader, details)?;
         declared.push(dependency).ok()?;
     }
     declared.shrink_to_fit();

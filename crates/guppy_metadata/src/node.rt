@@ -1,13 +1,16 @@
 //! The links of a node, read member by member.
-ghost use Rattle.std.specs.Prelude.{◌≡◌, ◌++◌, List, Some, OnSome};
+ghost use Rattle.std.specs.Prelude.{◌≡◌, ◌++◌, List, Some, IfSome, OnSome};
+ghost use Rattle.std.specs.List.{AllZip};
 ghost use Rattle.json.specs.Json.{Json, value};
 ghost use Rattle.guppy_data.specs.declared.records.LinkRecord.{LinkRecord};
 ghost use Rattle.guppy_metadata.specs.Links.{AreLinksOf};
 ghost use Rattle.guppy_metadata.specs.Node.{TellsNode};
-ghost use Rattle.guppy_metadata.specs.Package.{ArePositions};
+ghost use Rattle.guppy_metadata.specs.Package.{IsLetGo, ArePositions};
 
 use crate::link::{Packages, read_links};
+use crate::package::Package;
 use guppy_data::LinkRecord;
+use indexmap::IndexMap;
 use json::{MAX_DEPTH, Reader, Token, Value};
 use std::alloc::Global;
 
@@ -65,16 +68,16 @@ impl<'a> Node<'a> {
     }
 }
 
-/// Adds the links of the node that comes next.
-pub(crate) fn read_node(
+// Reads the node that comes next, and adds its links.
+fn read_members<'a>(
     links: &mut Vec<LinkRecord>,
-    reader: &mut Reader<'_>,
+    reader: &mut Reader<'a>,
     packages: Packages<'_, '_>,
-) -> Option<()>
+) -> Option<Node<'a>>
     requires { ArePositions packages.packages.now packages.positions.now }
-    ensures { OnSome result ((told : Json) × (value 125 reader.old ≡ Some (told, reader.new))
+    ensures { IfSome result (λ node. (told : Json) × (value 125 reader.old ≡ Some (told, reader.new))
         × (row : List LinkRecord) × (links.new.items ≡ links.old.items ++ row)
-        × AreLinksOf packages.entry.packages.now told row) }
+        × TellsNode packages.entry.packages.now told node row) }
 {
     let Some(Token::BeginObject) = reader.next() else {
         return None;
@@ -86,5 +89,43 @@ pub(crate) fn read_node(
     while let Some(name) = reader.next_key().ok()? {
         node.read_member(links, reader, packages, name)?;
     }
-    if node.has_links { Some(()) } else { None }
+    Some(node)
+}
+
+// Lets go what the package with this ID declares.
+fn let_go(alloc: Global, packages: &mut [Package<'_>], positions: &IndexMap<&str, usize>, id: &str)
+    ensures { AllZip IsLetGo packages.old packages.new }
+{
+    let Some(position) = positions.get(id) else {
+        return;
+    };
+    let position = *position;
+    if position < packages.len() {
+        packages[position].declared = Vec::new(alloc);
+    }
+}
+
+/// Adds the links of the node that comes next. Lets go what its package declares.
+pub(crate) fn read_node(
+    links: &mut Vec<LinkRecord>,
+    reader: &mut Reader<'_>,
+    packages: &mut [Package<'_>],
+    positions: &IndexMap<&str, usize>,
+) -> Option<()>
+    requires { ArePositions packages.old positions.now }
+    ensures links { OnSome result ((told : Json) × (value 125 reader.old ≡ Some (told, reader.new))
+        × (row : List LinkRecord) × (links.new.items ≡ links.old.items ++ row)
+        × AreLinksOf packages.old told row) }
+    ensures left { OnSome result (AllZip IsLetGo packages.old packages.new) }
+{
+    let known = Packages {
+        packages: &*packages,
+        positions,
+    };
+    let node = read_members(links, reader, known)?;
+    if !node.has_links {
+        return None;
+    }
+    let_go(*links.allocator(), packages, positions, node.from?);
+    Some(())
 }

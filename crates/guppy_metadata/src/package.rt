@@ -1,5 +1,5 @@
 //! Packages.
-ghost use Rattle.std.specs.Prelude.{◌≡◌, List, Option, Some, IfOk, IfErr, OnOk, MatchResult, map, string_bytes, codes};
+ghost use Rattle.std.specs.Prelude.{◌≡◌, true, List, Option, Some, IfOk, IfErr, OnOk, MatchResult, map, string_bytes, codes};
 ghost use Rattle.std.specs.List.{AllZip};
 ghost use Rattle.std.specs.Option.{option_copied};
 ghost use Rattle.json.specs.Json.{Json, string};
@@ -10,7 +10,7 @@ ghost use Rattle.guppy_metadata.specs.Dependency.{NamesOptional};
 ghost use Rattle.guppy_metadata.specs.Fault.{NoneIs, IsRead};
 ghost use Rattle.guppy_metadata.specs.Members.{data_of, is_among, is_in_set, IsText};
 ghost use Rattle.guppy_metadata.specs.declared.package.Package.{Package};
-ghost use Rattle.guppy_metadata.specs.Package.{IsFrom, IsNamed, IsDescribed, IsFilled, IsTold, IsRecordOf, IsPublishable, IsRustVersion, AreTargets, AreDeclared, AreTold, AreAlike, ArePositions, dots_in, zeros_behind, whole_version};
+ghost use Rattle.guppy_metadata.specs.Package.{IsFrom, IsNamed, IsDescribed, IsFilled, IsPlain, IsDetailed, IsTold, IsRecordOf, IsPublishable, IsRustVersion, AreTargets, AreDeclared, AreTold, AreAlike, ArePositions, dots_in, zeros_behind, whole_version};
 
 use crate::declared::{Declared, declared_dependencies, optional_names};
 use crate::fault::Misfit;
@@ -70,20 +70,18 @@ fn optional_path(json: Object<'_, '_>, name: &str) -> Result<Option<Utf8PathBuf>
     }
 }
 
-// Fills in what is told of a package for people.
+// Fills in what else is told of a package for people.
 fn describe(made: &mut PackageRecord, json: Object<'_, '_>) -> Result<(), Misfit>
     ensures described { OnOk result (IsDescribed (data_of json.entry) made.new) }
     ensures refused { IfErr result (NoneIs (IsDescribed (data_of json.entry))) }
+    ensures targets { made.new.build_targets ≡ made.old.build_targets }
     ensures named { (d : Json) → IsNamed d made.old → IsNamed d made.new }
 {
     made.authors = json.copied_texts("authors")?;
-    made.description = json.optional_copied_text("description")?;
-    made.license = json.optional_copied_text("license")?;
     made.license_file = optional_path(json, "license_file")?;
     made.categories = json.copied_texts("categories")?;
     made.keywords = json.copied_texts("keywords")?;
     made.readme = optional_path(json, "readme")?;
-    made.repository = json.optional_copied_text("repository")?;
     made.homepage = json.optional_copied_text("homepage")?;
     made.documentation = json.optional_copied_text("documentation")?;
     Ok(())
@@ -145,25 +143,22 @@ fn rust_version(json: Object<'_, '_>) -> Result<Option<Version>, Misfit>
     Ok(Some(version))
 }
 
-// Fills in what is told of a package for Cargo.
+// Fills in what else is told of a package for Cargo.
 fn fill(
     made: &mut PackageRecord,
     json: Object<'_, '_>,
     declared: &[Declared<'_>],
-    targets: Vec<BuildTargetRecord>,
 ) -> Result<(), Misfit>
     ensures filled { OnOk result (IsFilled (data_of json.entry) made.new) }
     ensures refused { IfErr result (NoneIs (IsFilled (data_of json.entry))) }
-    ensures targets { OnOk result (made.new.build_targets ≡ targets) }
     ensures optional { OnOk result (NamesOptional declared.now made.new.optional_deps) }
+    ensures targets { made.new.build_targets ≡ made.old.build_targets }
     ensures named { (d : Json) → IsNamed d made.old → IsNamed d made.new }
     ensures described { (d : Json) → IsDescribed d made.old → IsDescribed d made.new }
 {
     let alloc = json.alloc;
-    made.build_targets = targets;
     made.metadata_table = json.table("metadata")?;
     made.links = json.optional_copied_text("links")?;
-    made.publish = publish_of(json)?;
     made.default_run = json.optional_copied_text("default_run")?;
     made.rust_version = rust_version(json)?;
     match named_features(alloc, json.required("features")?) {
@@ -174,9 +169,10 @@ fn fill(
     Ok(())
 }
 
-// The record of the package, but for what is told of it for Cargo and where it comes from.
-fn described_record(json: Object<'_, '_>) -> Result<PackageRecord, Misfit>
-    ensures { IsRead (λ made. IsNamed (data_of json.entry) made × IsDescribed (data_of json.entry) made) result }
+// The record of the package, without details and build targets.
+fn named_record(json: Object<'_, '_>) -> Result<PackageRecord, Misfit>
+    ensures named { IsRead (IsNamed (data_of json.entry)) result }
+    ensures plain { IfOk result IsPlain }
 {
     let alloc = json.alloc;
     let version = version_of(alloc, "version", json.text("version")?)?;
@@ -193,11 +189,37 @@ fn described_record(json: Object<'_, '_>) -> Result<PackageRecord, Misfit>
         Utf8PathBuf::new(manifest_path),
         edition,
     );
-    describe(&mut record, json)?;
+    record.description = json.optional_copied_text("description")?;
+    record.license = json.optional_copied_text("license")?;
+    record.repository = json.optional_copied_text("repository")?;
+    record.publish = publish_of(json)?;
     Ok(record)
 }
 
-// The package of its record so far, its dependencies and build targets, and what else is told of it.
+// Fills in the build targets, and the details of a package with these dependencies where they are read.
+fn add_details(
+    made: &mut PackageRecord,
+    json: Object<'_, '_>,
+    declared: &[Declared<'_>],
+    targets: Vec<BuildTargetRecord>,
+    details: bool,
+) -> Result<(), Misfit>
+    ensures detailed { OnOk result (IsPlain made.old → IsDetailed details (data_of json.entry) made.new) }
+    ensures refused { IfErr result (NoneIs (IsDetailed details (data_of json.entry))) }
+    ensures optional { OnOk result (details ≡ true → NamesOptional declared.now made.new.optional_deps) }
+    ensures targets { OnOk result (made.new.build_targets ≡ targets) }
+    ensures named { (d : Json) → IsNamed d made.old → IsNamed d made.new }
+{
+    made.build_targets = targets;
+    if details {
+        describe(made, json)?;
+        fill(made, json, declared)
+    } else {
+        Ok(())
+    }
+}
+
+// The package of its record so far, its dependencies and build targets, with details or without.
 fn filled_package<'a>(
     json: Object<'_, 'a>,
     id: &'a str,
@@ -205,15 +227,16 @@ fn filled_package<'a>(
     declared: Vec<Declared<'a>>,
     mut made: PackageRecord,
     targets: Vec<BuildTargetRecord>,
+    details: bool,
 ) -> Result<Package<'a>, Misfit>
-    ensures told { IfOk result (λ p. (d : Json) → AreAlike (data_of json.entry) d
+    ensures told { IfOk result (λ p. (d : Json) → AreAlike details (data_of json.entry) d
         → get (codes "id") (data_of json.entry) ≡ Some (string id.now)
         → IsText (codes "source") (data_of json.entry) (option_copied source.entry)
-        → IsNamed (data_of json.entry) made → IsDescribed (data_of json.entry) made
-        → AreDeclared d declared.entry.items → AreTargets d targets.items → IsTold d p) }
-    ensures refused { IfErr result (NoneIs (IsFilled (data_of json.entry))) }
+        → IsNamed (data_of json.entry) made → IsPlain made
+        → AreDeclared details d declared.entry.items → AreTargets d targets.items → IsTold details d p) }
+    ensures refused { IfErr result (NoneIs (IsDetailed details (data_of json.entry))) }
 {
-    fill(&mut made, json, declared.as_slice(), targets)?;
+    add_details(&mut made, json, declared.as_slice(), targets, details)?;
     Ok(Package {
         id,
         source,
@@ -222,58 +245,63 @@ fn filled_package<'a>(
     })
 }
 
-/// The package that an object tells with these dependencies and build targets.
+/// The package that an object tells with these dependencies and build targets, with details or without.
 pub(crate) fn package_with<'a>(
     json: Object<'_, 'a>,
     declared: Vec<Declared<'a>>,
     targets: Vec<BuildTargetRecord>,
+    details: bool,
 ) -> Result<Package<'a>, Misfit>
-    ensures { IfOk result (λ made. (d : Json) → AreAlike (data_of json.entry) d
-        → AreDeclared d declared.entry.items → AreTargets d targets.items → IsTold d made) }
+    ensures { IfOk result (λ made. (d : Json) → AreAlike details (data_of json.entry) d
+        → AreDeclared details d declared.entry.items → AreTargets d targets.items → IsTold details d made) }
 {
     let id = json.text("id")?;
     let source = json.optional_text("source")?;
-    let record = described_record(json)?;
-    filled_package(json, id, source, declared, record, targets)
+    let record = named_record(json)?;
+    filled_package(json, id, source, declared, record, targets, details)
 }
 
-/// The package that an object tells.
-pub(crate) fn package_of<'a>(json: Object<'_, 'a>) -> Result<Package<'a>, Misfit>
-    ensures { IsRead (IsTold (data_of json.entry)) result }
+/// The package that an object tells, with details or without.
+pub(crate) fn package_of<'a>(json: Object<'_, 'a>, details: bool) -> Result<Package<'a>, Misfit>
+    ensures { IsRead (IsTold details (data_of json.entry)) result }
 {
     let id = json.text("id")?;
     let source = json.optional_text("source")?;
-    let declared = declared_dependencies(json)?;
-    let record = described_record(json)?;
+    let declared = declared_dependencies(json, details)?;
+    let record = named_record(json)?;
     let targets = build_targets(json)?;
-    filled_package(json, id, source, declared, record, targets)
+    filled_package(json, id, source, declared, record, targets, details)
 }
 
-/// The package that the item of the list `packages` at this index is.
+/// The package that the item of the list `packages` at this index is, with details or without.
 pub(crate) fn package_at<'a>(
     alloc: Global,
     index: usize,
     item: &Value<'a>,
+    details: bool,
 ) -> Result<Package<'a>, Misfit>
-    ensures { IsRead (IsTold (value_view item.now)) result }
+    ensures { IsRead (IsTold details (value_view item.now)) result }
 {
     let json = Object::of_item(alloc, "packages", index, item)?;
-    match package_of(json) {
+    match package_of(json, details) {
         Ok(package) => Ok(package),
         Err(fault) => Err(fault.within_item(alloc, "packages", index)),
     }
 }
 
-/// The packages that the JSON tells: the items of the list `packages`.
-pub(crate) fn packages_of<'a>(metadata: Object<'_, 'a>) -> Result<Vec<Package<'a>>, Misfit>
-    ensures { MatchResult result (λ packages. AreTold (data_of metadata.entry) packages.items)
-        (NoneIs (AreTold (data_of metadata.entry))) }
+/// The packages that the JSON tells, with details or without: the items of the list `packages`.
+pub(crate) fn packages_of<'a>(
+    metadata: Object<'_, 'a>,
+    details: bool,
+) -> Result<Vec<Package<'a>>, Misfit>
+    ensures { MatchResult result (λ packages. AreTold details (data_of metadata.entry) packages.items)
+        (NoneIs (AreTold details (data_of metadata.entry))) }
 {
     let alloc = metadata.alloc;
     let items = metadata.list("packages")?;
     let mut packages = Vec::with_capacity(alloc, items.len())?;
     for (index, item) in items.iter().enumerate() {
-        packages.push(package_at(alloc, index, item)?)?;
+        packages.push(package_at(alloc, index, item, details)?)?;
     }
     Ok(packages)
 }

@@ -1,7 +1,7 @@
 //! A package, read member by member.
 ghost use Rattle.std.specs.Prelude.{◌≡◌, Some, IfSome};
 ghost use Rattle.json.specs.Json.{Json, value};
-ghost use Rattle.guppy_metadata.specs.Package.{IsTold};
+ghost use Rattle.guppy_metadata.specs.Package.{IsTold, is_asked};
 ghost use Rattle.guppy_metadata.specs.Parts.{TellsParts};
 
 use crate::declared::{Declared, read_dependencies};
@@ -17,8 +17,25 @@ use std::alloc::Global;
 struct Parts<'a> {
     declared: Option<Vec<Declared<'a>>>,
     targets: Option<Vec<BuildTargetRecord>>,
-    // All other members.
+    // All other members that are asked for.
     others: Vec<(&'a str, Value<'a>)>,
+}
+
+// Whether the member of this name is asked for: without details, whether it is none.
+fn is_asked(name: &str, details: bool) -> bool
+    ensures { result ≡ is_asked details name.now }
+{
+    details
+        || name == "id"
+        || name == "name"
+        || name == "version"
+        || name == "source"
+        || name == "manifest_path"
+        || name == "edition"
+        || name == "description"
+        || name == "license"
+        || name == "repository"
+        || name == "publish"
 }
 
 impl<'a> Parts<'a> {
@@ -28,26 +45,34 @@ impl<'a> Parts<'a> {
     ghost use Rattle.guppy_metadata.specs.Told.{IsWith};
 
     // Reads the member of this name, whose value comes next.
-    fn read_member(&mut self, alloc: Global, reader: &mut Reader<'a>, name: &'a str) -> Option<()>
+    fn read_member(
+        &mut self,
+        alloc: Global,
+        reader: &mut Reader<'a>,
+        name: &'a str,
+        details: bool,
+    ) -> Option<()>
         ensures { OnSome result ((told : Json) × (value 125 reader.old ≡ Some (told, reader.new))
-            × ((d e : Json) → IsWith name.now told d e → TellsParts d self.old → TellsParts e self.new)) }
+            × ((d e : Json) → IsWith name.now told d e → TellsParts details d self.old → TellsParts details e self.new)) }
     {
         if name == "dependencies" {
-            self.declared = Some(read_dependencies(alloc, reader)?);
+            self.declared = Some(read_dependencies(alloc, reader, details)?);
         } else if name == "targets" {
             self.targets = Some(read_targets(alloc, reader)?);
-        } else {
+        } else if is_asked(name, details) {
             let value = Value::read(alloc, reader, MAX_DEPTH - 3).ok()?;
             self.others.push((name, value)).ok()?;
+        } else {
+            reader.skip_value(MAX_DEPTH - 3).ok()?;
         }
         Some(())
     }
 }
 
-// What the object that comes next tells.
-fn read_parts<'a>(alloc: Global, reader: &mut Reader<'a>) -> Option<Parts<'a>>
+// What the object that comes next tells, with details or without.
+fn read_parts<'a>(alloc: Global, reader: &mut Reader<'a>, details: bool) -> Option<Parts<'a>>
     ensures { IfSome result (λ parts. (told : Json)
-        × (value 126 reader.old ≡ Some (told, reader.new)) × TellsParts told parts) }
+        × (value 126 reader.old ≡ Some (told, reader.new)) × TellsParts details told parts) }
 {
     let Some(Token::BeginObject) = reader.next() else {
         return None;
@@ -58,14 +83,14 @@ fn read_parts<'a>(alloc: Global, reader: &mut Reader<'a>) -> Option<Parts<'a>>
         others: Vec::new(alloc),
     };
     while let Some(name) = reader.next_key().ok()? {
-        parts.read_member(alloc, reader, name)?;
+        parts.read_member(alloc, reader, name, details)?;
     }
     Some(parts)
 }
 
 // The package that is told, where nothing is missing or wrong.
-fn package_told<'a>(alloc: Global, parts: Parts<'a>) -> Option<Package<'a>>
-    ensures { IfSome result (λ made. (d : Json) → TellsParts d parts.entry → IsTold d made) }
+fn package_told<'a>(alloc: Global, parts: Parts<'a>, details: bool) -> Option<Package<'a>>
+    ensures { IfSome result (λ made. (d : Json) → TellsParts details d parts.entry → IsTold details d made) }
 {
     let Parts {
         declared,
@@ -79,14 +104,18 @@ fn package_told<'a>(alloc: Global, parts: Parts<'a>) -> Option<Package<'a>>
         alloc,
         value: &value,
     };
-    package_with(json, declared, targets).ok()
+    package_with(json, declared, targets, details).ok()
 }
 
-/// The package that the object that comes next tells.
-pub(crate) fn read_package<'a>(alloc: Global, reader: &mut Reader<'a>) -> Option<Package<'a>>
+/// The package that the object that comes next tells, with details or without.
+pub(crate) fn read_package<'a>(
+    alloc: Global,
+    reader: &mut Reader<'a>,
+    details: bool,
+) -> Option<Package<'a>>
     ensures { IfSome result (λ made. (told : Json)
-        × (value 126 reader.old ≡ Some (told, reader.new)) × IsTold told made) }
+        × (value 126 reader.old ≡ Some (told, reader.new)) × IsTold details told made) }
 {
-    let parts = read_parts(alloc, reader)?;
-    package_told(alloc, parts)
+    let parts = read_parts(alloc, reader, details)?;
+    package_told(alloc, parts, details)
 }

@@ -1,5 +1,5 @@
 //! All records.
-ghost use Rattle.std.specs.Prelude.{◌≡◌, ℕ, List, true, false, Some, IsSome, IsSomeAnd, IfSome, IfOk, OnOk, IfErr, MatchResult, None, map, codes};
+ghost use Rattle.std.specs.Prelude.{◌≡◌, ℕ, Bool, List, true, false, Some, IsSome, IsSomeAnd, IfSome, IfOk, OnOk, IfErr, MatchResult, None, map, codes};
 ghost use Rattle.json.specs.Json.{Json, document, array};
 ghost use Rattle.json.specs.Find.{get};
 ghost use Rattle.json.specs.Value.{items_of, value_view};
@@ -7,10 +7,10 @@ ghost use Rattle.guppy_data.specs.declared.records.LinkRecord.{LinkRecord};
 ghost use Rattle.guppy_data.specs.declared.records.PackageRecord.{PackageRecord};
 ghost use Rattle.guppy_data.specs.declared.records.WorkspaceRecord.{WorkspaceRecord};
 ghost use Rattle.guppy_metadata.specs.Fault.{IsNotJson, IsNotResolved, IsOutOfMemory, LacksMemory, NoneIs};
-ghost use Rattle.guppy_metadata.specs.Links.{AreLinks, AreLinksOfAll, nodes_in};
+ghost use Rattle.guppy_metadata.specs.Links.{AreLinks, AreLinksWith, AreLinksOfAll, nodes_in};
 ghost use Rattle.guppy_metadata.specs.Members.{data_of, present};
-ghost use Rattle.guppy_metadata.specs.Package.{ArePackages, AreTold, are_known};
-ghost use Rattle.guppy_metadata.specs.Records.{AreRecords, SaysNoRecords};
+ghost use Rattle.guppy_metadata.specs.Package.{ArePackages, ArePackagesWith, AreLeft, are_known};
+ghost use Rattle.guppy_metadata.specs.Records.{AreRecordsWith, SaysNoRecords, SaysNoRecordsWith};
 ghost use Rattle.guppy_metadata.specs.Told.{IsOther, Tells};
 ghost use Rattle.guppy_metadata.specs.Workspace.{IsWorkspace};
 
@@ -108,9 +108,10 @@ fn records_with(
     packages: Vec<Package<'_>>,
     links: Vec<LinkRecord>,
 ) -> Result<Records, Misfit>
-    ensures { IfOk result (λ r. (d : Json) → ((name : List ℕ) → IsOther name → get name (data_of metadata.entry) ≡ get name d)
-        → AreTold d packages.entry.items → AreLinks d links.items
-        → AreRecords d r.packages.items r.links.items r.workspace) }
+    ensures { IfOk result (λ r. (details : Bool) (d : Json)
+        → ((name : List ℕ) → IsOther name → get name (data_of metadata.entry) ≡ get name d)
+        → AreLeft details d packages.entry.items → AreLinksWith details d links.items
+        → AreRecordsWith details d r.packages.items r.links.items r.workspace) }
 {
     let alloc = metadata.alloc;
     let workspace = workspace_record(metadata)?;
@@ -127,8 +128,8 @@ fn records_with(
 
 // The records that are told, where nothing is missing or wrong.
 fn records_told(alloc: Global, told: Told<'_>) -> Option<Records>
-    ensures { IfSome result (λ r. (d : Json) → Tells d «told».entry
-        → AreRecords d r.packages.items r.links.items r.workspace) }
+    ensures { IfSome result (λ r. (details : Bool) (d : Json) → Tells details d «told».entry
+        → AreRecordsWith details d r.packages.items r.links.items r.workspace) }
 {
     let Told {
         packages,
@@ -145,32 +146,37 @@ fn records_told(alloc: Global, told: Told<'_>) -> Option<Records>
     records_with(metadata, packages, links).ok()
 }
 
-// The records, of packages and nodes that are read item by item. There are none where these stand in another order
-// than Cargo prints them in, or something is missing or wrong.
-fn records_by_item(alloc: Global, json: &str, scratch: &mut Scratch) -> Option<Records>
+// The records, with details or without, of packages and nodes that are read item by item. There are none where these
+// stand in another order than Cargo prints them in, or something is missing or wrong.
+fn records_by_item(
+    alloc: Global,
+    json: &str,
+    scratch: &mut Scratch,
+    details: bool,
+) -> Option<Records>
     ensures { IfSome result (λ r. IsSomeAnd (document json.now)
-        (λ d. AreRecords d r.packages.items r.links.items r.workspace)) }
+        (λ d. AreRecordsWith details d r.packages.items r.links.items r.workspace)) }
 {
     let mut reader = Reader::new(json, scratch).ok()?;
-    let told = told_in(alloc, &mut reader)?;
+    let told = told_in(alloc, &mut reader, details)?;
     if reader.next().is_some() {
         return None;
     }
     records_told(alloc, told)
 }
 
-// The records that the JSON says.
-fn records_in(metadata: Object<'_, '_>) -> Result<Records, Misfit>
+// The records that the JSON says, with details or without.
+fn records_in(metadata: Object<'_, '_>, details: bool) -> Result<Records, Misfit>
     ensures { MatchResult result
-        (λ r. AreRecords (data_of metadata.entry) r.packages.items r.links.items r.workspace)
+        (λ r. AreRecordsWith details (data_of metadata.entry) r.packages.items r.links.items r.workspace)
         (NoneIs (λ (said : List PackageRecord × List LinkRecord × WorkspaceRecord).
-        AreRecords (data_of metadata.entry) said.0 said.1 said.2)) }
+        AreRecordsWith details (data_of metadata.entry) said.0 said.1 said.2)) }
 {
     let alloc = metadata.alloc;
     let nodes = nodes_of(metadata)?;
     let workspace = workspace_record(metadata)?;
     let members = member_ids(metadata)?;
-    let packages = packages_of(metadata)?;
+    let packages = packages_of(metadata, details)?;
     let nodes = nodes.as_slice();
     let links = links_between(alloc, packages.as_slice(), members.as_slice(), nodes)?;
     let root = workspace.root.as_path();
@@ -180,6 +186,31 @@ fn records_in(metadata: Object<'_, '_>) -> Result<Records, Misfit>
         links,
         workspace,
     })
+}
+
+// The records that the text says, with details or without.
+fn records_from(alloc: Global, json: &str, details: bool) -> Result<Records, MetadataFault>
+    ensures json { OnOk result (IsSome (document json.now)) }
+    ensures records { IfOk result (λ r. IsSomeAnd (document json.now)
+        (λ d. AreRecordsWith details d r.packages.items r.links.items r.workspace)) }
+    ensures no_json { IfErr result (λ fault. IsNotJson fault → document json.now ≡ None) }
+    ensures not_resolved { IfErr result (λ fault. IsNotResolved fault
+        → IsSomeAnd (document json.now) (λ d. present (codes "resolve") d ≡ None)) }
+    ensures refused { IfErr result (λ fault. ¬ IsOutOfMemory fault → SaysNoRecordsWith details json.now) }
+{
+    let mut scratch = Scratch::new(alloc);
+    if let Some(records) = records_by_item(alloc, json, &mut scratch, details) {
+        return Ok(records);
+    }
+    let value = value_of(alloc, json, &mut scratch)?;
+    let metadata = match Object::new(alloc, &value) {
+        Ok(metadata) => metadata,
+        Err(misfit) => return Err(misfit.within(alloc, "the JSON").into()),
+    };
+    if metadata.optional("resolve").is_none() {
+        return Err(MetadataFault::NotResolved);
+    }
+    Ok(records_in(metadata, details)?)
 }
 
 /// The records that the JSON says which `cargo metadata --format-version 1` prints.
@@ -209,17 +240,25 @@ pub fn records_of(alloc: Global, json: &str) -> Result<Records, MetadataFault>
         → IsSomeAnd (document json.now) (λ d. present (codes "resolve") d ≡ None)) }
     ensures refused { IfErr result (λ fault. ¬ IsOutOfMemory fault → SaysNoRecords json.now) }
 {
-    let mut scratch = Scratch::new(alloc);
-    if let Some(records) = records_by_item(alloc, json, &mut scratch) {
-        return Ok(records);
-    }
-    let value = value_of(alloc, json, &mut scratch)?;
-    let metadata = match Object::new(alloc, &value) {
-        Ok(metadata) => metadata,
-        Err(misfit) => return Err(misfit.within(alloc, "the JSON").into()),
-    };
-    if metadata.optional("resolve").is_none() {
-        return Err(MetadataFault::NotResolved);
-    }
-    Ok(records_in(metadata)?)
+    records_from(alloc, json, true)
+}
+
+/// The records without details, in less time and memory: as [`records_of`], but no features, and of a package neither
+/// authors, license file, categories, keywords, readme, homepage, documentation, metadata, links, default run, Rust
+/// version nor optional dependencies. These are not looked at, and left empty as by `PackageRecord::new`. No links,
+/// sets, lists, cycles or platform answers of a graph depend on them.
+pub fn plain_records_of(alloc: Global, json: &str) -> Result<Records, MetadataFault>
+    ensures json { OnOk result (IsSome (document json.now)) }
+    ensures packages { IfOk result
+        (λ r. IsSomeAnd (document json.now) (λ d. ArePackagesWith false d r.packages.items)) }
+    ensures links { IfOk result
+        (λ r. IsSomeAnd (document json.now) (λ d. AreLinksWith false d r.links.items)) }
+    ensures workspace { IfOk result
+        (λ r. IsSomeAnd (document json.now) (λ d. IsWorkspace d r.workspace)) }
+    ensures no_json { IfErr result (λ fault. IsNotJson fault → document json.now ≡ None) }
+    ensures not_resolved { IfErr result (λ fault. IsNotResolved fault
+        → IsSomeAnd (document json.now) (λ d. present (codes "resolve") d ≡ None)) }
+    ensures refused { IfErr result (λ fault. ¬ IsOutOfMemory fault → SaysNoRecordsWith false json.now) }
+{
+    records_from(alloc, json, false)
 }

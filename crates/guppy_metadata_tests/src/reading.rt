@@ -1,7 +1,8 @@
 //! What is read of a text that stands here, and what is told of bad ones.
 
-use guppy::IntoGraph;
-use guppy_metadata::{MetadataFault, Records, records_of};
+use guppy::{IntoGraph, JsonValue};
+use guppy_data::{DependencyReqImpl, LinkRecord, PackageRecord};
+use guppy_metadata::{MetadataFault, Records, plain_records_of, records_of};
 use std::alloc::Global;
 use std::fmt;
 use std::process::Abort;
@@ -84,6 +85,7 @@ fn shows<T: fmt::Debug>(rt: &impl Abort, alloc: Global, value: &T, wanted: &str)
     assert!(rt; shown == wanted, "{shown} is not {wanted}");
 }
 
+// What METADATA says, as `Debug` prints it.
 const PACKAGE_RECORDS: &[&str] = &[
     "PackageRecord { id: PackageId { text: \"path+file:///w/app#0.3.1-pre.1\" }, name: \"app\", version: Version { \
         major: 0, minor: 3, patch: 1, pre: Prerelease(\"pre.1\") }, authors: [\"A <a@b>\", \"B\"], description: \
@@ -132,6 +134,7 @@ const PACKAGE_RECORDS: &[&str] = &[
         edition: \"2018\", doc_by_default: true, doctest_by_default: true, test_by_default: true }] }",
 ];
 
+// The same of its links.
 const LINK_RECORDS: &[&str] = &[
     "LinkRecord { from: PackageId { text: \"path+file:///w/app#0.3.1-pre.1\" }, to: PackageId { text: \"ext 1.2.0\" \
         }, dep_name: \"far-ext\", resolved_name: \"far_ext\", version_req: VersionReq { comparators: [Comparator { \
@@ -188,6 +191,62 @@ fn metadata_is_read(rt: HostRuntime) {
     let graph = records.into_graph().expect(&rt, "graph");
     assert!(rt; graph.package_count() == 3);
     assert!(rt; graph.link_count() == 2);
+}
+
+fn empty_details(package: &mut PackageRecord) {
+    package.authors.clear();
+    package.license_file = None;
+    package.categories.clear();
+    package.keywords.clear();
+    package.readme = None;
+    package.homepage = None;
+    package.documentation = None;
+    package.metadata_table = JsonValue::Null;
+    package.links = None;
+    package.default_run = None;
+    package.rust_version = None;
+    package.named_features.clear();
+    package.optional_deps.clear();
+}
+
+fn empty_section(section: &mut DependencyReqImpl) {
+    section.required.feature_targets.clear();
+    section.optional.feature_targets.clear();
+}
+
+fn empty_features(link: &mut LinkRecord) {
+    empty_section(&mut link.normal);
+    empty_section(&mut link.build);
+    empty_section(&mut link.dev);
+}
+
+fn are_plain(rt: &impl Abort, alloc: Global, plain: &Records, records: &mut Records) {
+    for package in records.packages.iter_mut() {
+        empty_details(package);
+    }
+    for link in records.links.iter_mut() {
+        empty_features(link);
+    }
+    let wanted = format!(in alloc; "{records:?}").expect(rt, "text");
+    shows(rt, alloc, plain, wanted.as_str());
+}
+
+// Without details the records are the same with these emptied, whatever they are.
+#[test]
+fn metadata_is_read_without_details(rt: HostRuntime) {
+    let alloc = rt.alloc();
+    let plain = plain_records_of(alloc, METADATA).expect(&rt, "records");
+    let mut records = records_of(alloc, METADATA).expect(&rt, "records");
+    are_plain(&rt, alloc, &plain, &mut records);
+    let package = format!(in alloc;
+        "{{{NAMED}, \"targets\": [], \"features\": [], \"authors\": 1}}"
+    );
+    let package = package.expect(&rt, "package");
+    let json = printed_metadata(&rt, alloc, "", package.as_str());
+    assert!(rt; plain_records_of(alloc, json.as_str()).is_ok());
+    let json = metadata(&rt, alloc, "", package.as_str());
+    assert!(rt; plain_records_of(alloc, json.as_str()).is_ok());
+    is_told(&rt, alloc, json.as_str(), "packages[0].authors: no list");
 }
 
 #[test]
@@ -286,7 +345,7 @@ const NAMED: &str = "\"dependencies\": [], \"id\": \"a\", \"manifest_path\": \"/
 
 const FIELDS: &[(&str, &str)] = &[
     (
-        "\"keywords\": [\"\", 1]",
+        "\"targets\": [], \"keywords\": [\"\", 1]",
         "packages[0].keywords[1]: no text",
     ),
     ("\"license\": []", "packages[0].license: no text"),

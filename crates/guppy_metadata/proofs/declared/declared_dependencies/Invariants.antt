@@ -5,4 +5,4 @@ use Rattle.guppy_metadata.specs.Dependency.{IsDeclared}
 use Rattle.guppy_metadata.proofs.declared.declared_dependencies.Given as goal
 
 abbrev pub invariant-loop-index : goal.invariant-loop-index
-invariant-loop-index l = AllZip IsDeclared (map value_view (take l.index l.item-items)) l.declared.items
+invariant-loop-index l = AllZip (IsDeclared l.details) (map value_view (take l.index l.item-items)) l.declared.items

@@ -10,7 +10,7 @@ use Rattle.guppy_metadata.proofs.Turns.{value_takes, no_item_read, item_read, li
 use Rattle.guppy_metadata.proofs.declared.read_dependencies.Goals as goal
 
 pub loop-alloc-init : goal.loop-alloc-init
-loop-alloc-init c = ([], no_item_read 124 _, subst (AllZip IsDeclared []) (sym c.new-declared.ensures.items) tt)
+loop-alloc-init c = ([], no_item_read 124 _, subst (AllZip (IsDeclared c.args.details) []) (sym c.new-declared.ensures.items) tt)
 
 pub loop-alloc-preserved : goal.loop-alloc-preserved
 loop-alloc-preserved c =
@@ -22,7 +22,7 @@ loop-alloc-preserved c =
     let pushed : c.push.new.self.items ≡ items = c.push.ensures.items ∙ ap (λ well. if well then items else l.declared.items) (sym c.in_ok-ok.ensures.variant) in (
       were.0 ++ more.0 ∷ [],
       item_read 124 _ were.0 l.reader _ more.0 were.1 going.0 (subst (λ ts. value 124 ts ≡ Some (more.0, c.read_dependency.new.reader)) going.1 more.1),
-      subst (AllZip IsDeclared (were.0 ++ more.0 ∷ [])) (sym pushed) (AllZip-push IsDeclared _ _ _ _ were.2 more.2),
+      subst (AllZip (IsDeclared c.args.details) (were.0 ++ more.0 ∷ [])) (sym pushed) (AllZip-push (IsDeclared c.args.details) _ _ _ _ were.2 more.2),
     )
 
 pub loop-alloc-smaller : goal.loop-alloc-smaller
@@ -38,5 +38,5 @@ returns c =
     let closed : after_end_array c.loop-alloc.reader ≡ Some c.take_end_array.new.self = c.loop-alloc-test.ensures in (
       array (items_of were.0),
       ap (value 125) first ∙ list_read 125 c.next.new.self were.0 c.loop-alloc.reader _ (omega arith) were.1 closed,
-      (were.0, refl, subst (AllZip IsDeclared were.0) (sym c.shrink_to_fit.ensures.items) were.2),
+      (were.0, refl, subst (AllZip (IsDeclared c.args.details) were.0) (sym c.shrink_to_fit.ensures.items) were.2),
     )

@@ -6,7 +6,7 @@ use Rattle.guppy_metadata.proofs.Turns.{ItemsRead}
 use Rattle.guppy_metadata.proofs.declared.read_dependencies.Given as goal
 
 abbrev pub invariant-loop-alloc : goal.invariant-loop-alloc
-invariant-loop-alloc l = (js : List Json) × ItemsRead 124 l.initial.reader js l.reader × AllZip IsDeclared js l.declared.items
+invariant-loop-alloc l = (js : List Json) × ItemsRead 124 l.initial.reader js l.reader × AllZip (IsDeclared l.details) js l.declared.items
 
 abbrev pub decreases-loop-alloc : goal.decreases-loop-alloc
 decreases-loop-alloc l = length l.reader

@@ -5,28 +5,19 @@ pub returns-in_err-made-clause-refused : goal.returns-in_err-made-clause-refused
 returns-in_err-made-clause-refused c = refused _ _ _ c.from_residual.ensures (λ r holds. (_, holds.authors)) c.in_err-made.ensures
 
 pub returns-in_err-made-2-clause-refused : goal.returns-in_err-made-2-clause-refused
-returns-in_err-made-2-clause-refused c = refused _ _ _ c.from_residual-in_err-made-2.ensures (λ r holds. (_, holds.description)) c.in_err-made-2.ensures
+returns-in_err-made-2-clause-refused c = refused _ _ _ c.from_residual-in_err-made-2.ensures (λ r holds. (_, holds.license_file)) c.in_err-made-2.ensures
 
 pub returns-in_err-made-3-clause-refused : goal.returns-in_err-made-3-clause-refused
-returns-in_err-made-3-clause-refused c = refused _ _ _ c.from_residual-in_err-made-3.ensures (λ r holds. (_, holds.license)) c.in_err-made-3.ensures
+returns-in_err-made-3-clause-refused c = refused _ _ _ c.from_residual-in_err-made-3.ensures (λ r holds. (_, holds.categories)) c.in_err-made-3.ensures
 
 pub returns-in_err-made-4-clause-refused : goal.returns-in_err-made-4-clause-refused
-returns-in_err-made-4-clause-refused c = refused _ _ _ c.from_residual-in_err-made-4.ensures (λ r holds. (_, holds.license_file)) c.in_err-made-4.ensures
+returns-in_err-made-4-clause-refused c = refused _ _ _ c.from_residual-in_err-made-4.ensures (λ r holds. (_, holds.keywords)) c.in_err-made-4.ensures
 
 pub returns-in_err-made-5-clause-refused : goal.returns-in_err-made-5-clause-refused
-returns-in_err-made-5-clause-refused c = refused _ _ _ c.from_residual-in_err-made-5.ensures (λ r holds. (_, holds.categories)) c.in_err-made-5.ensures
+returns-in_err-made-5-clause-refused c = refused _ _ _ c.from_residual-in_err-made-5.ensures (λ r holds. (_, holds.readme)) c.in_err-made-5.ensures
 
 pub returns-in_err-made-6-clause-refused : goal.returns-in_err-made-6-clause-refused
-returns-in_err-made-6-clause-refused c = refused _ _ _ c.from_residual-in_err-made-6.ensures (λ r holds. (_, holds.keywords)) c.in_err-made-6.ensures
+returns-in_err-made-6-clause-refused c = refused _ _ _ c.from_residual-in_err-made-6.ensures (λ r holds. (_, holds.homepage)) c.in_err-made-6.ensures
 
 pub returns-in_err-made-7-clause-refused : goal.returns-in_err-made-7-clause-refused
-returns-in_err-made-7-clause-refused c = refused _ _ _ c.from_residual-in_err-made-7.ensures (λ r holds. (_, holds.readme)) c.in_err-made-7.ensures
-
-pub returns-in_err-made-8-clause-refused : goal.returns-in_err-made-8-clause-refused
-returns-in_err-made-8-clause-refused c = refused _ _ _ c.from_residual-in_err-made-8.ensures (λ r holds. (_, holds.repository)) c.in_err-made-8.ensures
-
-pub returns-in_err-made-9-clause-refused : goal.returns-in_err-made-9-clause-refused
-returns-in_err-made-9-clause-refused c = refused _ _ _ c.from_residual-in_err-made-9.ensures (λ r holds. (_, holds.homepage)) c.in_err-made-9.ensures
-
-pub returns-in_err-made-10-clause-refused : goal.returns-in_err-made-10-clause-refused
-returns-in_err-made-10-clause-refused c = refused _ _ _ c.from_residual-in_err-made-10.ensures (λ r holds. (_, holds.documentation)) c.in_err-made-10.ensures
+returns-in_err-made-7-clause-refused c = refused _ _ _ c.from_residual-in_err-made-7.ensures (λ r holds. (_, holds.documentation)) c.in_err-made-7.ensures

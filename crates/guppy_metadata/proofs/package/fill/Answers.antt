@@ -12,13 +12,10 @@ pub returns-in_err-made-2-clause-refused : goal.returns-in_err-made-2-clause-ref
 returns-in_err-made-2-clause-refused c = refused _ _ _ c.from_residual-in_err-made-2.ensures (λ r holds. (_, holds.links)) c.in_err-made-2.ensures
 
 pub returns-in_err-made-3-clause-refused : goal.returns-in_err-made-3-clause-refused
-returns-in_err-made-3-clause-refused c = refused _ _ _ c.from_residual-in_err-made-3.ensures (λ r holds. (r.publish, holds.publish)) c.in_err-made-3.ensures
+returns-in_err-made-3-clause-refused c = refused _ _ _ c.from_residual-in_err-made-3.ensures (λ r holds. (_, holds.default_run)) c.in_err-made-3.ensures
 
 pub returns-in_err-made-4-clause-refused : goal.returns-in_err-made-4-clause-refused
-returns-in_err-made-4-clause-refused c = refused _ _ _ c.from_residual-in_err-made-4.ensures (λ r holds. (_, holds.default_run)) c.in_err-made-4.ensures
-
-pub returns-in_err-made-5-clause-refused : goal.returns-in_err-made-5-clause-refused
-returns-in_err-made-5-clause-refused c = refused _ _ _ c.from_residual-in_err-made-5.ensures (λ r holds. (r.rust_version, holds.rust_version)) c.in_err-made-5.ensures
+returns-in_err-made-4-clause-refused c = refused _ _ _ c.from_residual-in_err-made-4.ensures (λ r holds. (r.rust_version, holds.rust_version)) c.in_err-made-4.ensures
 
 pub returns-in_err-required-clause-refused : goal.returns-in_err-required-clause-refused
 returns-in_err-required-clause-refused c =
@@ -28,5 +25,5 @@ pub returns-in-Err-clause-refused : goal.returns-in-Err-clause-refused
 returns-in-Err-clause-refused c =
     part (IsFilled (data_of c.args.json)) (AreFeatures (value_view c.in_ok-required.field-0.now)) _ _ c.within.ensures (λ r holds. (r.named_features.entries, rw c.in_ok-required.ensures at holds.features)) c.in-Err.ensures
 
-pub returns-in_err-made-6-clause-refused : goal.returns-in_err-made-6-clause-refused
-returns-in_err-made-6-clause-refused c = failed _ _ _ _ c.from_residual-in_err-made-6.ensures (λ e is. lacking _ e is)
+pub returns-in_err-made-5-clause-refused : goal.returns-in_err-made-5-clause-refused
+returns-in_err-made-5-clause-refused c = failed _ _ _ _ c.from_residual-in_err-made-5.ensures (λ e is. lacking _ e is)

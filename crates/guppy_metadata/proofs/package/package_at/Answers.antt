@@ -5,5 +5,5 @@ use Rattle.guppy_metadata.proofs.package.package_at.Goals as goal
 
 pub returns-in-Err : goal.returns-in-Err
 returns-in-Err c =
-    let none = subst (λ d. NoneIs (IsTold d) c.in-Err.fault) c.in_ok-json.ensures c.in-Err.ensures in
+    let none = subst (λ d. NoneIs (IsTold c.args.details d) c.in-Err.fault) c.in_ok-json.ensures c.in-Err.ensures in
     λ other. none (λ lacks. other (c.within_item.ensures lacks))

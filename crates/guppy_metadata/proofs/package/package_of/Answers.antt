@@ -1,6 +1,6 @@
 use Rattle.std.proofs.Common.{refl}
 use Rattle.guppy_metadata.specs.Members.{data_of}
-use Rattle.guppy_metadata.specs.Package.{IsFilled, IsTold}
+use Rattle.guppy_metadata.specs.Package.{IsDetailed, IsTold}
 use Rattle.guppy_metadata.proofs.Refused.{refused, implied_apart, part}
 use Rattle.guppy_metadata.proofs.package.package_of.Goals as goal
 
@@ -14,7 +14,7 @@ pub returns-in_err-declared : goal.returns-in_err-declared
 returns-in_err-declared c = refused _ _ _ c.from_residual-in_err-declared.ensures (λ made holds. (_, holds.declared)) c.in_err-declared.ensures
 
 pub returns-in_err-record : goal.returns-in_err-record
-returns-in_err-record c = refused _ _ _ c.from_residual-in_err-record.ensures (λ made holds. (made.record, (holds.named, holds.described))) c.in_err-record.ensures
+returns-in_err-record c = refused _ _ _ c.from_residual-in_err-record.ensures (λ made holds. (made.record, holds.named)) c.in_err-record.ensures.named
 
 pub returns-in_err-targets : goal.returns-in_err-targets
 returns-in_err-targets c = refused _ _ _ c.from_residual-in_err-targets.ensures (λ made holds. (_, holds.targets)) c.in_err-targets.ensures
@@ -22,7 +22,8 @@ returns-in_err-targets c = refused _ _ _ c.from_residual-in_err-targets.ensures 
 pub returns : goal.returns
 returns c =
     let d = data_of c.args.json in
+    let details = c.args.details in
     implied_apart c.filled_package.result
-    (λ made told. told d (λ name own. refl) c.in_ok-id.ensures c.in_ok-source.ensures c.in_ok-record.ensures.0 c.in_ok-record.ensures.1 c.in_ok-declared.ensures c.in_ok-targets.ensures)
-    (λ e none. part (IsTold d) (IsFilled d) e e (λ lacks. lacks) (λ made holds. (made.record, holds.filled)) none)
+    (λ made told. told d (λ name own. refl) c.in_ok-id.ensures c.in_ok-source.ensures c.in_ok-record.ensures.named c.in_ok-record.ensures.plain c.in_ok-declared.ensures c.in_ok-targets.ensures)
+    (λ e none. part (IsTold details d) (IsDetailed details d) e e (λ lacks. lacks) (λ made holds. (made.record, holds.detailed)) none)
     c.filled_package.ensures.told c.filled_package.ensures.refused

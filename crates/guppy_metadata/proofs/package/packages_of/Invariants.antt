@@ -5,4 +5,4 @@ use Rattle.guppy_metadata.specs.Package.{IsTold}
 use Rattle.guppy_metadata.proofs.package.packages_of.Given as goal
 
 abbrev pub invariant-loop-index : goal.invariant-loop-index
-invariant-loop-index l = AllZip IsTold (map value_view (take l.index l.item-items)) l.packages.items
+invariant-loop-index l = AllZip (IsTold l.details) (map value_view (take l.index l.item-items)) l.packages.items

@@ -9,5 +9,5 @@ pub returns : goal.returns
 returns c =
     if_ok _ _ _ c.package_with.result c.ok.result c.ok.ensures.value
     (λ made is d tells. is d (λ name own. ap (get name) (view-Object c.args.parts.others) ∙ tells.others_are name own)
-    (subst (λ o. IfSome o (λ declared. AreDeclared d declared.items)) c.in_ok-declared.was tells.declared_are)
+    (subst (λ o. IfSome o (λ declared. AreDeclared c.args.details d declared.items)) c.in_ok-declared.was tells.declared_are)
     (subst (λ o. IfSome o (λ targets. AreTargets d targets.items)) c.in_ok-targets.was tells.targets_are)) c.package_with.ensures

@@ -10,7 +10,7 @@ use Rattle.guppy_metadata.proofs.Turns.{value_takes, no_item_read, item_read, li
 use Rattle.guppy_metadata.proofs.told.read_packages.Goals as goal
 
 pub loop-alloc-init : goal.loop-alloc-init
-loop-alloc-init c = ([], no_item_read 126 _, subst (AllZip IsTold []) (sym c.new-packages.ensures.items) tt)
+loop-alloc-init c = ([], no_item_read 126 _, subst (AllZip (IsTold c.args.details) []) (sym c.new-packages.ensures.items) tt)
 
 pub loop-alloc-preserved : goal.loop-alloc-preserved
 loop-alloc-preserved c =
@@ -22,7 +22,7 @@ loop-alloc-preserved c =
     let pushed : c.push.new.self.items ≡ items = c.push.ensures.items ∙ ap (λ well. if well then items else l.packages.items) (sym c.in_ok-ok.ensures.variant) in (
       were.0 ++ more.0 ∷ [],
       item_read 126 _ were.0 l.reader _ more.0 were.1 going.0 (subst (λ ts. value 126 ts ≡ Some (more.0, c.read_package.new.reader)) going.1 more.1),
-      subst (AllZip IsTold (were.0 ++ more.0 ∷ [])) (sym pushed) (AllZip-push IsTold _ _ _ _ were.2 more.2),
+      subst (AllZip (IsTold c.args.details) (were.0 ++ more.0 ∷ [])) (sym pushed) (AllZip-push (IsTold c.args.details) _ _ _ _ were.2 more.2),
     )
 
 pub loop-alloc-smaller : goal.loop-alloc-smaller

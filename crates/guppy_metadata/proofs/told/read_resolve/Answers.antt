@@ -4,17 +4,24 @@ use Rattle.json.specs.Json.{read_key, value}
 use Rattle.json.specs.Reads.{token_of}
 use Rattle.json.proofs.Grammar.{read_key-shorter, left_some}
 use Rattle.guppy_metadata.specs.Links.{AreLinksOfList}
+use Rattle.guppy_metadata.proofs.LetGo.{none_let, all_further, positions_kept, links_of_list_whole}
 use Rattle.guppy_metadata.proofs.ObjectMembers.{kept, put}
 use Rattle.guppy_metadata.proofs.Options.{if_some}
-use Rattle.guppy_metadata.proofs.Turns.{of_ok, value_takes, member_read, object_of, object_read, object_with}
+use Rattle.guppy_metadata.proofs.Turns.{of_ok, value_takes, no_member_read, member_read, object_of, object_read, object_with}
 use Rattle.guppy_metadata.proofs.told.read_resolve.Goals as goal
+
+pub loop-links-init : goal.loop-links-init
+loop-links-init c = ([], no_member_read 126 _, tt, none_let c.args.packages.now)
+
+pub read_nodes-requires : goal.read_nodes-requires
+read_nodes-requires c = positions_kept c.args.packages.now c.loop-links.packages c.args.positions.now c.loop-links.invariant.3 c.requires
 
 pub loop-links-smaller-then-eq : goal.loop-links-smaller-then-eq
 loop-links-smaller-then-eq c =
     let s = c.next_key.new.self in
     let key : read_key c.loop-links.reader ≡ Some (Some c.in-Some.name.now, s) =
     of_ok _ _ c.next_key.result _ c.in_ok-name.ensures.value c.next_key.ensures.value ∙ ap (λ k. Some (option_map (λ s. s.now) k, s)) c.in-Some.is in
-    let more = c.in_ok-read_nodes.ensures in
+    let more = c.in_ok-read_nodes.ensures.links in
     let less : length c.read_nodes.new.reader < length c.loop-links.reader = omega (arith, value_takes 126 s _ more.0 more.1, read_key-shorter _ _ s key) in less
 
 pub loop-links-preserved-then-eq : goal.loop-links-preserved-then-eq
@@ -24,13 +31,15 @@ loop-links-preserved-then-eq c =
     let k = c.in-Some.name.now in
     let s = c.next_key.new.self in
     let key : read_key l.reader ≡ Some (Some k, s) = of_ok _ _ c.next_key.result _ c.in_ok-name.ensures.value c.next_key.ensures.value ∙ ap (λ k. Some (option_map (λ s. s.now) k, s)) c.in-Some.is in
-    let more = c.in_ok-read_nodes.ensures in
+    let more = c.in_ok-read_nodes.ensures.links in
     let links = c.in_ok-read_nodes.field-0 in
     let rows = were.0 ++ (k, more.0) ∷ [] in (
       rows,
       member_read 126 _ were.0 l.reader s _ k more.0 were.1 key more.1,
-      subst (λ o. IsSomeAnd o (λ nodes. AreLinksOfList c.args.packages.packages.now nodes links.items))
-          (put (object_of were.0) (object_of rows) k more.0 (object_with were.0 k more.0) (codes "nodes") (sym c.if-eq.ensures)) more.2,
+      subst (λ o. IsSomeAnd o (λ nodes. AreLinksOfList c.args.packages.now nodes links.items))
+          (put (object_of were.0) (object_of rows) k more.0 (object_with were.0 k more.0) (codes "nodes") (sym c.if-eq.ensures))
+          (links_of_list_whole c.args.packages.now l.packages were.3 more.0 links.items more.2),
+      all_further c.args.packages.now l.packages _ were.3 c.in_ok-read_nodes.ensures.left,
     )
 
 pub loop-links-preserved : goal.loop-links-preserved
@@ -47,12 +56,13 @@ loop-links-preserved c =
       rows,
       member_read 126 _ were.0 l.reader s r k told were.1 key skipped.1,
       if_some l.links
-          (λ links are. subst (λ o. IsSomeAnd o (λ nodes. AreLinksOfList c.args.packages.packages.now nodes links.items))
+          (λ links are. subst (λ o. IsSomeAnd o (λ nodes. AreLinksOfList c.args.packages.now nodes links.items))
           (kept (object_of were.0) (object_of rows) k told (object_with were.0 k told) (codes "nodes") (sym c.if-eq.ensures)) are) were.2,
+      were.3,
     )
 
-pub returns : goal.returns
-returns c =
+pub returns-clause-links : goal.returns-clause-links
+returns-clause-links c =
     let l = c.loop-links in
     let were = l.invariant in
     let r = c.next_key.new.self in

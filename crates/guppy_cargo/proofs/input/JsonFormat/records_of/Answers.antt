@@ -15,10 +15,10 @@ misread input (WrongKind place wanted) is = is
 misread input (BadText place why) is = is
 misread input OutOfMemory is = tt
 
-pub returns-in_err-records_of-clause-refused : goal.returns-in_err-records_of-clause-refused
-returns-in_err-records_of-clause-refused c =
+pub returns-in_err-plain_records_of-clause-refused : goal.returns-in_err-plain_records_of-clause-refused
+returns-in_err-plain_records_of-clause-refused c =
     let input = c.args.input.now in
-    let same : c.in-Ok.text.now ≡ input = c.in-Ok.ensures.cases.0 in
-    let told = c.in_err-records_of.ensures in
-    let is : IsMisread c.in-Ok.text.now c.in_err-records_of.field-0.0 = record { no_json = told.no_json; not_resolved = told.not_resolved; no_records = told.refused } in
-    of_error _ _ _ c.from_residual.ensures (λ e gives. subst (λ e. IsReadingFault json_format input e (cause_of e)) (sym gives) (misread input _ (subst (λ text. IsMisread text c.in_err-records_of.field-0.0) same is)))
+    let same : c.in-Ok.text.now ≡ input = c.in-Ok.ensures.0 in
+    let told = c.in_err-plain_records_of.ensures in
+    let is : IsMisread c.in-Ok.text.now c.in_err-plain_records_of.field-0.0 = record { no_json = told.no_json; not_resolved = told.not_resolved; no_records = told.refused } in
+    of_error _ _ _ c.from_residual.ensures (λ e gives. subst (λ e. IsReadingFault json_format input e (cause_of e)) (sym gives) (misread input _ (subst (λ text. IsMisread text c.in_err-plain_records_of.field-0.0) same is)))

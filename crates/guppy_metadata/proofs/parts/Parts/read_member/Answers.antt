@@ -1,12 +1,18 @@
-use Rattle.std.proofs.Common.{◌≡◌, ◌∙◌, false, [], ◌∷◌, ◌++◌, Some, if◌then◌else◌, cond, codes, IsSomeAnd, sym, ap, subst}
+use Rattle.std.proofs.Common.{◌≡◌, ◌∙◌, true, false, [], ◌∷◌, ◌++◌, Some, if◌then◌else◌, cond, codes, IsSomeAnd, refl, sym, ap, subst}
+use Rattle.std.proofs.lemmas.Bool.{false≢true}
+use Rattle.std.proofs.lemmas.Slice.Eq.{bytes_eq-Decides}
 use Rattle.std.specs.Str.{bytes_eq}
+use Rattle.json.specs.Json.{value}
 use Rattle.json.specs.Find.{get_member}
 use Rattle.json.specs.Value.{value_view, members_view}
+use Rattle.json.proofs.Grammar.{left_some}
 use Rattle.json.proofs.Trees.{get_member-push}
 use Rattle.guppy_metadata.specs.Dependency.{IsDeclared}
 use Rattle.guppy_metadata.specs.Members.{IsListOf}
 use Rattle.guppy_metadata.specs.Target.{IsTarget}
-use Rattle.guppy_metadata.proofs.ObjectMembers.{kept}
+use Rattle.guppy_metadata.specs.Package.{is_asked}
+use Rattle.guppy_metadata.proofs.AlikeTargets.{differs}
+use Rattle.guppy_metadata.proofs.ObjectMembers.{kept, put}
 use Rattle.guppy_metadata.proofs.Options.{if_some}
 use Rattle.guppy_metadata.proofs.Turns.{of_ok}
 use Rattle.guppy_metadata.proofs.parts.Parts.read_member.Goals as goal
@@ -23,9 +29,61 @@ returns-in_ok-ok c =
       told,
       of_ok _ _ c.read.result _ c.in_ok-value.ensures.value c.read.ensures.ok,
       λ d e adds tells. record {
-        declared_are = if_some c.args.self.now.declared (λ declared. subst (λ o. IsSomeAnd o (λ told. IsListOf IsDeclared told declared.items)) (kept d e name told adds (codes "dependencies") no_dependencies)) tells.declared_are;
+        declared_are = if_some c.args.self.now.declared (λ declared. subst (λ o. IsSomeAnd o (λ told. IsListOf (IsDeclared c.args.details) told declared.items)) (kept d e name told adds (codes "dependencies") no_dependencies)) tells.declared_are;
         targets_are = if_some c.args.self.now.targets (λ targets. subst (λ o. IsSomeAnd o (λ told. IsListOf IsTarget told targets.items)) (kept d e name told adds (codes "targets") no_targets)) tells.targets_are;
         others_are = λ wanted other. ap (λ rows. get_member wanted (members_view rows)) pushed
             ∙ (get_member-push wanted others (c.args.name, c.in_ok-value.value) ∙ (ap (cond (bytes_eq name wanted) (Some told)) (tells.others_are wanted other) ∙ sym (adds wanted)));
+      },
+    )
+
+pub returns-in_ok-ok-2 : goal.returns-in_ok-ok-2
+returns-in_ok-ok-2 c =
+    let name = c.args.name.now in
+    let skipped = left_some (value 125 c.args.reader.now) c.skip_value.new.self (of_ok _ _ c.skip_value.result _ c.in_ok-ok-2.ensures.value c.skip_value.ensures.value) in
+    let told = skipped.0 in
+    let not_asked : is_asked c.args.details name ≡ false = sym c.if-is_asked.ensures in
+    let no_dependencies : bytes_eq name (codes "dependencies") ≡ false = sym c.if-eq.ensures in
+    let no_targets : bytes_eq name (codes "targets") ≡ false = sym c.if-eq-2.ensures in (
+      told,
+      skipped.1,
+      λ d e adds tells. record {
+        declared_are = if_some c.args.self.now.declared (λ declared. subst (λ o. IsSomeAnd o (λ told. IsListOf (IsDeclared c.args.details) told declared.items)) (kept d e name told adds (codes "dependencies") no_dependencies)) tells.declared_are;
+        targets_are = if_some c.args.self.now.targets (λ targets. subst (λ o. IsSomeAnd o (λ told. IsListOf IsTarget told targets.items)) (kept d e name told adds (codes "targets") no_targets)) tells.targets_are;
+        others_are = λ wanted own. tells.others_are wanted own
+            ∙ kept d e name told adds wanted (differs name wanted (λ same. false≢true (sym not_asked ∙ (ap (is_asked c.args.details) same ∙ own.2))));
+      },
+    )
+
+pub returns-in_ok-read_dependencies : goal.returns-in_ok-read_dependencies
+returns-in_ok-read_dependencies c =
+    let name = c.args.name.now in
+    let declared = c.in_ok-read_dependencies.field-0 in
+    let more = c.in_ok-read_dependencies.ensures in
+    let here : bytes_eq name (codes "dependencies") ≡ true = sym c.if-eq.ensures in
+    let is = (bytes_eq-Decides name (codes "dependencies")).0 here in (
+      more.0,
+      more.1,
+      λ d e adds tells. record {
+        declared_are = subst (λ o. IsSomeAnd o (λ told. IsListOf (IsDeclared c.args.details) told declared.items)) (put d e name more.0 adds (codes "dependencies") here) more.2;
+        targets_are = if_some c.args.self.now.targets (λ targets. subst (λ o. IsSomeAnd o (λ told. IsListOf IsTarget told targets.items))
+            (kept d e name more.0 adds (codes "targets") (subst (λ n. bytes_eq n (codes "targets") ≡ false) (sym is) refl))) tells.targets_are;
+        others_are = λ wanted own. tells.others_are wanted own ∙ kept d e name more.0 adds wanted (subst (λ n. bytes_eq n wanted ≡ false) (sym is) own.0);
+      },
+    )
+
+pub returns-in_ok-read_targets : goal.returns-in_ok-read_targets
+returns-in_ok-read_targets c =
+    let name = c.args.name.now in
+    let targets = c.in_ok-read_targets.field-0 in
+    let more = c.in_ok-read_targets.ensures in
+    let here : bytes_eq name (codes "targets") ≡ true = sym c.if-eq-2.ensures in
+    let no_dependencies : bytes_eq name (codes "dependencies") ≡ false = sym c.if-eq.ensures in
+    let is = (bytes_eq-Decides name (codes "targets")).0 here in (
+      more.0,
+      more.1,
+      λ d e adds tells. record {
+        declared_are = if_some c.args.self.now.declared (λ declared. subst (λ o. IsSomeAnd o (λ told. IsListOf (IsDeclared c.args.details) told declared.items)) (kept d e name more.0 adds (codes "dependencies") no_dependencies)) tells.declared_are;
+        targets_are = subst (λ o. IsSomeAnd o (λ told. IsListOf IsTarget told targets.items)) (put d e name more.0 adds (codes "targets") here) more.2;
+        others_are = λ wanted own. tells.others_are wanted own ∙ kept d e name more.0 adds wanted (subst (λ n. bytes_eq n wanted ≡ false) (sym is) own.1);
       },
     )

@@ -1,12 +1,11 @@
-use Rattle.std.proofs.Common.{◌≡◌, ◌<◌, ◌∙◌, [], ◌∷◌, ◌++◌, Some, None, length, option_map, refl, sym, ap, subst, arith}
+use Rattle.std.proofs.Common.{◌≡◌, ◌<◌, ◌∙◌, [], ◌∷◌, ◌++◌, Some, None, length, option_map, refl, sym, ap, arith}
 use Rattle.std.proofs.lemmas.List.{append-nil}
 use Rattle.json.specs.Token.{Token}
 use Rattle.json.specs.Json.{read_key, value}
 use Rattle.json.specs.Reads.{token_of}
 use Rattle.json.proofs.Grammar.{read_key-shorter}
-use Rattle.guppy_metadata.specs.Node.{AreLinksRead}
 use Rattle.guppy_metadata.proofs.Turns.{of_ok, value_takes, no_member_read, member_read, object_of, object_read, object_with}
-use Rattle.guppy_metadata.proofs.node.read_node.Goals as goal
+use Rattle.guppy_metadata.proofs.node.read_members.Goals as goal
 
 pub loop-name-init : goal.loop-name-init
 loop-name-init c = (
@@ -45,8 +44,8 @@ loop-name-preserved c =
       added.2,
     )
 
-pub returns-then-node : goal.returns-then-node
-returns-then-node c =
+pub returns : goal.returns
+returns c =
     let l = c.loop-name in
     let were = l.invariant in
     let r = c.next_key.new.self in
@@ -56,5 +55,5 @@ returns-then-node c =
       ap (value 125) first ∙ object_read 125 c.next.new.self were.0 l.reader r (omega arith) were.1 closed,
       were.2,
       were.3,
-      subst (λ told. AreLinksRead c.args.packages.packages.now (object_of were.0) told were.2) c.if-node.true were.4.links_are,
+      were.4,
     )

@@ -3,7 +3,7 @@ use Rattle.json.specs.Json.{Json}
 use Rattle.guppy_data.specs.declared.records.LinkRecord.{LinkRecord}
 use Rattle.guppy_metadata.specs.Node.{TellsNode}
 use Rattle.guppy_metadata.proofs.Turns.{MembersRead, object_of}
-use Rattle.guppy_metadata.proofs.node.read_node.Given as goal
+use Rattle.guppy_metadata.proofs.node.read_members.Given as goal
 
 abbrev pub invariant-loop-name : goal.invariant-loop-name
 invariant-loop-name l = (rows : List (List ℕ × Json)) × MembersRead 124 l.initial.reader rows l.reader
