@@ -4,9 +4,9 @@ use Rattle.std.specs.Str.{bytes_eq}
 use Rattle.std.proofs.lemmas.Bool.{eqb-true, or_cases}
 use Rattle.std.proofs.lemmas.Slice.Eq.{bytes_eq-Decides}
 use Rattle.semver.proofs.Segments.{and-left, and-right}
-use Rattle.guppy_data.specs.declared.records.PackageRecord.{PackageRecord}
 use Rattle.guppy_metadata.specs.declared.declared.Declared.{Declared}
 use Rattle.guppy_metadata.specs.declared.link.Resolved.{Resolved}
+use Rattle.guppy_metadata.specs.declared.package.Package.{Package}
 use Rattle.guppy_metadata.specs.Fits.{stands_for, is_named, letter_in_code, in_code, used_name, has_name, takes, is_used, fits}
 
 letter_once : (letter code : ℕ) → stands_for letter code ≡ true → letter_in_code letter ≡ letter_in_code code
@@ -32,16 +32,16 @@ no_letters [] none = refl
 no_letters (l ∷ text) none = absurd (omega arith)
 
 -- what was resolved under a name is used by it
-pub fitting_name : (from : List ℕ) (resolved : Resolved) (needed : PackageRecord) (x : Declared) → from ≢ resolved.id.now → resolved.name.now ≢ [] → fits from resolved needed x ≡ true
+pub fitting_name : (from : List ℕ) (resolved : Resolved) (needed : Package) (x : Declared) → from ≢ resolved.id.now → resolved.name.now ≢ [] → fits from resolved needed x ≡ true
     → in_code (used_name x needed) ≡ in_code resolved.name.now
 fitting_name from resolved needed x other some fit =
-    by (or_cases itself (has_name x needed name) (and-right called (itself || has_name x needed name) (and-left _ (takes x.requirement needed.version) (and-left _ (is_used x resolved.usages.items) fit))))
+    by (or_cases itself (has_name x needed name) (and-right called (itself || has_name x needed name) (and-left _ (takes x.requirement needed.record.version) (and-left _ (is_used x resolved.usages.items) fit))))
   where
     name : List ℕ
     name = resolved.name.now
 
     called : Bool
-    called = bytes_eq x.name.now (string_bytes needed.name)
+    called = bytes_eq x.name.now (string_bytes needed.record.name)
 
     itself : Bool
     itself = bytes_eq from resolved.id.now

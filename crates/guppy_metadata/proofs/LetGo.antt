@@ -11,7 +11,6 @@ use Rattle.semver.specs.Identifiers.{parts_of}
 use Rattle.guppy_data.specs.declared.records.LinkRecord.{LinkRecord}
 use Rattle.guppy_data.specs.declared.records.PackageRecord.{PackageRecord}
 use Rattle.guppy_metadata.specs.declared.package.Package.{Package}
-use Rattle.guppy_metadata.specs.Fits.{library_name}
 use Rattle.guppy_metadata.specs.Links.{AreLinksOf, AreLinksOfList, AreLinksWith}
 use Rattle.guppy_metadata.specs.Members.{IsListOf}
 use Rattle.guppy_metadata.specs.Package.{IsFrom, IsNamed, IsDetailed, IsTold, IsRecordOf, IsLetGo, AreLeft, ArePositions, last_position}
@@ -22,13 +21,13 @@ use Rattle.guppy_metadata.proofs.Options.{some_and}
 use Rattle.guppy_metadata.proofs.SamePackages.{IsAlike, links_of_between, links_of_list_between}
 
 let_itself : (p : Package) → IsLetGo p p
-let_itself p = record { id = refl; source = refl; record_is = refl; declared = inl refl }
+let_itself p = record { id = refl; source = refl; library = refl; record_is = refl; declared = inl refl }
 
 pub none_let : (packages : List Package) → AllZip IsLetGo packages packages
 none_let packages = each_itself IsLetGo let_itself packages
 
 let_further : (p q r : Package) → IsLetGo p q → IsLetGo q r → IsLetGo p r
-let_further p q r one two = record { id = one.id ∙ two.id; source = one.source ∙ two.source; record_is = one.record_is ∙ two.record_is; declared = by one.declared two.declared }
+let_further p q r one two = record { id = one.id ∙ two.id; source = one.source ∙ two.source; library = one.library ∙ two.library; record_is = one.record_is ∙ two.record_is; declared = by one.declared two.declared }
   where
     by : ((p.declared.items ≡ q.declared.items) ⊎ (q.declared.items ≡ [])) → ((q.declared.items ≡ r.declared.items) ⊎ (r.declared.items ≡ [])) → (p.declared.items ≡ r.declared.items) ⊎ (r.declared.items ≡ [])
     by one (inr none) = inr none
@@ -62,7 +61,7 @@ alike_let p q is = record {
   id = ap (λ id. id.now) (sym is.id);
   name = ap (λ r. string_bytes r.name) (sym is.record_is);
   version = ap (λ r. parts_of r.version) (sym is.record_is);
-  library = ap (λ r. library_name r.build_targets.items) (sym is.record_is);
+  library = ap option_copied (sym is.library);
   declared = by is.declared;
 }
   where

@@ -1,3 +1,4 @@
+pub mod AskedValues
 pub mod AlikePackages
 pub mod TextLists
 pub mod CodeNames
@@ -24,5 +25,6 @@ pub mod WrongItems
 pub mod AlikeLists
 pub mod OnceTold
 pub mod AlikeDependencies
-pub mod AlikeTargets
+pub mod Libraries
 pub mod SamePackages
+pub mod SectionNames

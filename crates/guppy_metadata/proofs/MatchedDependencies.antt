@@ -2,10 +2,10 @@
 use Rattle.std.proofs.Common.{◌≡◌, ◌∙◌, ℕ, Bool, true, false, ◌&&◌, cond, List, [], ◌∷◌, filter, Some, IfSome, slice_get, refl, sym, ap, subst}
 use Rattle.std.specs.List.{list_any}
 use Rattle.std.specs.Prelude.{unwrap_or}
-use Rattle.guppy_data.specs.declared.records.PackageRecord.{PackageRecord}
 use Rattle.guppy_metadata.specs.declared.declared.Declared.{Declared}
 use Rattle.guppy_metadata.specs.declared.link.Resolved.{Resolved}
 use Rattle.guppy_metadata.specs.declared.link.Usage.{Usage}
+use Rattle.guppy_metadata.specs.declared.package.Package.{Package}
 use Rattle.guppy_metadata.specs.Fits.{fits, same_usage, is_matched, are_matched}
 
 module _ {A : Type 0} (p : A → Bool) where
@@ -29,7 +29,7 @@ module _ {A : Type 0} (p : A → Bool) where
     any_alike xs ys same = any_picked xs ∙ (ap (list_any q) same ∙ sym (any_picked ys))
 
 -- usages are matched alike where the same dependencies were resolved so
-matched_alike : (from : List ℕ) (resolved : Resolved) (needed : PackageRecord) (xs ys : List Declared) → filter (fits from resolved needed) xs ≡ filter (fits from resolved needed) ys
+matched_alike : (from : List ℕ) (resolved : Resolved) (needed : Package) (xs ys : List Declared) → filter (fits from resolved needed) xs ≡ filter (fits from resolved needed) ys
     → (usages : List Usage) → are_matched from resolved needed xs usages ≡ are_matched from resolved needed ys usages
 matched_alike from resolved needed xs ys same [] = refl
 matched_alike from resolved needed xs ys same (usage ∷ usages) =
@@ -37,7 +37,7 @@ matched_alike from resolved needed xs ys same (usage ∷ usages) =
     ∙ ap (λ b. is_matched from resolved needed ys usage && b) (matched_alike from resolved needed xs ys same usages)
 
 -- the dependencies from the first on that was resolved so
-module _ (from : List ℕ) (resolved : Resolved) (needed : PackageRecord) (rest given all : List Declared)
+module _ (from : List ℕ) (resolved : Resolved) (needed : Package) (rest given all : List Declared)
     (picked : filter (fits from resolved needed) rest ≡ filter (fits from resolved needed) given) (are : given ≡ all) where
   pub whole : filter (fits from resolved needed) rest ≡ filter (fits from resolved needed) all
   whole = picked ∙ ap (filter (fits from resolved needed)) are

@@ -1,6 +1,8 @@
 -- What is told by an object, where a member is put behind its others.
 use Rattle.std.proofs.Common.{◌≡◌, ◌≢◌, ◌⊎◌, ◌∙◌, ℕ, Bool, false, true, cond, List, [], map, Option, None, Some, IsSomeAnd, option_and_then, refl, sym, ap, subst, codes}
 use Rattle.std.specs.Prelude.{unwrap_or}
+use Rattle.std.proofs.lemmas.Bool.{false_from_ne_true}
+use Rattle.std.proofs.lemmas.Slice.Eq.{bytes_eq-Decides}
 use Rattle.std.specs.Str.{bytes_eq}
 use Rattle.json.specs.Json.{Json, null, string, array}
 use Rattle.json.specs.Find.{get}
@@ -15,6 +17,9 @@ use Rattle.guppy_metadata.specs.Package.{IsTold, AreTold}
 use Rattle.guppy_metadata.specs.Table.{IsTable}
 use Rattle.guppy_metadata.specs.Told.{IsWith, IsOther}
 use Rattle.guppy_metadata.specs.Workspace.{IsBuildDirectory, IsWorkspace}
+
+pub differs : (text other : List ℕ) → text ≢ other → bytes_eq text other ≡ false
+differs text other not_same = false_from_ne_true _ (λ same. not_same ((bytes_eq-Decides text other).0 same))
 
 module _ (d e : Json) where
   pub told_alike : (details : Bool) (packages : List Package) → get (codes "packages") d ≡ get (codes "packages") e → AreTold details d packages → AreTold details e packages

@@ -9,7 +9,7 @@ use Rattle.guppy_data.specs.declared.records.PackageRecord.{PackageRecord}
 use Rattle.guppy_metadata.specs.declared.package.Package.{Package}
 use Rattle.guppy_metadata.specs.Dependency.{IsDeclared, NamesOptional}
 use Rattle.guppy_metadata.specs.Members.{is_among, are_among, list_of, IsListOf}
-use Rattle.guppy_metadata.specs.Package.{IsFrom, IsTold, AreTold, AreTargets, IsRecordOf, IsPackage, ArePackagesWith, are_known}
+use Rattle.guppy_metadata.specs.Package.{IsFrom, IsTold, AreTold, AreAskedTargets, IsRecordOf, IsPackage, ArePackagesWith, are_known}
 use Rattle.guppy_metadata.proofs.AlikeLists.{lists_fit, made_alike}
 use Rattle.guppy_metadata.proofs.OnceTold.{text_once}
 use Rattle.guppy_metadata.proofs.Options.{some_and}
@@ -40,7 +40,7 @@ module _ (details : Bool) (root : List ℕ) (is_member : List ℕ → Bool) wher
       record {
         named = named;
         detailed = is.detailed details d tells.detailed;
-        targets = subst (λ targets. AreTargets d targets.items) (sym is.targets) tells.targets;
+        targets = subst (λ targets. AreAskedTargets details d targets.items) (sym is.targets) tells.targets;
         optional = λ all. some_and (get (codes "dependencies") d)
             (λ list are. (p.declared.items, subst (λ details. IsListOf (IsDeclared details) list p.declared.items) all are, subst (NamesOptional p.declared.items) (sym is.optional) (tells.optional all))) tells.declared;
         source = option_copied p.source;

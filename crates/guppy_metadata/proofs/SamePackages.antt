@@ -1,6 +1,7 @@
 -- Packages that one JSON tells: the links between them are the same.
 use Rattle.std.proofs.Common.{◌≡◌, ◌∙◌, ◌⊎◌, inl, inr, filter, [], ◌∷◌, ℕ, ◌==◌, ◌&&◌, ◌||◌, Bool, List, Option, None, Some, map, length, refl, sym, ap, subst, string_bytes, codes}
 use Rattle.std.specs.List.{AllZip}
+use Rattle.std.specs.Option.{option_copied}
 use Rattle.std.specs.Str.{bytes_eq}
 use Rattle.std.proofs.lemmas.List.{length-map}
 use Rattle.json.specs.Json.{Json}
@@ -18,14 +19,13 @@ use Rattle.guppy_metadata.specs.declared.link.Resolved.{Resolved}
 use Rattle.guppy_metadata.specs.declared.link.Usage.{Usage}
 use Rattle.guppy_metadata.specs.declared.package.Package.{Package}
 use Rattle.guppy_metadata.specs.Dependency.{IsDeclared}
-use Rattle.guppy_metadata.specs.Fits.{library_name, used_name, takes, same_usage, is_used, fits, is_matched, are_matched}
+use Rattle.guppy_metadata.specs.Fits.{used_name, takes, same_usage, is_used, fits, is_matched, are_matched}
 use Rattle.guppy_metadata.specs.Gathered.{IsLinkOf}
 use Rattle.guppy_metadata.specs.Links.{IsResolved, IsUnasked, IsAsked, IsLink, AreLinksOf, AreLinksOfList}
 use Rattle.guppy_metadata.specs.Package.{IsTold, AreTold, with_id}
-use Rattle.guppy_metadata.specs.Target.{IsTarget}
 use Rattle.guppy_metadata.proofs.AlikeDependencies.{IsSame, same_itself, declared_once, link_same}
 use Rattle.guppy_metadata.proofs.AlikeLists.{OptionsFit, each_itself, lists_fit, fits_too, picked_alike, any_passes_alike, all_pass_alike, last_alike}
-use Rattle.guppy_metadata.proofs.AlikeTargets.{IsSameTarget, target_once, library_same}
+use Rattle.guppy_metadata.proofs.Libraries.{library_once}
 use Rattle.guppy_metadata.proofs.OnceTold.{text_once}
 use Rattle.guppy_metadata.proofs.Options.{some_and}
 use Rattle.guppy_metadata.proofs.ResolvedOnce.{UsedAlike, ResolvedAlike, resolved_once}
@@ -35,7 +35,7 @@ pub record IsAlike (p q : Package) : Type 0 where
   pub id : p.id.now ≡ q.id.now
   pub name : string_bytes p.record.name ≡ string_bytes q.record.name
   pub version : parts_of p.record.version ≡ parts_of q.record.version
-  pub library : library_name p.record.build_targets.items ≡ library_name q.record.build_targets.items
+  pub library : option_copied p.library ≡ option_copied q.library
   pub declared : AllZip IsSame p.declared.items q.declared.items ⊎ (p.declared.items ≡ [])
 
 alike_itself : (p : Package) → IsAlike p p
@@ -55,7 +55,7 @@ told_once details d p q is also = record {
   version =
       let text = text_once d (codes "version") is.named.version.0 also.named.version.0 is.named.version.1 also.named.version.1 in
       ok-value _ _ (sym is.named.version.2 ∙ (ap version_parts text ∙ also.named.version.2));
-  library = library_same _ _ (lists_fit IsTarget IsTarget IsSameTarget target_once (get (codes "targets") d) p.record.build_targets.items q.record.build_targets.items is.targets also.targets);
+  library = library_once d (option_copied p.library) (option_copied q.library) is.library also.library;
   declared = inl (lists_fit (IsDeclared details) (IsDeclared details) IsSame (declared_once details) (get (codes "dependencies") d) p.declared.items q.declared.items is.declared also.declared);
 }
 
@@ -82,13 +82,13 @@ usage_same x y same u v alike = rw (same.section, same.target, alike.section, al
 
 -- the same dependencies were resolved so, and have the usages
 module _ (from : List ℕ) (a b : Resolved) (resolved : ResolvedAlike a b) (needed other : Package) (alike : IsAlike needed other) where
-  used_name_same : (x y : Declared) → IsSame x y → used_name x needed.record ≡ used_name y other.record
+  used_name_same : (x y : Declared) → IsSame x y → used_name x needed ≡ used_name y other
   used_name_same x y same = rw (same.rename, same.name, alike.library) refl
 
   used_same : (x y : Declared) → IsSame x y → is_used x a.usages.items ≡ is_used y b.usages.items
   used_same x y same = any_passes_alike UsedAlike (same_usage x) (same_usage y) (usage_same x y same) a.usages.items b.usages.items resolved.usages
 
-  fits_same : (x y : Declared) → IsSame x y → fits from a needed.record x ≡ fits from b other.record y
+  fits_same : (x y : Declared) → IsSame x y → fits from a needed x ≡ fits from b other y
   fits_same x y same =
       rw (
         used_name_same x y same,
@@ -100,11 +100,11 @@ module _ (from : List ℕ) (a b : Resolved) (resolved : ResolvedAlike a b) (need
         resolved.name,
       ) refl
 
-  matched_same : (xs ys : List Declared) → AllZip IsSame xs ys → are_matched from a needed.record xs a.usages.items ≡ are_matched from b other.record ys b.usages.items
+  matched_same : (xs ys : List Declared) → AllZip IsSame xs ys → are_matched from a needed xs a.usages.items ≡ are_matched from b other ys b.usages.items
   matched_same xs ys all =
-      all_pass_alike UsedAlike (is_matched from a needed.record xs) (is_matched from b other.record ys)
-      (λ u v used. any_passes_alike IsSame (λ x. same_usage x u && fits from a needed.record x) (λ y. same_usage y v && fits from b other.record y)
-      (λ x y same. ap (λ p. p && fits from a needed.record x) (usage_same x y same u v used) ∙ ap (λ p. same_usage y v && p) (fits_same x y same)) xs ys all)
+      all_pass_alike UsedAlike (is_matched from a needed xs) (is_matched from b other ys)
+      (λ u v used. any_passes_alike IsSame (λ x. same_usage x u && fits from a needed x) (λ y. same_usage y v && fits from b other y)
+      (λ x y same. ap (λ p. p && fits from a needed x) (usage_same x y same u v used) ∙ ap (λ p. same_usage y v && p) (fits_same x y same)) xs ys all)
       a.usages.items b.usages.items resolved.usages
 
 -- no link is asked for by no dependency
@@ -124,10 +124,10 @@ asked_same (Some p) (Some q) (Some n) (Some m) one two from a b alike r asked = 
   where
     by : (AllZip IsSame p.declared.items q.declared.items ⊎ (p.declared.items ≡ [])) → IsAsked (Some q) (Some m) from b r
     by (inl all) = (
-      link_same _ _ r (picked_alike IsSame (fits from a n.record) (fits from b m.record) (fits_same from a b alike n m two) p.declared.items q.declared.items all) asked.0,
+      link_same _ _ r (picked_alike IsSame (fits from a n) (fits from b m) (fits_same from a b alike n m two) p.declared.items q.declared.items all) asked.0,
       sym (matched_same from a b alike n m two p.declared.items q.declared.items all) ∙ asked.1,
     )
-    by (inr none) = absurd (asked_of_none (filter (fits from a n.record) p.declared.items) r (ap (filter (fits from a n.record)) none) asked.0)
+    by (inr none) = absurd (asked_of_none (filter (fits from a n) p.declared.items) r (ap (filter (fits from a n)) none) asked.0)
 
 -- lists of alike packages, place by place
 module _ (packages others : List Package) (all : AllZip IsAlike packages others) where

@@ -1,3 +1,4 @@
+pub mod Asked
 pub mod Dependency
 pub mod Fault
 pub mod Feature

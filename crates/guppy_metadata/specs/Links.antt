@@ -55,8 +55,8 @@ pub record IsUnasked (name : List ℕ) (r : LinkRecord) : Type 0 where
 -- of which each usage has one; none where one of the two is no package
 abbrev pub IsAsked : Option Package → Option Package → List ℕ → Resolved → LinkRecord → Type 0
 IsAsked (Some asking) (Some needed) from resolved r =
-    IsLinkOf (filter (fits from resolved needed.record) asking.declared.items) r
-    × (are_matched from resolved needed.record asking.declared.items resolved.usages.items ≡ true)
+    IsLinkOf (filter (fits from resolved needed) asking.declared.items) r
+    × (are_matched from resolved needed asking.declared.items resolved.usages.items ≡ true)
 IsAsked (Some asking) None from resolved r = IsUnasked resolved.name.now r
 IsAsked None needed from resolved r = IsUnasked resolved.name.now r
 

@@ -25,7 +25,7 @@ use Rattle.guppy_metadata.specs.Feature.{AreFeatures}
 use Rattle.guppy_metadata.specs.Members.{present, IsText, IsListOf, list_of, AreTexts, is_among, are_among}
 use Rattle.guppy_metadata.specs.Path.{IsFolderFrom}
 use Rattle.guppy_metadata.specs.Table.{IsTable}
-use Rattle.guppy_metadata.specs.Target.{IsTarget}
+use Rattle.guppy_metadata.specs.Target.{IsTarget, IsLibraryAmong}
 
 -- where a package with this manifest comes from, in a workspace at the root: from a folder of it as its member,
 -- from another place that is told, or from a path
@@ -120,6 +120,15 @@ pub record IsDetailed (details : Bool) (d : Json) (r : PackageRecord) : Type 0 w
 abbrev pub AreTargets : Json → List BuildTargetRecord → Type 0
 AreTargets d targets = IsSomeAnd (get (codes "targets") d) (λ told. IsListOf IsTarget told targets)
 
+-- the build targets that are told of a package, or none of them where details are left out
+pub record AreAskedTargets (details : Bool) (d : Json) (targets : List BuildTargetRecord) : Type 0 where
+  pub told : details ≡ true → AreTargets d targets
+  pub left_out : details ≡ false → targets ≡ []
+
+-- this is the name of the package's library, or it has none
+abbrev pub IsLibrary : Json → Option (List ℕ) → Type 0
+IsLibrary d name = IsSomeAnd (get (codes "targets") d) (λ told. IsLibraryAmong told name)
+
 -- these are the dependencies that a package declares
 abbrev pub AreDeclared : Bool → Json → List Declared → Type 0
 AreDeclared details d declared = IsSomeAnd (get (codes "dependencies") d) (λ told. IsListOf (IsDeclared details) told declared)
@@ -130,7 +139,8 @@ pub record IsTold (details : Bool) (d : Json) (p : Package) : Type 0 where
   pub source : IsText (codes "source") d (option_copied p.source)
   pub named : IsNamed d p.record
   pub detailed : IsDetailed details d p.record
-  pub targets : AreTargets d p.record.build_targets.items
+  pub targets : AreAskedTargets details d p.record.build_targets.items
+  pub library : IsLibrary d (option_copied p.library)
   pub declared : AreDeclared details d p.declared.items
   pub optional : details ≡ true → NamesOptional p.declared.items p.record.optional_deps
 
@@ -139,11 +149,11 @@ abbrev pub is_asked : Bool → List ℕ → Bool
 is_asked true name = true
 is_asked false name = is_among (codes "id" ∷ codes "name" ∷ codes "version" ∷ codes "source" ∷ codes "manifest_path" ∷ codes "edition" ∷ codes "description" ∷ codes "license" ∷ codes "repository" ∷ codes "publish" ∷ []) name
 
--- the member of this name is asked for, and is neither the dependencies nor the build targets
+-- the member of this name is asked for, and is not the dependencies
 abbrev pub IsOwn : Bool → List ℕ → Type 0
-IsOwn details name = (bytes_eq (codes "dependencies") name ≡ false) × (bytes_eq (codes "targets") name ≡ false) × (is_asked details name ≡ true)
+IsOwn details name = (bytes_eq (codes "dependencies") name ≡ false) × (is_asked details name ≡ true)
 
--- the members of the two objects that are asked for are the same, but for the dependencies and build targets
+-- the members of the two objects that are asked for are the same, but for the dependencies
 abbrev pub AreAlike : Bool → Json → Json → Type 0
 AreAlike details d e = (name : List ℕ) → IsOwn details name → get name d ≡ get name e
 
@@ -155,6 +165,7 @@ AreTold details d packages = IsSomeAnd (get (codes "packages") d) (λ told. IsLi
 pub record IsLetGo (p q : Package) : Type 0 where
   pub id : p.id ≡ q.id
   pub source : p.source ≡ q.source
+  pub library : p.library ≡ q.library
   pub record_is : p.record ≡ q.record
   pub declared : (p.declared.items ≡ q.declared.items) ⊎ (q.declared.items ≡ [])
 
@@ -176,7 +187,7 @@ pub record IsRecordOf (root : List ℕ) (is_member : List ℕ → Bool) (p : Pac
 pub record IsPackage (details : Bool) (root : List ℕ) (is_member : List ℕ → Bool) (d : Json) (r : PackageRecord) : Type 0 where
   pub named : IsNamed d r
   pub detailed : IsDetailed details d r
-  pub targets : AreTargets d r.build_targets.items
+  pub targets : AreAskedTargets details d r.build_targets.items
   pub optional : details ≡ true → IsSomeAnd (get (codes "dependencies") d) (λ told. AreOptional told r.optional_deps)
   pub source : Option (List ℕ)
   pub source_is : IsText (codes "source") d source

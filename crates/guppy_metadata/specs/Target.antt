@@ -1,7 +1,8 @@
 -- What the JSON of a build target says.
-use Rattle.std.specs.Prelude.{◌≡◌, ◌≢◌, ℕ, true, false, List, ◌∷◌, Option, Some, None, map, option_map, string_bytes, codes}
-use Rattle.json.specs.Json.{Json, string}
+use Rattle.std.specs.Prelude.{◌≡◌, ◌≢◌, ◌⊎◌, ℕ, Bool, true, false, not, List, [], ◌∷◌, Option, Some, None, map, option_map, string_bytes, codes}
+use Rattle.json.specs.Json.{Json, string, array}
 use Rattle.json.specs.Find.{get}
+use Rattle.json.specs.Value.{items_of}
 use Rattle.guppy_data.specs.declared.records.BuildTargetRecord.{BuildTargetRecord}
 use Rattle.guppy_data.specs.declared.records.BuildTargetKindRecord.{BuildTargetKindRecord}
 use Rattle.guppy_data.specs.declared.records.BuildTargetKindRecord.TheVariants.{LibraryOrExample, ProcMacro, Binary as BinaryKind}
@@ -52,3 +53,26 @@ pub record IsTarget (d : Json) (r : BuildTargetRecord) : Type 0 where
   pub documented : IsTruth (codes "doc") d true r.doc_by_default
   pub doctested : IsTruth (codes "doctest") d true r.doctest_by_default
   pub tested : IsTruth (codes "test") d true r.test_by_default
+
+-- whether a target of this kind is a library
+abbrev pub is_library_kind : List ℕ → Bool
+is_library_kind kind = not (is_among (codes "custom-build" ∷ codes "bin" ∷ codes "example" ∷ codes "test" ∷ codes "bench" ∷ []) kind)
+
+-- the first kind of the target is this one
+abbrev pub HasKind : Json → List ℕ → Type 0
+HasKind d kind = (others : List (List ℕ)) × AreTexts (codes "kind") d (kind ∷ others)
+
+-- the name of a target that is a library; none of any other target
+abbrev pub IsLibraryName : Json → Option (List ℕ) → Type 0
+IsLibraryName d None = (kind : List ℕ) × HasKind d kind × (is_library_kind kind ≡ false)
+IsLibraryName d (Some name) = (kind : List ℕ) × HasKind d kind × (is_library_kind kind ≡ true) × (get (codes "name") d ≡ Some (string name))
+
+-- the name of the first library among these targets, or none where none is one; what stands behind it counts for nothing
+abbrev pub IsFirstLibrary : List Json → Option (List ℕ) → Type 0
+IsFirstLibrary [] name = name ≡ None
+IsFirstLibrary (d ∷ ds) None = IsLibraryName d None × IsFirstLibrary ds None
+IsFirstLibrary (d ∷ ds) (Some name) = IsLibraryName d (Some name) ⊎ (IsLibraryName d None × IsFirstLibrary ds (Some name))
+
+-- this is the name of the first library among the targets of the list, or none of them is one
+abbrev pub IsLibraryAmong : Json → Option (List ℕ) → Type 0
+IsLibraryAmong told name = (items : List Json) × (told ≡ array (items_of items)) × IsFirstLibrary items name

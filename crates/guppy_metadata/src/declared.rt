@@ -1,12 +1,16 @@
 //! A dependency as a package declares it.
-ghost use Rattle.std.specs.Prelude.{◌≡◌, Some, map, unwrap_or, IfOk, IfSome, MatchResult};
+ghost use Rattle.std.specs.Prelude.{◌≡◌, ◌≢◌, false, Some, map, length, unwrap_or, IfOk, IfSome, MatchOption, MatchResult};
 ghost use Rattle.std.specs.Option.{option_copied};
 ghost use Rattle.json.specs.Json.{Json, value};
+ghost use Rattle.guppy_data.specs.declared.texts.dependency_kind.DependencyKind.{DependencyKind};
+ghost use Rattle.guppy_metadata.specs.Asked.{AreValuesOf, HasName};
+ghost use Rattle.guppy_metadata.specs.declared.declared.TheConstants.{ASKED};
 ghost use Rattle.guppy_metadata.specs.Dependency.{AreAsked, IsDeclared, NamesSection, NamesOptional};
 ghost use Rattle.guppy_metadata.specs.Fault.{NoneIs, IsRead};
 ghost use Rattle.guppy_metadata.specs.Members.{data_of, IsListOf};
 ghost use Rattle.guppy_metadata.specs.Package.{AreDeclared};
 
+use crate::asked::{optional_text, read_asked, truth_or};
 use crate::fault::{Misfit, TextFault};
 use crate::object::{Object, requirement_of};
 use crate::read::read_object;
@@ -64,15 +68,27 @@ impl<'a> Declared<'a> {
     }
 }
 
+// The section of this name; the normal one where there is none.
+fn section_named(name: Option<&str>) -> Option<DependencyKind>
+    ensures { MatchOption result ((section : DependencyKind) → ¬ HasName (option_copied name.entry) section)
+        (HasName (option_copied name.entry)) }
+{
+    match name {
+        None | Some("normal") => Some(DependencyKind::Normal),
+        Some("dev") => Some(DependencyKind::Development),
+        Some("build") => Some(DependencyKind::Build),
+        Some(_) => None,
+    }
+}
+
 /// The section that the text in the member `kind` names; `normal` where there is none.
 pub(crate) fn section_of(object: Object<'_, '_>) -> Result<DependencyKind, Misfit>
     ensures { IsRead (NamesSection (data_of object.entry)) result }
 {
-    match object.optional_text("kind")? {
-        None | Some("normal") => Ok(DependencyKind::Normal),
-        Some("dev") => Ok(DependencyKind::Development),
-        Some("build") => Ok(DependencyKind::Build),
-        Some(_) => {
+    let name = object.optional_text("kind")?;
+    match section_named(name) {
+        Some(section) => Ok(section),
+        None => {
             let why = TextFault::NoDependencyKind;
             Err(Misfit::bad_text(object.alloc, "kind", why))
         }
@@ -142,16 +158,83 @@ pub(crate) fn declared_dependencies<'a>(
     Ok(declared)
 }
 
-// The dependency that the object that comes next tells.
+// The names of the members that a dependency is read from without details, in the order in which Cargo prints them.
+// `source` is there only because Cargo prints it among them.
+const ASKED: [&str; 10] = [
+    "name",
+    "source",
+    "req",
+    "kind",
+    "rename",
+    "optional",
+    "uses_default_features",
+    "target",
+    "registry",
+    "path",
+];
+
+// The dependency whose members have these values, without details.
+fn plain_of<'a>(values: &[Value<'a>], alloc: Global) -> Option<Declared<'a>>
+    requires { length values.now ≡ 10 }
+    ensures { IfSome result (λ made. (told : Json) → AreValuesOf told (map (λ n. n.now) ASKED) values.now
+        → IsDeclared false told made) }
+{
+    let name = values[0].as_str()?;
+    let text = values[2].as_str()?;
+    let kind = optional_text(&values[3])?;
+    let rename = optional_text(&values[4])?;
+    let optional = truth_or(&values[5], false)?;
+    let default_features = truth_or(&values[6], true)?;
+    let target = optional_text(&values[7])?;
+    let registry = optional_text(&values[8])?;
+    let path = optional_text(&values[9])?;
+    let section = section_named(kind)?;
+    let requirement = requirement_of(alloc, "req", text).ok()?;
+    Some(Declared {
+        name,
+        rename,
+        requirement,
+        section,
+        target,
+        optional,
+        default_features,
+        features: Vec::new(alloc),
+        registry,
+        path,
+    })
+}
+
+// The dependency that the object that comes next tells, without details. Its members' values are read in place of what
+// was read before.
+fn read_plain<'a>(
+    values: &mut [Value<'a>],
+    alloc: Global,
+    reader: &mut Reader<'a>,
+) -> Option<Declared<'a>>
+    requires { length values.old ≡ 10 }
+    ensures { IfSome result (λ made. (told : Json)
+        × (value 124 reader.old ≡ Some (told, reader.new)) × IsDeclared false told made) }
+{
+    read_asked(values, &ASKED, alloc, reader, MAX_DEPTH - 4)?;
+    plain_of(values, alloc)
+}
+
+// The dependency that the object that comes next tells, with details or without. The object is read in place of what
+// was read before, as a whole or by its values.
 fn read_dependency<'a>(
     item: &mut Value<'a>,
+    values: &mut [Value<'a>],
     alloc: Global,
     reader: &mut Reader<'a>,
     details: bool,
 ) -> Option<Declared<'a>>
+    requires { length values.old ≡ 10 }
     ensures { IfSome result (λ made. (told : Json)
         × (value 124 reader.old ≡ Some (told, reader.new)) × IsDeclared details told made) }
 {
+    if !details {
+        return read_plain(values, alloc, reader);
+    }
     read_object(item, alloc, reader, MAX_DEPTH - 4)?;
     declared_of(Object { alloc, value: item }, details).ok()
 }
@@ -170,8 +253,20 @@ pub(crate) fn read_dependencies<'a>(
     };
     let mut declared = Vec::new(alloc);
     let mut item = Value::Null;
+    let mut values = [
+        Value::Null,
+        Value::Null,
+        Value::Null,
+        Value::Null,
+        Value::Null,
+        Value::Null,
+        Value::Null,
+        Value::Null,
+        Value::Null,
+        Value::Null,
+    ];
     while !reader.take_end_array() {
-        let dependency = read_dependency(&mut item, alloc, reader, details)?;
+        let dependency = read_dependency(&mut item, &mut values, alloc, reader, details)?;
         declared.push(dependency).ok()?;
     }
     declared.shrink_to_fit();

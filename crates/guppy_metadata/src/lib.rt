@@ -6,6 +6,7 @@
 //! - `fault`: why there are no records, and where in the JSON;
 //! - `object`: the members of a JSON object;
 //! - `read`: objects that are read into memory that is used again;
+//! - `asked`: members of objects that are asked for by their names;
 //! - `path`: the folder of a package, from the workspace's root;
 //! - `feature`: named features;
 //! - `target`: build targets;
@@ -20,6 +21,7 @@
 //! - `laws`: what fits under one name.
 #![tactic(auto)]
 
+mod asked;
 mod declared;
 mod fault;
 mod feature;

@@ -133,11 +133,11 @@ fn is_named(name: &[u8], in_code: &[u8]) -> bool
 // Whether the declared dependency, where it is the package, has the resolved name. A dependency on what is
 // no library is resolved with no name.
 fn has_name(declared: &Declared<'_>, needed: &Package<'_>, in_code: &str) -> bool
-    ensures { result ≡ has_name declared.now needed.now.record in_code.now }
+    ensures { result ≡ has_name declared.now needed.now in_code.now }
 {
-    let name = match (declared.rename, needed.lib_name()) {
+    let name = match (declared.rename, needed.library) {
         (Some(rename), _) => rename,
-        (None, Some(lib_name)) => lib_name,
+        (None, Some(library)) => library,
         (None, None) => declared.name,
     };
     in_code.is_empty() || is_named(name.as_bytes(), in_code.as_bytes())
@@ -163,7 +163,7 @@ fn is_used(declared: &Declared<'_>, usages: &[Usage<'_>]) -> bool
 // Whether what a package declares is among the dependencies that were resolved to this one. One on itself
 // is resolved with the name of its library, whatever its own is.
 fn fits(declared: &Declared<'_>, from: &str, resolved: &Resolved<'_>, needed: &Package<'_>) -> bool
-    ensures { result ≡ fits from.now resolved.now needed.now.record declared.now }
+    ensures { result ≡ fits from.now resolved.now needed.now declared.now }
 {
     declared.name == needed.record.name.as_str()
         && (from == resolved.id || has_name(declared, needed, resolved.name))
@@ -180,9 +180,9 @@ fn is_matched(
     needed: &Package<'_>,
 ) -> bool
     requires { IfSome (slice_get declared.now 0)
-        (λ first. fits from.now resolved.now needed.now.record first ≡ true) }
+        (λ first. fits from.now resolved.now needed.now first ≡ true) }
     ensures { result
-        ≡ is_matched from.now resolved.now needed.now.record declared.now usage.now }
+        ≡ is_matched from.now resolved.now needed.now declared.now usage.now }
 {
     for (index, dependency) in declared.iter().enumerate() {
         if is_same_usage(dependency, usage)
@@ -203,9 +203,9 @@ fn are_matched(
     needed: &Package<'_>,
 ) -> bool
     requires { IfSome (slice_get declared.now 0)
-        (λ first. fits from.now resolved.now needed.now.record first ≡ true) }
+        (λ first. fits from.now resolved.now needed.now first ≡ true) }
     ensures { result
-        ≡ are_matched from.now resolved.now needed.now.record declared.now usages.now }
+        ≡ are_matched from.now resolved.now needed.now declared.now usages.now }
 {
     for usage in usages {
         if !is_matched(usage, declared, from, resolved, needed) {
@@ -424,10 +424,10 @@ fn from_first_fitting<'d, 'a>(
     resolved: &Resolved<'_>,
     needed: &Package<'_>,
 ) -> &'d [Declared<'a>]
-    ensures all { filter (fits from.now resolved.now needed.now.record) result.now
-        ≡ filter (fits from.now resolved.now needed.now.record) declared.now }
+    ensures all { filter (fits from.now resolved.now needed.now) result.now
+        ≡ filter (fits from.now resolved.now needed.now) declared.now }
     ensures first { IfSome (slice_get result.now 0)
-        (λ first. fits from.now resolved.now needed.now.record first ≡ true) }
+        (λ first. fits from.now resolved.now needed.now first ≡ true) }
 {
     for (index, dependency) in declared.iter().enumerate() {
         if fits(dependency, from, resolved, needed) {
@@ -447,12 +447,12 @@ fn add_fitting(
     needed: &Package<'_>,
 ) -> Result<(), AllocError>
     requires { IfSome (slice_get declared.now 0)
-        (λ first. fits from.now resolved.now needed.now.record first ≡ true) }
+        (λ first. fits from.now resolved.now needed.now first ≡ true) }
     ensures joins { (one other name : List ℕ)
         → Joins one other name link.old → Joins one other name link.new }
     ensures named { (first : Declared) → IsNamedAs first link.old → IsNamedAs first link.new }
     ensures gathered { OnOk result (IsGathered [] link.old
-        → IsGathered (filter (fits from.now resolved.now needed.now.record) declared.now) link.new) }
+        → IsGathered (filter (fits from.now resolved.now needed.now) declared.now) link.new) }
 {
     for (index, dependency) in declared.iter().enumerate() {
         if index == 0 || fits(dependency, from, resolved, needed) {
@@ -473,12 +473,12 @@ fn add_link_between(
 ) -> Result<(), Misfit>
     ensures added { OnOk result ((link : LinkRecord) × (links.new.items ≡ links.old.items ++ link ∷ [])
         × Joins from.now resolved.now.id.now resolved.now.name.now link
-        × IsLinkOf (filter (fits from.now resolved.now needed.now.record) asking.now.declared.items) link) }
-    ensures matched { OnOk result (are_matched from.now resolved.now needed.now.record
+        × IsLinkOf (filter (fits from.now resolved.now needed.now) asking.now.declared.items) link) }
+    ensures matched { OnOk result (are_matched from.now resolved.now needed.now
         asking.now.declared.items resolved.now.usages.items ≡ true) }
     ensures refused { IfErr result (NoneIs (λ (link : LinkRecord).
-        IsLinkOf (filter (fits from.now resolved.now needed.now.record) asking.now.declared.items) link
-        × (are_matched from.now resolved.now needed.now.record asking.now.declared.items resolved.now.usages.items ≡ true))) }
+        IsLinkOf (filter (fits from.now resolved.now needed.now) asking.now.declared.items) link
+        × (are_matched from.now resolved.now needed.now asking.now.declared.items resolved.now.usages.items ≡ true))) }
 {
     let declared = from_first_fitting(asking.declared.as_slice(), from, resolved, needed);
     let usages = resolved.usages.as_slice();

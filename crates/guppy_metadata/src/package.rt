@@ -10,18 +10,18 @@ ghost use Rattle.guppy_metadata.specs.Dependency.{NamesOptional};
 ghost use Rattle.guppy_metadata.specs.Fault.{NoneIs, IsRead};
 ghost use Rattle.guppy_metadata.specs.Members.{data_of, is_among, is_in_set, IsText};
 ghost use Rattle.guppy_metadata.specs.declared.package.Package.{Package};
-ghost use Rattle.guppy_metadata.specs.Package.{IsFrom, IsNamed, IsDescribed, IsFilled, IsPlain, IsDetailed, IsTold, IsRecordOf, IsPublishable, IsRustVersion, AreTargets, AreDeclared, AreTold, AreAlike, ArePositions, dots_in, zeros_behind, whole_version};
+ghost use Rattle.guppy_metadata.specs.Package.{IsFrom, IsNamed, IsDescribed, IsFilled, IsPlain, IsDetailed, IsTold, IsRecordOf, IsPublishable, IsRustVersion, AreAskedTargets, IsLibrary, AreDeclared, AreTold, AreAlike, ArePositions, dots_in, zeros_behind, whole_version};
 
 use crate::declared::{Declared, declared_dependencies, optional_names};
 use crate::fault::Misfit;
 use crate::feature::named_features;
 use crate::object::{Object, version_of};
 use crate::path::folder_from;
-use crate::target::build_targets;
+use crate::target::{build_targets, first_library};
 use crate::workspace::set_of;
 use guppy_data::{
-    BuildTargetRecord, OwnedBuildTargetId, PackageId, PackagePublishRecord, PackageRecord,
-    PackageSourceRecord, Utf8Path, Utf8PathBuf,
+    BuildTargetRecord, PackageId, PackagePublishRecord, PackageRecord, PackageSourceRecord,
+    Utf8Path, Utf8PathBuf,
 };
 use indexmap::{IndexMap, IndexSet};
 use json::Value;
@@ -34,31 +34,12 @@ pub(crate) struct Package<'a> {
     pub(crate) id: &'a str,
     /// Where it comes from, where that is told.
     pub(crate) source: Option<&'a str>,
-    /// Its record, but for where it comes from.
-    pub(crate) record: PackageRecord,
+    /// The name of its library, where it has one.
+    pub(crate) library: Option<&'a str>,
     /// The dependencies that it declares.
     pub(crate) declared: Vec<Declared<'a>>,
-}
-
-impl Package<'_> {
-    ghost use Rattle.std.specs.Prelude.{◌≡◌};
-    ghost use Rattle.std.specs.Option.{option_copied};
-    ghost use Rattle.guppy_metadata.specs.Fits.{library_name};
-
-    /// The name of the library, where there is one.
-    pub(crate) fn lib_name(&self) -> Option<&str>
-        ensures { option_copied result ≡ library_name self.now.record.build_targets.items }
-    {
-        for target in self.record.build_targets.iter() {
-            if let OwnedBuildTargetId::Library = &target.id {
-                return match &target.lib_name {
-                    Some(name) => Some(name.as_str()),
-                    None => None,
-                };
-            }
-        }
-        None
-    }
+    /// Its record, but for where it comes from.
+    pub(crate) record: PackageRecord,
 }
 
 fn optional_path(json: Object<'_, '_>, name: &str) -> Result<Option<Utf8PathBuf>, Misfit>
@@ -219,46 +200,61 @@ fn add_details(
     }
 }
 
-// The package of its record so far, its dependencies and build targets, with details or without.
+// The build targets that are told of a package, or none of them where details are left out.
+fn asked_targets(json: Object<'_, '_>, details: bool) -> Result<Vec<BuildTargetRecord>, Misfit>
+    ensures { MatchResult result (λ targets. AreAskedTargets details (data_of json.entry) targets.items)
+        (NoneIs (AreAskedTargets details (data_of json.entry))) }
+{
+    if details {
+        build_targets(json)
+    } else {
+        Ok(Vec::new(json.alloc))
+    }
+}
+
+// The package of its record so far, its library and dependencies, with details or without.
 fn filled_package<'a>(
     json: Object<'_, 'a>,
     id: &'a str,
     source: Option<&'a str>,
+    library: Option<&'a str>,
     declared: Vec<Declared<'a>>,
     mut made: PackageRecord,
-    targets: Vec<BuildTargetRecord>,
     details: bool,
 ) -> Result<Package<'a>, Misfit>
     ensures told { IfOk result (λ p. (d : Json) → AreAlike details (data_of json.entry) d
         → get (codes "id") (data_of json.entry) ≡ Some (string id.now)
         → IsText (codes "source") (data_of json.entry) (option_copied source.entry)
         → IsNamed (data_of json.entry) made → IsPlain made
-        → AreDeclared details d declared.entry.items → AreTargets d targets.items → IsTold details d p) }
-    ensures refused { IfErr result (NoneIs (IsDetailed details (data_of json.entry))) }
+        → IsLibrary d (option_copied library.entry) → AreDeclared details d declared.entry.items → IsTold details d p) }
+    ensures refused { IfErr result (NoneIs (λ (r : PackageRecord). AreAskedTargets details (data_of json.entry) r.build_targets.items
+        × IsDetailed details (data_of json.entry) r)) }
 {
+    let targets = asked_targets(json, details)?;
     add_details(&mut made, json, declared.as_slice(), targets, details)?;
     Ok(Package {
         id,
         source,
-        record: made,
+        library,
         declared,
+        record: made,
     })
 }
 
-/// The package that an object tells with these dependencies and build targets, with details or without.
+/// The package that an object tells with this library and these dependencies, with details or without.
 pub(crate) fn package_with<'a>(
     json: Object<'_, 'a>,
+    library: Option<&'a str>,
     declared: Vec<Declared<'a>>,
-    targets: Vec<BuildTargetRecord>,
     details: bool,
 ) -> Result<Package<'a>, Misfit>
     ensures { IfOk result (λ made. (d : Json) → AreAlike details (data_of json.entry) d
-        → AreDeclared details d declared.entry.items → AreTargets d targets.items → IsTold details d made) }
+        → IsLibrary d (option_copied library.entry) → AreDeclared details d declared.entry.items → IsTold details d made) }
 {
     let id = json.text("id")?;
     let source = json.optional_text("source")?;
     let record = named_record(json)?;
-    filled_package(json, id, source, declared, record, targets, details)
+    filled_package(json, id, source, library, declared, record, details)
 }
 
 /// The package that an object tells, with details or without.
@@ -269,8 +265,8 @@ pub(crate) fn package_of<'a>(json: Object<'_, 'a>, details: bool) -> Result<Pack
     let source = json.optional_text("source")?;
     let declared = declared_dependencies(json, details)?;
     let record = named_record(json)?;
-    let targets = build_targets(json)?;
-    filled_package(json, id, source, declared, record, targets, details)
+    let library = first_library(json)?;
+    filled_package(json, id, source, library, declared, record, details)
 }
 
 /// The package that the item of the list `packages` at this index is, with details or without.

@@ -1,14 +1,15 @@
 //! A package, read member by member.
-ghost use Rattle.std.specs.Prelude.{◌≡◌, Some, IfSome};
+ghost use Rattle.std.specs.Prelude.{◌≡◌, true, false, Some, IfSome};
+ghost use Rattle.std.specs.Option.{option_copied};
 ghost use Rattle.json.specs.Json.{Json, value};
-ghost use Rattle.guppy_metadata.specs.Package.{IsTold, is_asked};
+ghost use Rattle.guppy_metadata.specs.Members.{data_of};
+ghost use Rattle.guppy_metadata.specs.Package.{IsTold, IsLibrary, AreAlike, is_asked};
 ghost use Rattle.guppy_metadata.specs.Parts.{TellsParts};
 
 use crate::declared::{Declared, read_dependencies};
 use crate::object::Object;
 use crate::package::{Package, package_with};
-use crate::target::read_targets;
-use guppy_data::BuildTargetRecord;
+use crate::target::{first_library, read_library};
 use json::{MAX_DEPTH, Reader, Token, Value};
 use std::alloc::Global;
 
@@ -16,7 +17,10 @@ use std::alloc::Global;
 #[derive(Drop)]
 struct Parts<'a> {
     declared: Option<Vec<Declared<'a>>>,
-    targets: Option<Vec<BuildTargetRecord>>,
+    // Whether the build targets were read, of which only the library's name is kept. With details they are among
+    // the others.
+    has_targets: bool,
+    library: Option<&'a str>,
     // All other members that are asked for.
     others: Vec<(&'a str, Value<'a>)>,
 }
@@ -57,8 +61,9 @@ impl<'a> Parts<'a> {
     {
         if name == "dependencies" {
             self.declared = Some(read_dependencies(alloc, reader, details)?);
-        } else if name == "targets" {
-            self.targets = Some(read_targets(alloc, reader)?);
+        } else if !details && name == "targets" {
+            self.library = read_library(alloc, reader)?;
+            self.has_targets = true;
         } else if is_asked(name, details) {
             let value = Value::read(alloc, reader, MAX_DEPTH - 3).ok()?;
             self.others.push((name, value)).ok()?;
@@ -79,7 +84,8 @@ fn read_parts<'a>(alloc: Global, reader: &mut Reader<'a>, details: bool) -> Opti
     };
     let mut parts = Parts {
         declared: None,
-        targets: None,
+        has_targets: false,
+        library: None,
         others: Vec::new(alloc),
     };
     while let Some(name) = reader.next_key().ok()? {
@@ -88,23 +94,40 @@ fn read_parts<'a>(alloc: Global, reader: &mut Reader<'a>, details: bool) -> Opti
     Some(parts)
 }
 
+// The name of the library: with details of the targets among the members, else the one that was read.
+fn library_told<'a>(
+    json: Object<'_, 'a>,
+    library: Option<&'a str>,
+    has_targets: bool,
+    details: bool,
+) -> Option<Option<&'a str>>
+    ensures { IfSome result (λ name. (d : Json) → AreAlike details (data_of json.entry) d
+        → (details ≡ false → has_targets ≡ true → IsLibrary d (option_copied library.entry)) → IsLibrary d (option_copied name)) }
+{
+    if details {
+        return first_library(json).ok();
+    }
+    if has_targets { Some(library) } else { None }
+}
+
 // The package that is told, where nothing is missing or wrong.
 fn package_told<'a>(alloc: Global, parts: Parts<'a>, details: bool) -> Option<Package<'a>>
     ensures { IfSome result (λ made. (d : Json) → TellsParts details d parts.entry → IsTold details d made) }
 {
     let Parts {
         declared,
-        targets,
+        has_targets,
+        library,
         others,
     } = parts;
     let declared = declared?;
-    let targets = targets?;
     let value = Value::Object(others);
     let json = Object {
         alloc,
         value: &value,
     };
-    package_with(json, declared, targets, details).ok()
+    let library = library_told(json, library, has_targets, details)?;
+    package_with(json, library, declared, details).ok()
 }
 
 /// The package that the object that comes next tells, with details or without.

@@ -244,9 +244,10 @@ pub fn records_of(alloc: Global, json: &str) -> Result<Records, MetadataFault>
 }
 
 /// The records without details, in less time and memory: as [`records_of`], but no features, and of a package neither
-/// authors, license file, categories, keywords, readme, homepage, documentation, metadata, links, default run, Rust
-/// version nor optional dependencies. These are not looked at, and left empty as by `PackageRecord::new`. No links,
-/// sets, lists, cycles or platform answers of a graph depend on them.
+/// build targets, authors, license file, categories, keywords, readme, homepage, documentation, metadata, links,
+/// default run, Rust version nor optional dependencies. These are left empty as by `PackageRecord::new`, and not looked
+/// at, but for the targets up to the library, whose name decides which declared dependencies fit. No links, sets, lists,
+/// cycles or platform answers of a graph depend on what is left out, and `verify` accepts each target that JSON tells.
 pub fn plain_records_of(alloc: Global, json: &str) -> Result<Records, MetadataFault>
     ensures json { OnOk result (IsSome (document json.now)) }
     ensures packages { IfOk result

@@ -1,10 +1,11 @@
 //! Build targets.
-ghost use Rattle.std.specs.Prelude.{◌≡◌, ◌∷◌, ℕ, List, Some, IfSome, MatchResult, map, option_map, string_bytes, codes};
+ghost use Rattle.std.specs.Prelude.{◌≡◌, [], ◌∷◌, ◌++◌, ℕ, List, Some, IfSome, MatchResult, map, option_map, string_bytes, codes};
+ghost use Rattle.std.specs.Option.{option_copied};
 ghost use Rattle.json.specs.Json.{Json, value};
 ghost use Rattle.guppy_metadata.specs.Fault.{NoneIs, IsRead};
-ghost use Rattle.guppy_metadata.specs.Members.{data_of, is_among, AreTexts, IsListOf};
-ghost use Rattle.guppy_metadata.specs.Package.{AreTargets};
-ghost use Rattle.guppy_metadata.specs.Target.{IsTargetId, IsLibraryOf, IsTargetKind, IsTarget};
+ghost use Rattle.guppy_metadata.specs.Members.{data_of, is_among, AreTexts};
+ghost use Rattle.guppy_metadata.specs.Package.{AreTargets, IsLibrary};
+ghost use Rattle.guppy_metadata.specs.Target.{IsTargetId, IsLibraryOf, IsTargetKind, IsTarget, is_library_kind, IsLibraryName, IsFirstLibrary, IsLibraryAmong};
 
 use crate::fault::Misfit;
 use crate::object::Object;
@@ -123,33 +124,79 @@ pub(crate) fn build_targets(json: Object<'_, '_>) -> Result<Vec<BuildTargetRecor
     Ok(targets)
 }
 
-// The build target that the object that comes next tells.
+// Whether a target of this kind is a library.
+fn is_library_kind(kind: &str) -> bool
+    ensures { result ≡ is_library_kind kind.now }
+{
+    !(kind == "custom-build"
+        || kind == "bin"
+        || kind == "example"
+        || kind == "test"
+        || kind == "bench")
+}
+
+// The name of a target that is a library.
+fn library_name<'a>(target: Object<'_, 'a>) -> Result<Option<&'a str>, Misfit>
+    ensures { MatchResult result (λ name. IsLibraryName (data_of target.entry) (option_copied name))
+        (NoneIs (IsLibraryName (data_of target.entry))) }
+{
+    let kind = first_kind(target)?;
+    if is_library_kind(kind) {
+        Ok(Some(target.text("name")?))
+    } else {
+        Ok(None)
+    }
+}
+
+/// The name of a package's library, where it has one: the first library among the items of the list `targets`.
+pub(crate) fn first_library<'a>(json: Object<'_, 'a>) -> Result<Option<&'a str>, Misfit>
+    ensures { MatchResult result (λ name. IsLibrary (data_of json.entry) (option_copied name))
+        (NoneIs (IsLibrary (data_of json.entry))) }
+{
+    let alloc = json.alloc;
+    let items = json.list("targets")?;
+    for (index, item) in items.iter().enumerate() {
+        let target = Object::of_item(alloc, "targets", index, item)?;
+        match library_name(target) {
+            Ok(None) => {}
+            Ok(Some(name)) => return Ok(Some(name)),
+            Err(fault) => return Err(fault.within_item(alloc, "targets", index)),
+        }
+    }
+    Ok(None)
+}
+
+// The name of the library among the targets so far and the one that comes next, which is skipped where there is one.
 fn read_target<'a>(
+    library: Option<&'a str>,
     item: &mut Value<'a>,
     alloc: Global,
     reader: &mut Reader<'a>,
-) -> Option<BuildTargetRecord>
-    ensures { IfSome result (λ made. (told : Json)
-        × (value 124 reader.old ≡ Some (told, reader.new)) × IsTarget told made) }
+) -> Option<Option<&'a str>>
+    ensures { IfSome result (λ name. (told : Json) × (value 124 reader.old ≡ Some (told, reader.new))
+        × ((targets : List Json) → IsFirstLibrary targets (option_copied library.entry)
+        → IsFirstLibrary (targets ++ told ∷ []) (option_copied name))) }
 {
+    if library.is_some() {
+        reader.skip_value(MAX_DEPTH - 4).ok()?;
+        return Some(library);
+    }
     read_object(item, alloc, reader, MAX_DEPTH - 4)?;
-    build_target(Object { alloc, value: item }).ok()
+    library_name(Object { alloc, value: item }).ok()
 }
 
-/// The build targets that the list that comes next tells.
-pub(crate) fn read_targets(alloc: Global, reader: &mut Reader<'_>) -> Option<Vec<BuildTargetRecord>>
-    ensures { IfSome result (λ targets. (told : Json)
-        × (value 125 reader.old ≡ Some (told, reader.new)) × IsListOf IsTarget told targets.items) }
+/// The name of the library among the targets of the list that comes next, where there is one.
+pub(crate) fn read_library<'a>(alloc: Global, reader: &mut Reader<'a>) -> Option<Option<&'a str>>
+    ensures { IfSome result (λ name. (told : Json)
+        × (value 125 reader.old ≡ Some (told, reader.new)) × IsLibraryAmong told (option_copied name)) }
 {
     let Some(Token::BeginArray) = reader.next() else {
         return None;
     };
-    let mut targets = Vec::new(alloc);
+    let mut library = None;
     let mut item = Value::Null;
     while !reader.take_end_array() {
-        let target = read_target(&mut item, alloc, reader)?;
-        targets.push(target).ok()?;
+        library = read_target(library, &mut item, alloc, reader)?;
     }
-    targets.shrink_to_fit();
-    Some(targets)
+    Some(library)
 }

@@ -207,6 +207,7 @@ fn empty_details(package: &mut PackageRecord) {
     package.rust_version = None;
     package.named_features.clear();
     package.optional_deps.clear();
+    package.build_targets.clear();
 }
 
 fn empty_section(section: &mut DependencyReqImpl) {

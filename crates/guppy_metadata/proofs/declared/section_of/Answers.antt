@@ -1,18 +1,14 @@
-use Rattle.std.proofs.Common.{inl, inr, List, ℕ, Option, None, Some, codes}
-use Rattle.json.specs.Json.{Json}
-use Rattle.guppy_data.specs.declared.texts.dependency_kind.DependencyKind.{DependencyKind}
-use Rattle.guppy_data.specs.declared.texts.dependency_kind.DependencyKind.TheVariants.{Normal, Development, Build}
-use Rattle.guppy_metadata.specs.Dependency.{NamesSection}
-use Rattle.guppy_metadata.specs.Members.{data_of, IsText}
+use Rattle.std.specs.Option.{option_copied}
+use Rattle.guppy_metadata.specs.Members.{data_of}
 use Rattle.guppy_metadata.proofs.Refused.{refused}
+use Rattle.guppy_metadata.proofs.SectionNames.{name_told, section_told, name_has}
 use Rattle.guppy_metadata.proofs.declared.section_of.Goals as goal
 
--- a section is named by a text, or by none
-told : (d : Json) (section : DependencyKind) → NamesSection d section → (text : Option (List ℕ)) × IsText (codes "kind") d text
-told d Normal (inl is) = (None, is)
-told d Normal (inr is) = (Some (codes "normal"), is)
-told d Development is = (Some (codes "dev"), is)
-told d Build is = (Some (codes "build"), is)
+pub returns-in_err-name : goal.returns-in_err-name
+returns-in_err-name c = refused _ _ _ c.from_residual.ensures (name_told (data_of c.args.object)) c.in_err-name.ensures
 
-pub returns-in_err-optional_text : goal.returns-in_err-optional_text
-returns-in_err-optional_text c = refused _ _ _ c.from_residual.ensures (told (data_of c.args.object)) c.in_err-optional_text.ensures
+pub returns-in-Some : goal.returns-in-Some
+returns-in-Some c = section_told (data_of c.args.object) (option_copied c.in_ok-name.name) c.in_ok-name.ensures c.in-Some.section c.in-Some.ensures
+
+pub returns-in-None : goal.returns-in-None
+returns-in-None c = λ _ section is. c.in-None.ensures section (name_has (data_of c.args.object) (option_copied c.in_ok-name.name) c.in_ok-name.ensures section is)

@@ -10,7 +10,7 @@ use Rattle.guppy_metadata.proofs.link.add_link_between.Goals as goal
 
 pub returns-clause-added : goal.returns-clause-added
 returns-clause-added c =
-    let p = fits c.args.from.now c.args.resolved.now c.args.needed.now.record in
+    let p = fits c.args.from.now c.args.resolved.now c.args.needed.now in
     let rest = c.from_first_fitting-declared.result.now in
     let first = c.in-Some.first.now in
     let link = c.add_fitting.new.link in
@@ -19,7 +19,7 @@ returns-clause-added c =
     let bare = c.bare_link.ensures in
     let was : c.in_ok-link.link.now ≡ c.bare_link.result = c.in_ok-link.ensures.value in
     let same : filter p rest ≡ filter p c.args.asking.now.declared.items =
-    whole c.args.from.now c.args.resolved.now c.args.needed.now.record rest _ _ c.from_first_fitting-declared.ensures.all c.as_slice.ensures.value in
+    whole c.args.from.now c.args.resolved.now c.args.needed.now rest _ _ c.from_first_fitting-declared.ensures.all c.as_slice.ensures.value in
     let parts = picked_first p rest first c.in-Some.ensures.value c.from_first_fitting-declared.ensures.first in
     let joins : Joins c.args.from.now c.args.resolved.now.id.now c.args.resolved.now.name.now c.bare_link.result = record {
       from_is = bare.joins.from_is ∙ texts.from_is;
@@ -45,11 +45,11 @@ returns-clause-added c =
 
 pub returns-clause-matched : goal.returns-clause-matched
 returns-clause-matched c =
-    sym (matched_whole c.args.from.now c.args.resolved.now c.args.needed.now.record c.from_first_fitting-declared.result.now _ _ c.from_first_fitting-declared.ensures.all c.as_slice.ensures.value
+    sym (matched_whole c.args.from.now c.args.resolved.now c.args.needed.now c.from_first_fitting-declared.result.now _ _ c.from_first_fitting-declared.ensures.all c.as_slice.ensures.value
     c.as_slice-usages.result.now _ c.as_slice-usages.ensures.value) ∙ sym c.if-not-are_matched.ensures
 
 pub returns-then-not-are_matched-clause-refused : goal.returns-then-not-are_matched-clause-refused
 returns-then-not-are_matched-clause-refused c other link asked =
     false≢true (c.if-not-are_matched.ensures
-    ∙ (matched_whole c.args.from.now c.args.resolved.now c.args.needed.now.record c.from_first_fitting-declared.result.now _ _ c.from_first_fitting-declared.ensures.all c.as_slice.ensures.value
+    ∙ (matched_whole c.args.from.now c.args.resolved.now c.args.needed.now c.from_first_fitting-declared.result.now _ _ c.from_first_fitting-declared.ensures.all c.as_slice.ensures.value
     c.as_slice-usages.result.now _ c.as_slice-usages.ensures.value ∙ asked.1))

@@ -14,4 +14,4 @@ returns-then-position-packages c =
     let packages = c.args.packages.now in
     let k = c.in-Some.position.now in
     let p = slice_index_or packages k c.index-packages-position.result in
-    let_at packages k p _ (slice_get-get_or packages k _ c.if-position-packages.true) (record { id = refl; source = refl; record_is = refl; declared = inr c.new.ensures.items })
+    let_at packages k p _ (slice_get-get_or packages k _ c.if-position-packages.true) (record { id = refl; source = refl; library = refl; record_is = refl; declared = inr c.new.ensures.items })

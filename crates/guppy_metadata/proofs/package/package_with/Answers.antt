@@ -4,4 +4,4 @@ use Rattle.guppy_metadata.proofs.package.package_with.Goals as goal
 pub returns : goal.returns
 returns c =
     IfOk-weaker c.filled_package.result _ _
-    (λ made told d same declared targets. told d same c.in_ok-id.ensures c.in_ok-source.ensures c.in_ok-record.ensures.named c.in_ok-record.ensures.plain declared targets) c.filled_package.ensures.told
+    (λ made told d same library declared. told d same c.in_ok-id.ensures c.in_ok-source.ensures c.in_ok-record.ensures.named c.in_ok-record.ensures.plain library declared) c.filled_package.ensures.told

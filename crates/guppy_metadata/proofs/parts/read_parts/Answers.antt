@@ -1,4 +1,5 @@
 use Rattle.std.proofs.Common.{◌≡◌, ◌<◌, ◌∙◌, [], ◌∷◌, ◌++◌, Some, None, length, option_map, ap, arith}
+use Rattle.std.proofs.lemmas.Bool.{false≢true}
 use Rattle.json.specs.Token.{Token}
 use Rattle.json.specs.Json.{read_key, value}
 use Rattle.json.specs.Find.{get_member}
@@ -14,7 +15,7 @@ loop-parts-init c = (
   no_member_read 125 _,
   record {
     declared_are = tt;
-    targets_are = tt;
+    library_is = λ plain no. absurd (false≢true no);
     others_are = λ name other. ap (λ rows. get_member name (members_view rows)) c.new.ensures.items;
   },
 )

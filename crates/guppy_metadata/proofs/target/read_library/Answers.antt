@@ -1,34 +1,29 @@
-use Rattle.std.proofs.Common.{◌≡◌, ◌<◌, ◌∙◌, [], ◌∷◌, ◌++◌, Some, None, length, if◌then◌else◌, refl, sym, ap, subst, arith}
-use Rattle.std.specs.List.{AllZip}
-use Rattle.indexmap.proofs.SetLemmas.{AllZip-push}
+use Rattle.std.proofs.Common.{◌≡◌, ◌<◌, ◌∙◌, [], ◌∷◌, ◌++◌, Some, None, length, refl, ap, subst, arith}
 use Rattle.json.specs.Token.{Token}
 use Rattle.json.specs.Json.{array, after_end_array, value}
 use Rattle.json.specs.Value.{items_of}
 use Rattle.json.specs.Reads.{token_of}
-use Rattle.guppy_metadata.specs.Target.{IsTarget}
 use Rattle.guppy_metadata.proofs.Turns.{value_takes, no_item_read, item_read, list_read}
-use Rattle.guppy_metadata.proofs.target.read_targets.Goals as goal
+use Rattle.guppy_metadata.proofs.target.read_library.Goals as goal
 
 pub loop-alloc-init : goal.loop-alloc-init
-loop-alloc-init c = ([], no_item_read 124 _, subst (AllZip IsTarget []) (sym c.new-targets.ensures.items) tt)
+loop-alloc-init c = ([], no_item_read 124 _, refl)
 
 pub loop-alloc-preserved : goal.loop-alloc-preserved
 loop-alloc-preserved c =
     let l = c.loop-alloc in
     let were = l.invariant in
     let going : (after_end_array l.reader ≡ None) × (c.take_end_array.new.self ≡ l.reader) = c.loop-alloc-test.ensures in
-    let more = c.in_ok-target.ensures in
-    let items = l.targets.items ++ c.in_ok-target.target ∷ [] in
-    let pushed : c.push.new.self.items ≡ items = c.push.ensures.items ∙ ap (λ well. if well then items else l.targets.items) (sym c.in_ok-ok.ensures.variant) in (
+    let more = c.in_ok-library.ensures in (
       were.0 ++ more.0 ∷ [],
       item_read 124 _ were.0 l.reader _ more.0 were.1 going.0 (subst (λ ts. value 124 ts ≡ Some (more.0, c.read_target.new.reader)) going.1 more.1),
-      subst (AllZip IsTarget (were.0 ++ more.0 ∷ [])) (sym pushed) (AllZip-push IsTarget _ _ _ _ were.2 more.2),
+      more.2 were.0 were.2,
     )
 
 pub loop-alloc-smaller : goal.loop-alloc-smaller
 loop-alloc-smaller c =
     let going : (after_end_array c.loop-alloc.reader ≡ None) × (c.take_end_array.new.self ≡ c.loop-alloc.reader) = c.loop-alloc-test.ensures in
-    let more = c.in_ok-target.ensures in
+    let more = c.in_ok-library.ensures in
     let less : length c.read_target.new.reader < length c.loop-alloc.reader = subst (λ ts. length c.read_target.new.reader < length ts) going.1 (value_takes 124 _ _ more.0 more.1) in less
 
 pub returns : goal.returns
@@ -38,5 +33,5 @@ returns c =
     let closed : after_end_array c.loop-alloc.reader ≡ Some c.take_end_array.new.self = c.loop-alloc-test.ensures in (
       array (items_of were.0),
       ap (value 125) first ∙ list_read 125 c.next.new.self were.0 c.loop-alloc.reader _ (omega arith) were.1 closed,
-      (were.0, refl, subst (AllZip IsTarget were.0) (sym c.shrink_to_fit.ensures.items) were.2),
+      (were.0, refl, were.2),
     )
