@@ -1,5 +1,5 @@
 -- The library among build targets: one JSON tells one, and it is found target by target.
-use Rattle.std.proofs.Common.{◌≡◌, ◌∙◌, inl, inr, ℕ, zero, suc, ◌<◌, true, List, [], ◌∷◌, ◌++◌, map, take, length, get_or, Option, None, Some, IsSomeAnd, option_and_then, refl, sym, ap, subst, arith, codes}
+use Rattle.std.proofs.Common.{◌≡◌, ◌∙◌, inl, inr, ℕ, zero, suc, ◌<◌, List, [], ◌∷◌, ◌++◌, map, take, length, get_or, Option, None, Some, IsSomeAnd, option_and_then, refl, sym, ap, subst, arith, codes}
 use Rattle.std.proofs.lemmas.Bool.{false≢true}
 use Rattle.std.proofs.lemmas.Option.{none-some}
 use Rattle.json.specs.Json.{Json, string, array}
@@ -37,11 +37,6 @@ no_kinds d kind others none (inr empty) = let same : string kind ∷ map string 
 -- what has no members has no kind, so nothing is read of it
 pub no_library : (d : Json) (e : Misfit) → HasNoMembers d → NoneIs (IsLibraryName d) e
 no_library d e none other name is = let kinds = has_kinds d name is in no_kinds d kinds.0.0 kinds.0.1 (none (codes "kind")) kinds.1
-
--- a target of a library's kind has a name
-pub library_named : (d : Json) (kind : List ℕ) → HasKind d kind → is_library_kind kind ≡ true → (name : Option (List ℕ)) → IsLibraryName d name → (text : List ℕ) × (get (codes "name") d ≡ Some (string text))
-library_named d kind has library None is = absurd (false≢true (sym is.2 ∙ (ap is_library_kind (kind_once d is.0 kind is.1 has) ∙ library)))
-library_named d kind has library (Some name) is = (name, is.3)
 
 first_once : (ds : List Json) (one other : Option (List ℕ)) → IsFirstLibrary ds one → IsFirstLibrary ds other → one ≡ other
 first_once [] one other is also = is ∙ sym also
