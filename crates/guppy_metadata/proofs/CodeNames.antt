@@ -5,7 +5,7 @@ use Rattle.std.proofs.lemmas.Bool.{eqb-true, or_cases}
 use Rattle.std.proofs.lemmas.Slice.Eq.{bytes_eq-Decides}
 use Rattle.semver.proofs.Segments.{and-left, and-right}
 use Rattle.guppy_metadata.specs.declared.declared.Declared.{Declared}
-use Rattle.guppy_metadata.specs.declared.link.Resolved.{Resolved}
+use Rattle.guppy_metadata.specs.declared.resolved.Resolved.{Resolved}
 use Rattle.guppy_metadata.specs.declared.package.Package.{Package}
 use Rattle.guppy_metadata.specs.Fits.{stands_for, is_named, letter_in_code, in_code, used_name, has_name, takes, is_used, fits}
 

@@ -3,8 +3,8 @@ use Rattle.std.proofs.Common.{◌≡◌, ◌∙◌, ℕ, Bool, true, false, ◌&
 use Rattle.std.specs.List.{list_any}
 use Rattle.std.specs.Prelude.{unwrap_or}
 use Rattle.guppy_metadata.specs.declared.declared.Declared.{Declared}
-use Rattle.guppy_metadata.specs.declared.link.Resolved.{Resolved}
-use Rattle.guppy_metadata.specs.declared.link.Usage.{Usage}
+use Rattle.guppy_metadata.specs.declared.resolved.Resolved.{Resolved}
+use Rattle.guppy_metadata.specs.declared.resolved.Usage.{Usage}
 use Rattle.guppy_metadata.specs.declared.package.Package.{Package}
 use Rattle.guppy_metadata.specs.Fits.{fits, same_usage, is_matched, are_matched}
 

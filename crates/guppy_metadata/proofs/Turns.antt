@@ -1,9 +1,9 @@
 -- Lists and objects that are read a turn at a time.
-use Rattle.std.proofs.Common.{◌≡◌, ◌∙◌, ℕ, ◌-◌, ◌<◌, ◌≤◌, Bool, true, false, cond, List, [], ◌∷◌, ◌++◌, length, Option, Some, None, Result, Ok, Err, MatchResult, IfSome, refl, sym, ap, subst, arith}
+use Rattle.std.proofs.Common.{◌≡◌, ◌∙◌, ℕ, zero, suc, ◌-◌, ◌<◌, ◌≤◌, Bool, true, false, cond, List, [], ◌∷◌, ◌++◌, length, Option, Some, None, Result, Ok, Err, MatchResult, IfSome, refl, sym, ap, subst, arith}
 use Rattle.std.specs.Result.{result_ok}
 use Rattle.std.specs.Str.{bytes_eq}
 use Rattle.json.specs.Token.{Token}
-use Rattle.json.specs.Json.{Json, array, object, Items, no_items, item, Members, no_members, member, parse_map, after_end_array, read_key, items, members, value}
+use Rattle.json.specs.Json.{Json, string, array, object, Items, no_items, item, Members, no_members, member, parse_map, after_end_array, read_key, items, members, value}
 use Rattle.json.specs.Find.{later_or, get_member}
 use Rattle.json.specs.Value.{items_of}
 use Rattle.json.proofs.Grammar.{left, skip_value-shorter, value-begin_array, value-begin_object, read_key-shorter, items_end, items_more, members_end, members_more}
@@ -23,6 +23,12 @@ if_ok P R Q (Err e) o is implies holds = subst (λ o. IfSome o R) (sym is) tt
 -- a value takes at least one token
 pub value_takes : (depth : ℕ) (ts r : List Token) (j : Json) → value depth ts ≡ Some (j, r) → length r < length ts
 value_takes depth ts r j is = skip_value-shorter depth ts r (ap left is)
+
+-- a text that comes next
+pub text_read : (depth : ℕ) (text : List ℕ) (ts : List Token) → value depth (Token.string text ∷ ts) ≡ Some (string text, ts)
+unfolding value
+text_read zero text ts = refl
+text_read (suc depth) text ts = refl
 
 abbrev pub items_onto : List Json → Items → Items
 items_onto [] rest = rest

@@ -8,8 +8,8 @@ use Rattle.semver.specs.Eval.{matches_all}
 use Rattle.semver.specs.declared.Version.{Version}
 use Rattle.semver.specs.declared.VersionReq.{VersionReq}
 use Rattle.guppy_metadata.specs.declared.declared.Declared.{Declared}
-use Rattle.guppy_metadata.specs.declared.link.Resolved.{Resolved}
-use Rattle.guppy_metadata.specs.declared.link.Usage.{Usage}
+use Rattle.guppy_metadata.specs.declared.resolved.Resolved.{Resolved}
+use Rattle.guppy_metadata.specs.declared.resolved.Usage.{Usage}
 use Rattle.guppy_metadata.specs.declared.package.Package.{Package}
 use Rattle.guppy_metadata.specs.Gathered.{same_section}
 

@@ -12,6 +12,7 @@ pub mod Parts
 pub mod Path
 pub mod PathText
 pub mod Records
+pub mod Resolved
 pub mod Table
 pub mod Target
 pub mod Told

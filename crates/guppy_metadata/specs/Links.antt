@@ -2,18 +2,18 @@
 use Rattle.std.specs.Prelude.{◌≡◌, ℕ, Bool, true, List, [], Option, Some, None, IsSomeAnd, option_and_then, filter, string_bytes, codes}
 use Rattle.std.specs.List.{AllZip, flat_map}
 use Rattle.std.specs.Option.{option_copied}
-use Rattle.json.specs.Json.{Json, Members, string, array, object}
+use Rattle.json.specs.Json.{Json, string, array}
 use Rattle.json.specs.Find.{get}
 use Rattle.json.specs.Value.{items_of}
 use Rattle.guppy_data.specs.declared.records.LinkRecord.{LinkRecord}
 use Rattle.guppy_metadata.specs.declared.link.LinkTexts.{LinkTexts}
-use Rattle.guppy_metadata.specs.declared.link.Resolved.{Resolved}
-use Rattle.guppy_metadata.specs.declared.link.Usage.{Usage}
+use Rattle.guppy_metadata.specs.declared.resolved.Resolved.{Resolved}
+use Rattle.guppy_metadata.specs.declared.resolved.Usage.{Usage}
 use Rattle.guppy_metadata.specs.declared.package.Package.{Package}
 use Rattle.guppy_metadata.specs.Dependency.{NamesSection}
 use Rattle.guppy_metadata.specs.Fits.{fits, are_matched}
 use Rattle.guppy_metadata.specs.Gathered.{IsGathered, IsLinkOf}
-use Rattle.guppy_metadata.specs.Members.{IsText, IsListOf}
+use Rattle.guppy_metadata.specs.Members.{IsObject, IsText, IsListOf}
 use Rattle.guppy_metadata.specs.Package.{AreTold, with_id}
 
 -- the link leads from one ID to another, and has this name in the code
@@ -31,7 +31,7 @@ pub record HasTexts (from : List ℕ) (resolved : Resolved) (dep_name : List ℕ
 
 -- a section and the platforms that a dependency is used for
 pub record IsUsage (d : Json) (x : Usage) : Type 0 where
-  pub is_object : (members : Members) × (d ≡ object members)
+  pub is_object : IsObject d
   pub section : NamesSection d x.section
   pub target : IsText (codes "target") d (option_copied x.target)
 

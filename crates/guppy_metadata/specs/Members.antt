@@ -4,7 +4,7 @@ use Rattle.std.specs.Borrow.{Bor}
 use Rattle.std.specs.List.{AllZip, list_any, list_all}
 use Rattle.std.specs.Str.{bytes_eq}
 use Rattle.indexmap.specs.IndexSet.{IndexSet, contains_by}
-use Rattle.json.specs.Json.{Json, null, boolean, number, string, array, object}
+use Rattle.json.specs.Json.{Json, Members, null, boolean, number, string, array, object}
 use Rattle.json.specs.Find.{get}
 use Rattle.json.specs.Value.{value_view, items_of}
 use Rattle.guppy_metadata.specs.declared.object.Object.{Object}
@@ -20,6 +20,9 @@ unless_null (number n) = Some (number n)
 unless_null (string s) = Some (string s)
 unless_null (array ds) = Some (array ds)
 unless_null (object ms) = Some (object ms)
+
+abbrev pub IsObject : Json → Type 0
+IsObject d = (members : Members) × (d ≡ object members)
 
 -- it is no object, or one without members
 abbrev pub HasNoMembers : Json → Type 0

@@ -5,7 +5,7 @@ ghost use Rattle.std.specs.Str.{bytes_eq};
 ghost use Rattle.json.specs.Json.{Json, null, value};
 ghost use Rattle.json.specs.Value.{value_view};
 ghost use Rattle.guppy_metadata.specs.Asked.{AreValuesOf, IsNameAt, IsTextIn, IsTruthIn, are_distinct};
-ghost use Rattle.guppy_metadata.specs.Members.{is_among};
+ghost use Rattle.guppy_metadata.specs.Members.{IsObject, is_among};
 ghost use Rattle.guppy_metadata.specs.Told.{IsWith};
 
 use json::{Reader, Token, Value};
@@ -80,7 +80,7 @@ pub(crate) fn read_asked<'a>(
     requires as_many { length values.old ≡ length names.now }
     requires distinct { are_distinct (map (λ n. n.now) names.now) ≡ true }
     ensures { OnSome result ((told : Json) × (value depth reader.old ≡ Some (told, reader.new))
-        × AreValuesOf told (map (λ n. n.now) names.now) values.new) }
+        × IsObject told × AreValuesOf told (map (λ n. n.now) names.now) values.new) }
 {
     let Some(Token::BeginObject) = reader.next() else {
         return None;

@@ -68,8 +68,8 @@ impl<'a> Declared<'a> {
     }
 }
 
-// The section of this name; the normal one where there is none.
-fn section_named(name: Option<&str>) -> Option<DependencyKind>
+/// The section of this name; the normal one where there is none.
+pub(crate) fn section_named(name: Option<&str>) -> Option<DependencyKind>
     ensures { MatchOption result ((section : DependencyKind) → ¬ HasName (option_copied name.entry) section)
         (HasName (option_copied name.entry)) }
 {

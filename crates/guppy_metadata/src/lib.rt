@@ -14,6 +14,7 @@
 //! - `workspace`: the workspace and its members;
 //! - `package`: packages;
 //! - `parts`: a package, read member by member;
+//! - `resolved`: dependencies as they are resolved;
 //! - `link`: links, of what is declared and what is resolved;
 //! - `node`: the links of a node, read member by member;
 //! - `told`: the packages and the links, read item by item;
@@ -34,6 +35,7 @@ mod parts;
 mod path;
 mod read;
 mod records;
+mod resolved;
 mod table;
 mod target;
 mod told;

@@ -16,17 +16,17 @@ ghost use Rattle.guppy_metadata.specs.Links.{HasTexts, Joins, IsUsage, AreUsages
 ghost use Rattle.guppy_metadata.specs.Members.{data_of, IsListOf};
 ghost use Rattle.guppy_metadata.specs.Package.{with_id, ArePositions};
 
-use crate::declared::{Declared, section_of};
-use crate::fault::{Kind, Misfit, TextFault};
+use crate::declared::Declared;
+use crate::fault::{Misfit, TextFault};
 use crate::object::{Object, optional_copy};
 use crate::package::Package;
-use crate::read::read_object;
+use crate::resolved::{Resolved, Usage, read_resolved, resolved_of};
 use guppy_data::{
     DepRequiredOrOptional, DependencyKind, DependencyReqImpl, LinkRecord, PackageId,
     PlatformStatusImpl, TargetSpec, Utf8PathBuf,
 };
 use indexmap::IndexMap;
-use json::{MAX_DEPTH, Reader, Token, Value};
+use json::{Reader, Token, Value};
 use semver::VersionReq;
 use std::alloc::{AllocError, Global};
 use std::collections::BTreeMap;
@@ -51,61 +51,6 @@ impl<'p, 'a> Packages<'p, 'a> {
         let position = self.positions.get(id)?;
         self.packages.get(*position)
     }
-}
-
-// A section and the platforms that a resolved dependency is used for.
-#[derive(Clone, Copy)]
-struct Usage<'a> {
-    section: DependencyKind,
-    target: Option<&'a str>,
-}
-
-// A resolved dependency.
-#[derive(Drop)]
-struct Resolved<'a> {
-    name: &'a str,
-    id: &'a str,
-    usages: Vec<Usage<'a>>,
-}
-
-fn usage_of<'a>(alloc: Global, item: &Value<'a>) -> Result<Usage<'a>, Misfit>
-    ensures { IsRead (IsUsage (value_view item.now)) result }
-{
-    let Value::Object(_) = item else {
-        return Err(Misfit::wrong_kind(alloc, "", Kind::Object));
-    };
-    let usage = Object { alloc, value: item };
-    Ok(Usage {
-        section: section_of(usage)?,
-        target: usage.optional_text("target")?,
-    })
-}
-
-// The usages of a dependency: the items of the list `dep_kinds`.
-fn usages_of<'a>(dependency: Object<'_, 'a>) -> Result<Vec<Usage<'a>>, Misfit>
-    ensures { MatchResult result (λ usages. AreUsages (data_of dependency.entry) usages.items)
-        (NoneIs (AreUsages (data_of dependency.entry))) }
-{
-    let alloc = dependency.alloc;
-    let items = dependency.list("dep_kinds")?;
-    let mut usages = Vec::with_capacity(alloc, items.len())?;
-    for (index, item) in items.iter().enumerate() {
-        match usage_of(alloc, item) {
-            Ok(usage) => usages.push(usage)?,
-            Err(fault) => return Err(fault.within_item(alloc, "dep_kinds", index)),
-        }
-    }
-    Ok(usages)
-}
-
-fn resolved_of<'a>(dependency: Object<'_, 'a>) -> Result<Resolved<'a>, Misfit>
-    ensures { IsRead (IsResolved (data_of dependency.entry)) result }
-{
-    Ok(Resolved {
-        name: dependency.text("name")?,
-        id: dependency.text("pkg")?,
-        usages: usages_of(dependency)?,
-    })
 }
 
 // Whether a letter of a name stands for this one in the code, as `-` does for `_`.
@@ -508,8 +453,33 @@ fn unasked_link(
     Ok(bare_link(alloc, texts, any))
 }
 
-// Adds the link from the package with this ID, which is the one that asks. Where one of its ends is no package,
-// which the package graph refuses, it is asked for in no section.
+// Adds the link of a resolved dependency from the package with this ID, which is the one that asks. Where one of its ends
+// is no package, which the package graph refuses, it is asked for in no section.
+fn add_resolved(
+    links: &mut Vec<LinkRecord>,
+    alloc: Global,
+    packages: Packages<'_, '_>,
+    from: &str,
+    asking: Option<&Package<'_>>,
+    resolved: &Resolved<'_>,
+) -> Result<(), Misfit>
+    requires positions { ArePositions packages.packages.now packages.positions.now }
+    requires asking { option_copied asking ≡ with_id from.now packages.packages.now }
+    ensures added { OnOk result ((link : LinkRecord) × (links.new.items ≡ links.old.items ++ link ∷ [])
+        × ((d : Json) → IsResolved d resolved.now → IsLink packages.entry.packages.now from.now d link)) }
+    ensures refused { IfErr result (NoneIs (λ (link : LinkRecord). (d : Json) × IsResolved d resolved.now
+        × IsLink packages.entry.packages.now from.now d link)) }
+{
+    let Some(asking) = asking else {
+        return Ok(links.push(unasked_link(alloc, from, resolved)?)?);
+    };
+    let Some(needed) = packages.with_id(resolved.id) else {
+        return Ok(links.push(unasked_link(alloc, from, resolved)?)?);
+    };
+    Ok(add_link_between(links, alloc, from, resolved, asking, needed)?)
+}
+
+// Adds the link from the package with this ID, which is the one that asks, that an object tells.
 fn add_link(
     links: &mut Vec<LinkRecord>,
     packages: Packages<'_, '_>,
@@ -524,15 +494,8 @@ fn add_link(
     ensures refused { IfErr result
         (NoneIs (IsLink packages.entry.packages.now from.now (data_of dependency.entry))) }
 {
-    let alloc = dependency.alloc;
     let resolved = resolved_of(dependency)?;
-    let Some(asking) = asking else {
-        return Ok(links.push(unasked_link(alloc, from, &resolved)?)?);
-    };
-    let Some(needed) = packages.with_id(resolved.id) else {
-        return Ok(links.push(unasked_link(alloc, from, &resolved)?)?);
-    };
-    Ok(add_link_between(links, alloc, from, &resolved, asking, needed)?)
+    add_resolved(links, dependency.alloc, packages, from, asking, &resolved)
 }
 
 // Adds the links of a node from the package with this ID: the items of the list `deps`.
@@ -561,10 +524,9 @@ fn add_links(
 }
 
 // Adds the link from the package with this ID, which is the one that asks, that the object that comes next tells.
-fn read_link<'a>(
-    item: &mut Value<'a>,
+fn read_link(
     links: &mut Vec<LinkRecord>,
-    reader: &mut Reader<'a>,
+    reader: &mut Reader<'_>,
     packages: Packages<'_, '_>,
     from: &str,
     asking: Option<&Package<'_>>,
@@ -576,9 +538,8 @@ fn read_link<'a>(
         × IsLink packages.entry.packages.now from.now told link) }
 {
     let alloc = *links.allocator();
-    read_object(item, alloc, reader, MAX_DEPTH - 5)?;
-    let dependency = Object { alloc, value: item };
-    add_link(links, packages, from, asking, dependency).ok()
+    let resolved = read_resolved(alloc, reader)?;
+    add_resolved(links, alloc, packages, from, asking, &resolved).ok()
 }
 
 /// Adds the links from the package with this ID that the list that comes next tells.
@@ -597,9 +558,8 @@ pub(crate) fn read_links(
         return None;
     };
     let asking = packages.with_id(from);
-    let mut item = Value::Null;
     while !reader.take_end_array() {
-        read_link(&mut item, links, reader, packages, from, asking)?;
+        read_link(links, reader, packages, from, asking)?;
     }
     Some(())
 }

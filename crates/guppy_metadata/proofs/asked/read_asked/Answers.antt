@@ -1,11 +1,11 @@
-use Rattle.std.proofs.Common.{◌≡◌, ◌<◌, ◌-◌, ◌∙◌, [], ◌∷◌, ◌++◌, Some, None, length, option_map, sym, ap, arith}
+use Rattle.std.proofs.Common.{◌≡◌, ◌<◌, ◌-◌, ◌∙◌, [], ◌∷◌, ◌++◌, Some, None, length, option_map, refl, sym, ap, arith}
 use Rattle.std.proofs.lemmas.List.{length-map}
 use Rattle.json.specs.Token.{Token}
-use Rattle.json.specs.Json.{read_key, value}
+use Rattle.json.specs.Json.{no_members, read_key, value}
 use Rattle.json.specs.Reads.{token_of}
 use Rattle.json.proofs.Grammar.{read_key-shorter}
 use Rattle.guppy_metadata.proofs.AskedValues.{none_told}
-use Rattle.guppy_metadata.proofs.Turns.{of_ok, value_takes, no_member_read, member_read, object_of, object_read, object_with}
+use Rattle.guppy_metadata.proofs.Turns.{of_ok, value_takes, no_member_read, member_read, members_onto, object_of, object_read, object_with}
 use Rattle.guppy_metadata.proofs.asked.read_asked.Goals as goal
 
 pub loop-name-init : goal.loop-name-init
@@ -43,5 +43,6 @@ returns c =
     let closed : read_key l.reader ≡ Some (None, r) = of_ok _ _ c.next_key.result _ c.in_ok-name.ensures.value c.next_key.ensures.value ∙ ap (λ k. Some (option_map (λ s. s.now) k, r)) c.in_default-2.is in (
       object_of were.0,
       ap (value c.args.depth) first ∙ object_read c.args.depth c.next.new.self were.0 l.reader r c.requires.deep were.1 closed,
+      (members_onto were.0 no_members, refl),
       were.2,
     )

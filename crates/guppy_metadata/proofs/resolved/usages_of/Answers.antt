@@ -6,7 +6,7 @@ use Rattle.guppy_metadata.specs.Members.{data_of}
 use Rattle.guppy_metadata.proofs.FittingLists.{next_fits, whole_list}
 use Rattle.guppy_metadata.proofs.Refused.{failed, lacking}
 use Rattle.guppy_metadata.proofs.WrongItems.{item_refused}
-use Rattle.guppy_metadata.proofs.link.usages_of.Goals as goal
+use Rattle.guppy_metadata.proofs.resolved.usages_of.Goals as goal
 
 pub loop-index-preserved : goal.loop-index-preserved
 loop-index-preserved c =

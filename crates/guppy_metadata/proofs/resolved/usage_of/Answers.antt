@@ -2,7 +2,7 @@ use Rattle.std.proofs.Common.{◌∙◌, ap}
 use Rattle.json.specs.Value.{value_view, members_view}
 use Rattle.json.proofs.Trees.{view-Object}
 use Rattle.guppy_metadata.proofs.Refused.{refused}
-use Rattle.guppy_metadata.proofs.link.usage_of.Goals as goal
+use Rattle.guppy_metadata.proofs.resolved.usage_of.Goals as goal
 
 pub returns-in_err-section_of : goal.returns-in_err-section_of
 returns-in_err-section_of c = refused _ _ _ c.from_residual.ensures (λ x holds. (x.section, holds.section)) c.in_err-section_of.ensures
