@@ -1,5 +1,6 @@
 # Read by guppy-run, guppy-cargo, prove and install. Before it is read, here is the repository's folder, and name what
 # stands before each message.
+. "$here/scripts/start.sh"
 
 # Ends with status 3: nothing was run.
 fail() {
@@ -50,7 +51,7 @@ is_proved() {
 run_program() {
     top=$1
     shift
-    ! is_proved "$top" || exec "$here/crates/$top/out/$top" "$@"
+    ! is_proved "$top" || start "$here/crates/$top/out/$top" "$@"
     try_program "$@"
 }
 

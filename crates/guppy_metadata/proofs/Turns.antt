@@ -1,11 +1,17 @@
 -- Lists and objects that are read a turn at a time.
 use Rattle.std.proofs.Common.{◌≡◌, ◌∙◌, ℕ, zero, suc, ◌-◌, ◌<◌, ◌≤◌, Bool, true, false, cond, List, [], ◌∷◌, ◌++◌, length, Option, Some, None, Result, Ok, Err, MatchResult, IfSome, refl, sym, ap, subst, arith}
+use Rattle.std.specs.Prelude.{option_map}
+use Rattle.std.specs.Borrow.{Bor}
 use Rattle.std.specs.Result.{result_ok}
 use Rattle.std.specs.Str.{bytes_eq}
 use Rattle.json.specs.Token.{Token}
 use Rattle.json.specs.Json.{Json, string, array, object, Items, no_items, item, Members, no_members, member, parse_map, after_end_array, read_key, items, members, value}
 use Rattle.json.specs.Find.{later_or, get_member}
+use Rattle.json.specs.Reads.{token_of}
 use Rattle.json.specs.Value.{items_of}
+use Rattle.json.specs.declared.reader.Invalid.{Invalid}
+use Rattle.json.specs.declared.token.Token.{Token as Lexeme}
+use Rattle.json.specs.declared.token.Token.TheVariants.{BeginArray, BeginObject}
 use Rattle.json.proofs.Grammar.{left, skip_value-shorter, value-begin_array, value-begin_object, read_key-shorter, items_end, items_more, members_end, members_more}
 use Rattle.json.proofs.Trees.{none_before}
 use Rattle.guppy_metadata.specs.Told.{IsWith}
@@ -138,3 +144,33 @@ found_behind (row ∷ rows) k j name =
 -- what is found in the object of these members and one behind them
 pub object_with : (rows : List (List ℕ × Json)) (k : List ℕ) (j : Json) → IsWith k j (object_of rows) (object_of (rows ++ (k, j) ∷ []))
 object_with rows k j name = found_behind rows k j name
+
+-- an item that was read behind a look for the bracket
+pub next_read : (depth : ℕ) (start : List Token) (js : List Json) (ts same r : List Token) (j : Json) → ItemsRead depth start js ts → (after_end_array ts ≡ None) × (same ≡ ts) → value depth same ≡ Some (j, r)
+    → ItemsRead depth start (js ++ j ∷ []) r
+next_read depth start js ts same r j read going is = item_read depth start js ts r j read going.0 (subst (λ ts. value depth ts ≡ Some (j, r)) going.1 is)
+
+-- it takes tokens
+pub item_takes : (depth : ℕ) (ts same r : List Token) (j : Json) → (after_end_array ts ≡ None) × (same ≡ ts) → value depth same ≡ Some (j, r) → length r < length ts
+item_takes depth ts same r j going is = subst (λ ts. length r < length ts) going.1 (value_takes depth same r j is)
+
+-- the whole list, from its bracket
+pub list_told : (depth : ℕ) (old start : List Token) (first : Lexeme) (js : List Json) (ts r : List Token) → 0 < depth → old ≡ token_of first ∷ start → first ≡ BeginArray → ItemsRead (depth - 1) start js ts
+    → after_end_array ts ≡ Some r → value depth old ≡ Some (array (items_of js), r)
+list_told depth old start first js ts r deep begins is read closed =
+    ap (value depth) (begins ∙ ap (λ token. token_of token ∷ start) is) ∙ list_read depth start js ts r deep read closed
+
+-- the key that was found
+pub key_found : (ts s : List Token) (r : Result (Option (Bor (List ℕ))) Invalid) (found name : Option (Bor (List ℕ))) → Some found ≡ result_ok r
+    → MatchResult r (λ k. read_key ts ≡ Some (option_map (λ s. s.now) k, s)) (λ _. read_key ts ≡ None) → found ≡ name → read_key ts ≡ Some (option_map (λ s. s.now) name, s)
+key_found ts s r found name is holds same = of_ok _ _ r found is holds ∙ ap (λ k. Some (option_map (λ s. s.now) k, s)) same
+
+-- a member takes tokens
+pub member_takes : (depth : ℕ) (ts s r : List Token) (k : Option (List ℕ)) (j : Json) → read_key ts ≡ Some (k, s) → value depth s ≡ Some (j, r) → length r < length ts
+member_takes depth ts s r k j key is = omega (arith, value_takes depth s r j is, read_key-shorter ts k s key)
+
+-- the whole object, from its brace
+pub object_told : (depth : ℕ) (old start : List Token) (first : Lexeme) (rows : List (List ℕ × Json)) (ts r : List Token) → 0 < depth → old ≡ token_of first ∷ start → first ≡ BeginObject
+    → MembersRead (depth - 1) start rows ts → read_key ts ≡ Some (None, r) → value depth old ≡ Some (object_of rows, r)
+object_told depth old start first rows ts r deep begins is read closed =
+    ap (value depth) (begins ∙ ap (λ token. token_of token ∷ start) is) ∙ object_read depth start rows ts r deep read closed

@@ -58,7 +58,7 @@ fn read_member<'a>(
 }
 
 // Puts null in place of each value.
-fn let_go(values: &mut [Value<'_>])
+fn clear(values: &mut [Value<'_>])
     ensures { All (λ value. value_view value ≡ null) values.new }
 {
     for value in values.iter_mut() {
@@ -85,7 +85,7 @@ pub(crate) fn read_asked<'a>(
     let Some(Token::BeginObject) = reader.next() else {
         return None;
     };
-    let_go(values);
+    clear(values);
     let mut likely = 0;
     while let Some(name) = reader.next_key().ok()? {
         likely = read_member(values, names, alloc, reader, depth - 1, name, likely)?;

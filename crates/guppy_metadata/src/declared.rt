@@ -1,5 +1,5 @@
 //! A dependency as a package declares it.
-ghost use Rattle.std.specs.Prelude.{◌≡◌, ◌≢◌, false, Some, map, length, unwrap_or, IfOk, IfSome, MatchOption, MatchResult};
+ghost use Rattle.std.specs.Prelude.{◌≡◌, false, Some, map, length, unwrap_or, IfOk, IfSome, MatchOption, MatchResult};
 ghost use Rattle.std.specs.Option.{option_copied};
 ghost use Rattle.json.specs.Json.{Json, value};
 ghost use Rattle.guppy_data.specs.declared.texts.dependency_kind.DependencyKind.{DependencyKind};
@@ -96,7 +96,7 @@ pub(crate) fn section_of(object: Object<'_, '_>) -> Result<DependencyKind, Misfi
 }
 
 // The features that are asked for.
-fn features_of<'a>(dependency: Object<'_, 'a>, details: bool) -> Result<Vec<&'a str>, Misfit>
+fn asked_features<'a>(dependency: Object<'_, 'a>, details: bool) -> Result<Vec<&'a str>, Misfit>
     ensures { MatchResult result
         (λ features. AreAsked details (data_of dependency.entry) (map (λ text. text.now) features.items))
         (NoneIs (AreAsked details (data_of dependency.entry))) }
@@ -120,7 +120,7 @@ fn declared_of<'a>(dependency: Object<'_, 'a>, details: bool) -> Result<Declared
     let default_features = dependency.boolean("uses_default_features", true)?;
     let registry = dependency.optional_text("registry")?;
     let path = dependency.optional_text("path")?;
-    let features = features_of(dependency, details)?;
+    let features = asked_features(dependency, details)?;
     let requirement = requirement_of(dependency.alloc, "req", text)?;
     Ok(Declared {
         name,

@@ -9,10 +9,10 @@ ghost use Rattle.semver.specs.Identifiers.{comparator_view};
 ghost use Rattle.json.specs.Json.{Json, value};
 ghost use Rattle.json.specs.Value.{value_view};
 ghost use Rattle.guppy_metadata.specs.declared.declared.Declared.{Declared};
-ghost use Rattle.guppy_metadata.specs.Fault.{NoneIs, IsRead};
+ghost use Rattle.guppy_metadata.specs.Fault.{NoneIs};
 ghost use Rattle.guppy_metadata.specs.Fits.{stands_for, is_named, has_name, same_usage, is_used, fits, is_matched, are_matched};
 ghost use Rattle.guppy_metadata.specs.Gathered.{status_at, asked_too, asks_for, IsSection, IsGathered, IsNamedAs, IsLinkOf};
-ghost use Rattle.guppy_metadata.specs.Links.{HasTexts, Joins, IsUsage, AreUsages, IsResolved, IsUnasked, IsLink, AreLinksFrom, AreLinksOf, AreLinksOfAll};
+ghost use Rattle.guppy_metadata.specs.Links.{HasTexts, Joins, IsResolved, IsUnasked, IsLink, AreLinksFrom, AreLinksOf, AreLinksOfAll};
 ghost use Rattle.guppy_metadata.specs.Members.{data_of, IsListOf};
 ghost use Rattle.guppy_metadata.specs.Package.{with_id, ArePositions};
 

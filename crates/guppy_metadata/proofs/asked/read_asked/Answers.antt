@@ -1,23 +1,17 @@
-use Rattle.std.proofs.Common.{◌≡◌, ◌<◌, ◌-◌, ◌∙◌, [], ◌∷◌, ◌++◌, Some, None, length, option_map, refl, sym, ap, arith}
+use Rattle.std.proofs.Common.{◌≡◌, ◌-◌, ◌∙◌, [], ◌∷◌, ◌++◌, Some, None, length, refl, sym, arith}
 use Rattle.std.proofs.lemmas.List.{length-map}
-use Rattle.json.specs.Token.{Token}
-use Rattle.json.specs.Json.{no_members, read_key, value}
-use Rattle.json.specs.Reads.{token_of}
-use Rattle.json.proofs.Grammar.{read_key-shorter}
+use Rattle.json.specs.Json.{no_members}
 use Rattle.guppy_metadata.proofs.AskedValues.{none_told}
-use Rattle.guppy_metadata.proofs.Turns.{of_ok, value_takes, no_member_read, member_read, members_onto, object_of, object_read, object_with}
+use Rattle.guppy_metadata.proofs.Turns.{key_found, member_takes, no_member_read, member_read, members_onto, object_of, object_told, object_with}
 use Rattle.guppy_metadata.proofs.asked.read_asked.Goals as goal
 
 pub loop-name-init : goal.loop-name-init
-loop-name-init c = ([], no_member_read (c.args.depth - 1) _, none_told _ _ (let as_many : length c.let_go.new.values ≡ length c.args.names.now = omega (arith, c.requires.as_many) in as_many ∙ sym (length-map c.args.names.now (λ n. n.now))) c.let_go.ensures)
+loop-name-init c = ([], no_member_read (c.args.depth - 1) _, none_told _ _ (let as_many : length c.clear.new.values ≡ length c.args.names.now = omega (arith, c.requires.as_many) in as_many ∙ sym (length-map c.args.names.now (λ n. n.now))) c.clear.ensures)
 
 pub loop-name-smaller : goal.loop-name-smaller
 loop-name-smaller c =
-    let s = c.next_key.new.self in
-    let key : read_key c.loop-name.reader ≡ Some (Some c.in-Some.name.now, s) =
-    of_ok _ _ c.next_key.result _ c.in_ok-name.ensures.value c.next_key.ensures.value ∙ ap (λ k. Some (option_map (λ s. s.now) k, s)) c.in-Some.is in
     let more = c.in_ok-likely.ensures in
-    let less : length c.read_member.new.reader < length c.loop-name.reader = omega (arith, value_takes (c.args.depth - 1) s _ more.0 more.1, read_key-shorter _ _ s key) in less
+    member_takes (c.args.depth - 1) c.loop-name.reader _ _ (Some c.in-Some.name.now) more.0 (key_found _ _ _ _ (Some c.in-Some.name) c.in_ok-name.ensures.value c.next_key.ensures.value c.in-Some.is) more.1
 
 pub loop-name-preserved : goal.loop-name-preserved
 loop-name-preserved c =
@@ -26,7 +20,7 @@ loop-name-preserved c =
     let d = c.args.depth - 1 in
     let k = c.in-Some.name.now in
     let s = c.next_key.new.self in
-    let key : read_key l.reader ≡ Some (Some k, s) = of_ok _ _ c.next_key.result _ c.in_ok-name.ensures.value c.next_key.ensures.value ∙ ap (λ k. Some (option_map (λ s. s.now) k, s)) c.in-Some.is in
+    let key = key_found _ _ _ _ (Some c.in-Some.name) c.in_ok-name.ensures.value c.next_key.ensures.value c.in-Some.is in
     let more = c.in_ok-likely.ensures in
     let rows = were.0 ++ (k, more.0) ∷ [] in (
       rows,
@@ -39,10 +33,9 @@ returns c =
     let l = c.loop-name in
     let were = l.invariant in
     let r = c.next_key.new.self in
-    let first : c.args.reader.now ≡ Token.begin_object ∷ c.next.new.self = c.in-Some-BeginObject.ensures.value ∙ ap (λ token. token_of token ∷ c.next.new.self) c.in-Some-BeginObject.field-0-is in
-    let closed : read_key l.reader ≡ Some (None, r) = of_ok _ _ c.next_key.result _ c.in_ok-name.ensures.value c.next_key.ensures.value ∙ ap (λ k. Some (option_map (λ s. s.now) k, r)) c.in_default-2.is in (
+    let closed = key_found _ _ _ _ None c.in_ok-name.ensures.value c.next_key.ensures.value c.in_default-2.is in (
       object_of were.0,
-      ap (value c.args.depth) first ∙ object_read c.args.depth c.next.new.self were.0 l.reader r c.requires.deep were.1 closed,
+      object_told c.args.depth _ c.next.new.self _ were.0 l.reader r c.requires.deep c.in-Some-BeginObject.ensures.value c.in-Some-BeginObject.field-0-is were.1 closed,
       (members_onto were.0 no_members, refl),
       were.2,
     )

@@ -1,12 +1,10 @@
-use Rattle.std.proofs.Common.{◌≡◌, ◌<◌, ◌∙◌, [], ◌∷◌, ◌++◌, Some, None, length, if◌then◌else◌, refl, sym, ap, subst, arith}
+use Rattle.std.proofs.Common.{◌≡◌, ◌∙◌, [], ◌∷◌, ◌++◌, if◌then◌else◌, refl, sym, ap, subst, arith}
 use Rattle.std.specs.List.{AllZip}
 use Rattle.indexmap.proofs.SetLemmas.{AllZip-push}
-use Rattle.json.specs.Token.{Token}
-use Rattle.json.specs.Json.{array, after_end_array, value}
+use Rattle.json.specs.Json.{array}
 use Rattle.json.specs.Value.{items_of}
-use Rattle.json.specs.Reads.{token_of}
 use Rattle.guppy_metadata.specs.Dependency.{IsDeclared}
-use Rattle.guppy_metadata.proofs.Turns.{value_takes, no_item_read, item_read, list_read}
+use Rattle.guppy_metadata.proofs.Turns.{no_item_read, next_read, item_takes, list_told}
 use Rattle.guppy_metadata.proofs.declared.read_dependencies.Goals as goal
 
 pub loop-alloc-init : goal.loop-alloc-init
@@ -16,27 +14,23 @@ pub loop-alloc-preserved : goal.loop-alloc-preserved
 loop-alloc-preserved c =
     let l = c.loop-alloc in
     let were = l.invariant in
-    let going : (after_end_array l.reader ≡ None) × (c.take_end_array.new.self ≡ l.reader) = c.loop-alloc-test.ensures in
     let more = c.in_ok-dependency.ensures in
     let items = l.declared.items ++ c.in_ok-dependency.dependency ∷ [] in
     let pushed : c.push.new.self.items ≡ items = c.push.ensures.items ∙ ap (λ well. if well then items else l.declared.items) (sym c.in_ok-ok.ensures.variant) in (
       were.0 ++ more.0 ∷ [],
-      item_read 124 _ were.0 l.reader _ more.0 were.1 going.0 (subst (λ ts. value 124 ts ≡ Some (more.0, c.read_dependency.new.reader)) going.1 more.1),
+      next_read 124 _ were.0 l.reader _ _ more.0 were.1 c.loop-alloc-test.ensures more.1,
       subst (AllZip (IsDeclared c.args.details) (were.0 ++ more.0 ∷ [])) (sym pushed) (AllZip-push (IsDeclared c.args.details) _ _ _ _ were.2 more.2),
     )
 
 pub loop-alloc-smaller : goal.loop-alloc-smaller
 loop-alloc-smaller c =
-    let going : (after_end_array c.loop-alloc.reader ≡ None) × (c.take_end_array.new.self ≡ c.loop-alloc.reader) = c.loop-alloc-test.ensures in
     let more = c.in_ok-dependency.ensures in
-    let less : length c.read_dependency.new.reader < length c.loop-alloc.reader = subst (λ ts. length c.read_dependency.new.reader < length ts) going.1 (value_takes 124 _ _ more.0 more.1) in less
+    item_takes 124 c.loop-alloc.reader _ _ more.0 c.loop-alloc-test.ensures more.1
 
 pub returns : goal.returns
 returns c =
-    let were = c.loop-alloc.invariant in
-    let first : c.args.reader.now ≡ Token.begin_array ∷ c.next.new.self = c.in-Some-BeginArray.ensures.value ∙ ap (λ token. token_of token ∷ c.next.new.self) c.in-Some-BeginArray.field-0-is in
-    let closed : after_end_array c.loop-alloc.reader ≡ Some c.take_end_array.new.self = c.loop-alloc-test.ensures in (
+    let were = c.loop-alloc.invariant in (
       array (items_of were.0),
-      ap (value 125) first ∙ list_read 125 c.next.new.self were.0 c.loop-alloc.reader _ (omega arith) were.1 closed,
+      list_told 125 _ c.next.new.self _ were.0 c.loop-alloc.reader _ (omega arith) c.in-Some-BeginArray.ensures.value c.in-Some-BeginArray.field-0-is were.1 c.loop-alloc-test.ensures,
       (were.0, refl, subst (AllZip (IsDeclared c.args.details) were.0) (sym c.shrink_to_fit.ensures.items) were.2),
     )

@@ -1,9 +1,7 @@
-use Rattle.std.proofs.Common.{◌≡◌, ◌<◌, ◌∙◌, [], ◌∷◌, ◌++◌, Some, None, length, refl, ap, subst, arith}
-use Rattle.json.specs.Token.{Token}
-use Rattle.json.specs.Json.{array, after_end_array, value}
+use Rattle.std.proofs.Common.{[], ◌∷◌, ◌++◌, refl, arith}
+use Rattle.json.specs.Json.{array}
 use Rattle.json.specs.Value.{items_of}
-use Rattle.json.specs.Reads.{token_of}
-use Rattle.guppy_metadata.proofs.Turns.{value_takes, no_item_read, item_read, list_read}
+use Rattle.guppy_metadata.proofs.Turns.{no_item_read, next_read, item_takes, list_told}
 use Rattle.guppy_metadata.proofs.target.read_library.Goals as goal
 
 pub loop-alloc-init : goal.loop-alloc-init
@@ -13,25 +11,21 @@ pub loop-alloc-preserved : goal.loop-alloc-preserved
 loop-alloc-preserved c =
     let l = c.loop-alloc in
     let were = l.invariant in
-    let going : (after_end_array l.reader ≡ None) × (c.take_end_array.new.self ≡ l.reader) = c.loop-alloc-test.ensures in
     let more = c.in_ok-library.ensures in (
       were.0 ++ more.0 ∷ [],
-      item_read 124 _ were.0 l.reader _ more.0 were.1 going.0 (subst (λ ts. value 124 ts ≡ Some (more.0, c.read_target.new.reader)) going.1 more.1),
+      next_read 124 _ were.0 l.reader _ _ more.0 were.1 c.loop-alloc-test.ensures more.1,
       more.2 were.0 were.2,
     )
 
 pub loop-alloc-smaller : goal.loop-alloc-smaller
 loop-alloc-smaller c =
-    let going : (after_end_array c.loop-alloc.reader ≡ None) × (c.take_end_array.new.self ≡ c.loop-alloc.reader) = c.loop-alloc-test.ensures in
     let more = c.in_ok-library.ensures in
-    let less : length c.read_target.new.reader < length c.loop-alloc.reader = subst (λ ts. length c.read_target.new.reader < length ts) going.1 (value_takes 124 _ _ more.0 more.1) in less
+    item_takes 124 c.loop-alloc.reader _ _ more.0 c.loop-alloc-test.ensures more.1
 
 pub returns : goal.returns
 returns c =
-    let were = c.loop-alloc.invariant in
-    let first : c.args.reader.now ≡ Token.begin_array ∷ c.next.new.self = c.in-Some-BeginArray.ensures.value ∙ ap (λ token. token_of token ∷ c.next.new.self) c.in-Some-BeginArray.field-0-is in
-    let closed : after_end_array c.loop-alloc.reader ≡ Some c.take_end_array.new.self = c.loop-alloc-test.ensures in (
+    let were = c.loop-alloc.invariant in (
       array (items_of were.0),
-      ap (value 125) first ∙ list_read 125 c.next.new.self were.0 c.loop-alloc.reader _ (omega arith) were.1 closed,
+      list_told 125 _ c.next.new.self _ were.0 c.loop-alloc.reader _ (omega arith) c.in-Some-BeginArray.ensures.value c.in-Some-BeginArray.field-0-is were.1 c.loop-alloc-test.ensures,
       (were.0, refl, were.2),
     )

@@ -1,13 +1,11 @@
-use Rattle.std.proofs.Common.{◌≡◌, ◌<◌, ◌∙◌, [], ◌∷◌, ◌++◌, Some, None, IsSomeAnd, length, option_map, codes, sym, ap, subst, arith}
-use Rattle.json.specs.Token.{Token}
-use Rattle.json.specs.Json.{read_key, value}
-use Rattle.json.specs.Reads.{token_of}
-use Rattle.json.proofs.Grammar.{read_key-shorter, left_some}
+use Rattle.std.proofs.Common.{[], ◌∷◌, ◌++◌, Some, None, IsSomeAnd, codes, sym, subst, arith}
+use Rattle.json.specs.Json.{value}
+use Rattle.json.proofs.Grammar.{left_some}
 use Rattle.guppy_metadata.specs.Links.{AreLinksOfList}
 use Rattle.guppy_metadata.proofs.LetGo.{none_let, all_further, positions_kept, links_of_list_whole}
 use Rattle.guppy_metadata.proofs.ObjectMembers.{kept, put}
 use Rattle.guppy_metadata.proofs.Options.{if_some}
-use Rattle.guppy_metadata.proofs.Turns.{of_ok, value_takes, no_member_read, member_read, object_of, object_read, object_with}
+use Rattle.guppy_metadata.proofs.Turns.{of_ok, key_found, member_takes, no_member_read, member_read, object_of, object_told, object_with}
 use Rattle.guppy_metadata.proofs.told.read_resolve.Goals as goal
 
 pub loop-links-init : goal.loop-links-init
@@ -18,11 +16,8 @@ read_nodes-requires c = positions_kept c.args.packages.now c.loop-links.packages
 
 pub loop-links-smaller-then-eq : goal.loop-links-smaller-then-eq
 loop-links-smaller-then-eq c =
-    let s = c.next_key.new.self in
-    let key : read_key c.loop-links.reader ≡ Some (Some c.in-Some.name.now, s) =
-    of_ok _ _ c.next_key.result _ c.in_ok-name.ensures.value c.next_key.ensures.value ∙ ap (λ k. Some (option_map (λ s. s.now) k, s)) c.in-Some.is in
     let more = c.in_ok-read_nodes.ensures.links in
-    let less : length c.read_nodes.new.reader < length c.loop-links.reader = omega (arith, value_takes 126 s _ more.0 more.1, read_key-shorter _ _ s key) in less
+    member_takes 126 c.loop-links.reader _ _ (Some c.in-Some.name.now) more.0 (key_found _ _ _ _ (Some c.in-Some.name) c.in_ok-name.ensures.value c.next_key.ensures.value c.in-Some.is) more.1
 
 pub loop-links-preserved-then-eq : goal.loop-links-preserved-then-eq
 loop-links-preserved-then-eq c =
@@ -30,7 +25,7 @@ loop-links-preserved-then-eq c =
     let were = l.invariant in
     let k = c.in-Some.name.now in
     let s = c.next_key.new.self in
-    let key : read_key l.reader ≡ Some (Some k, s) = of_ok _ _ c.next_key.result _ c.in_ok-name.ensures.value c.next_key.ensures.value ∙ ap (λ k. Some (option_map (λ s. s.now) k, s)) c.in-Some.is in
+    let key = key_found _ _ _ _ (Some c.in-Some.name) c.in_ok-name.ensures.value c.next_key.ensures.value c.in-Some.is in
     let more = c.in_ok-read_nodes.ensures.links in
     let links = c.in_ok-read_nodes.field-0 in
     let rows = were.0 ++ (k, more.0) ∷ [] in (
@@ -49,7 +44,7 @@ loop-links-preserved c =
     let k = c.in-Some.name.now in
     let s = c.next_key.new.self in
     let r = c.skip_value.new.self in
-    let key : read_key l.reader ≡ Some (Some k, s) = of_ok _ _ c.next_key.result _ c.in_ok-name.ensures.value c.next_key.ensures.value ∙ ap (λ k. Some (option_map (λ s. s.now) k, s)) c.in-Some.is in
+    let key = key_found _ _ _ _ (Some c.in-Some.name) c.in_ok-name.ensures.value c.next_key.ensures.value c.in-Some.is in
     let skipped = left_some (value 126 s) r (of_ok _ _ c.skip_value.result _ c.in_ok-ok.ensures.value c.skip_value.ensures.value) in
     let told = skipped.0 in
     let rows = were.0 ++ (k, told) ∷ [] in (
@@ -66,6 +61,5 @@ returns-clause-links c =
     let l = c.loop-links in
     let were = l.invariant in
     let r = c.next_key.new.self in
-    let first : c.args.reader.now ≡ Token.begin_object ∷ c.next.new.self = c.in-Some-BeginObject.ensures.value ∙ ap (λ token. token_of token ∷ c.next.new.self) c.in-Some-BeginObject.field-0-is in
-    let closed : read_key l.reader ≡ Some (None, r) = of_ok _ _ c.next_key.result _ c.in_ok-name.ensures.value c.next_key.ensures.value ∙ ap (λ k. Some (option_map (λ s. s.now) k, r)) c.in_default-2.is in
-    if_some l.links (λ links are. (object_of were.0, ap (value 127) first ∙ object_read 127 c.next.new.self were.0 l.reader r (omega arith) were.1 closed, are)) were.2
+    let closed = key_found _ _ _ _ None c.in_ok-name.ensures.value c.next_key.ensures.value c.in_default-2.is in
+    if_some l.links (λ links are. (object_of were.0, object_told 127 _ c.next.new.self _ were.0 l.reader r (omega arith) c.in-Some-BeginObject.ensures.value c.in-Some-BeginObject.field-0-is were.1 closed, are)) were.2

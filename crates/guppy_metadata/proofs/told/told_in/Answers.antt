@@ -1,11 +1,7 @@
-use Rattle.std.proofs.Common.{◌≡◌, ◌<◌, ◌∙◌, [], ◌∷◌, ◌++◌, Some, None, length, option_map, ap, arith}
-use Rattle.json.specs.Token.{Token}
-use Rattle.json.specs.Json.{read_key, value}
+use Rattle.std.proofs.Common.{[], ◌∷◌, ◌++◌, Some, None, ap, arith}
 use Rattle.json.specs.Find.{get_member}
-use Rattle.json.specs.Reads.{token_of}
 use Rattle.json.specs.Value.{members_view}
-use Rattle.json.proofs.Grammar.{read_key-shorter}
-use Rattle.guppy_metadata.proofs.Turns.{of_ok, value_takes, no_member_read, member_read, object_of, object_read, object_with}
+use Rattle.guppy_metadata.proofs.Turns.{key_found, member_takes, no_member_read, member_read, object_of, object_told, object_with}
 use Rattle.guppy_metadata.proofs.told.told_in.Goals as goal
 
 pub loop-told-init : goal.loop-told-init
@@ -21,11 +17,8 @@ loop-told-init c = (
 
 pub loop-told-smaller : goal.loop-told-smaller
 loop-told-smaller c =
-    let s = c.next_key.new.self in
-    let key : read_key c.loop-told.reader ≡ Some (Some c.in-Some.name.now, s) =
-    of_ok _ _ c.next_key.result _ c.in_ok-name.ensures.value c.next_key.ensures.value ∙ ap (λ k. Some (option_map (λ s. s.now) k, s)) c.in-Some.is in
     let more = c.in_ok-read_member.ensures in
-    let less : length c.read_member.new.reader < length c.loop-told.reader = omega (arith, value_takes 127 s _ more.0 more.1, read_key-shorter _ _ s key) in less
+    member_takes 127 c.loop-told.reader _ _ (Some c.in-Some.name.now) more.0 (key_found _ _ _ _ (Some c.in-Some.name) c.in_ok-name.ensures.value c.next_key.ensures.value c.in-Some.is) more.1
 
 pub loop-told-preserved : goal.loop-told-preserved
 loop-told-preserved c =
@@ -33,7 +26,7 @@ loop-told-preserved c =
     let were = l.invariant in
     let k = c.in-Some.name.now in
     let s = c.next_key.new.self in
-    let key : read_key l.reader ≡ Some (Some k, s) = of_ok _ _ c.next_key.result _ c.in_ok-name.ensures.value c.next_key.ensures.value ∙ ap (λ k. Some (option_map (λ s. s.now) k, s)) c.in-Some.is in
+    let key = key_found _ _ _ _ (Some c.in-Some.name) c.in_ok-name.ensures.value c.next_key.ensures.value c.in-Some.is in
     let more = c.in_ok-read_member.ensures in
     let rows = were.0 ++ (k, more.0) ∷ [] in (
       rows,
@@ -46,9 +39,8 @@ returns c =
     let l = c.loop-told in
     let were = l.invariant in
     let r = c.next_key.new.self in
-    let first : c.args.reader.now ≡ Token.begin_object ∷ c.next.new.self = c.in-Some-BeginObject.ensures.value ∙ ap (λ token. token_of token ∷ c.next.new.self) c.in-Some-BeginObject.field-0-is in
-    let closed : read_key l.reader ≡ Some (None, r) = of_ok _ _ c.next_key.result _ c.in_ok-name.ensures.value c.next_key.ensures.value ∙ ap (λ k. Some (option_map (λ s. s.now) k, r)) c.in_default-2.is in (
+    let closed = key_found _ _ _ _ None c.in_ok-name.ensures.value c.next_key.ensures.value c.in_default-2.is in (
       object_of were.0,
-      ap (value 128) first ∙ object_read 128 c.next.new.self were.0 l.reader r (omega arith) were.1 closed,
+      object_told 128 _ c.next.new.self _ were.0 l.reader r (omega arith) c.in-Some-BeginObject.ensures.value c.in-Some-BeginObject.field-0-is were.1 closed,
       were.2,
     )
