@@ -1,6 +1,7 @@
 //! The graph of packages, sets of them, and what is asked of both.
 
 mod decode;
+mod links_at;
 mod package;
 mod query;
 mod set;
@@ -15,6 +16,7 @@ pub use set::PackageSet;
 use crate::sys::{self, Components};
 use crate::{Error, PackageId};
 use decode::Decoded;
+use links_at::LinksAt;
 use std::fmt;
 
 /// The direction of a walk.
@@ -47,9 +49,9 @@ pub struct PackageGraph {
     // A flag at each link.
     all: Vec<bool>,
     components: Components,
-    // The numbers of the links that leave and that enter each package.
-    leaving: Vec<Vec<usize>>,
-    entering: Vec<Vec<usize>>,
+    // The links that leave and that enter each package.
+    leaving: LinksAt,
+    entering: LinksAt,
 }
 
 impl PackageGraph {
@@ -60,19 +62,13 @@ impl PackageGraph {
         let count = decoded.packages.len();
         let components = sys::components(&decoded.ends, &decoded.firm, count)
             .map_err(|fault| decoded.told(fault))?;
-        let mut leaving = vec![Vec::new(); count];
-        let mut entering = vec![Vec::new(); count];
-        for (number, ends) in decoded.ends.iter().enumerate() {
-            leaving[ends.from as usize].push(number);
-            entering[ends.to as usize].push(number);
-        }
         Ok(PackageGraph {
             json: json.as_ref().to_owned(),
             all: vec![true; decoded.ends.len()],
             components,
+            leaving: LinksAt::of(count, &decoded.ends, |link| link.from),
+            entering: LinksAt::of(count, &decoded.ends, |link| link.to),
             decoded,
-            leaving,
-            entering,
         })
     }
 
@@ -91,11 +87,7 @@ impl PackageGraph {
     }
 
     fn position(&self, id: &PackageId) -> Result<usize, Error> {
-        self.decoded
-            .by_id
-            .get(id)
-            .copied()
-            .ok_or_else(|| Error::UnknownPackageId(id.clone()))
+        self.decoded.position(id)
     }
 
     // A mark for each package, at those with the IDs.
@@ -146,7 +138,9 @@ impl PackageGraph {
     /// Whether a link leads from the first package to the second.
     pub fn directly_depends_on(&self, from: &PackageId, to: &PackageId) -> Result<bool, Error> {
         let (from, to) = (self.position(from)?, self.position(to)?);
-        Ok(self.leaving[from]
+        Ok(self
+            .leaving
+            .at(from)
             .iter()
             .any(|number| self.decoded.ends[*number].to as usize == to))
     }
@@ -329,7 +323,7 @@ pub struct Workspace<'g> {
 impl<'g> Workspace<'g> {
     /// The folder of the workspace.
     pub fn root(&self) -> &'g str {
-        &self.graph.decoded.root
+        self.graph.decoded.root()
     }
 
     /// How many members there are.

@@ -1,19 +1,19 @@
+use super::decode::Span;
 use super::{DependencyDirection, PackageGraph};
 use crate::PackageId;
 use std::fmt;
 
 /// What is kept of a package.
-#[derive(Debug)]
 pub(super) struct Package {
     pub(super) id: PackageId,
-    pub(super) name: String,
-    pub(super) version: String,
+    pub(super) name: Span,
+    pub(super) version: Span,
     pub(super) source: Source,
-    pub(super) manifest_path: String,
-    pub(super) edition: String,
-    pub(super) description: Option<String>,
-    pub(super) license: Option<String>,
-    pub(super) repository: Option<String>,
+    pub(super) manifest_path: Span,
+    pub(super) edition: Span,
+    pub(super) description: Option<Span>,
+    pub(super) license: Option<Span>,
+    pub(super) repository: Option<Span>,
 }
 
 impl Package {
@@ -23,18 +23,17 @@ impl Package {
 }
 
 /// Where a package comes from, as [`PackageSource`] has it.
-#[derive(Debug)]
+#[derive(Clone, Copy)]
 pub(super) enum Source {
-    Workspace(String),
-    Path(String),
-    External(String),
+    Workspace(Span),
+    Path(Span),
+    External(Span),
 }
 
 /// What is kept of a link, beside its ends.
-#[derive(Debug)]
 pub(super) struct Link {
-    pub(super) dep_name: String,
-    pub(super) resolved_name: String,
+    pub(super) dep_name: Span,
+    pub(super) resolved_name: Span,
     pub(super) normal: Section,
     pub(super) build: Section,
     pub(super) dev: Section,
@@ -47,34 +46,24 @@ impl Link {
 }
 
 /// On which platforms a dependency in one section is there.
-#[derive(Debug)]
+#[derive(Clone, Copy)]
 pub(super) struct Section {
     pub(super) required: Status,
     pub(super) optional: Status,
 }
 
 impl Section {
-    fn is_never(&self) -> bool {
-        self.required.seen() == PlatformStatus::Never
-            && self.optional.seen() == PlatformStatus::Never
+    fn is_never(self) -> bool {
+        self.required == Status::Never && self.optional == Status::Never
     }
 }
 
-/// All platforms, or those that one of the texts fits.
-#[derive(Debug)]
+/// Some platforms, as [`PlatformStatus`] has them; the texts by the number of their list.
+#[derive(Clone, Copy, PartialEq, Eq)]
 pub(super) enum Status {
+    Never,
     Always,
-    Specs(Vec<String>),
-}
-
-impl Status {
-    fn seen(&self) -> PlatformStatus<'_> {
-        match self {
-            Status::Always => PlatformStatus::Always,
-            Status::Specs(specs) if specs.is_empty() => PlatformStatus::Never,
-            Status::Specs(specs) => PlatformStatus::PlatformDependent(specs),
-        }
-    }
+    Specs(usize),
 }
 
 /// A section of a manifest.
@@ -91,43 +80,42 @@ pub enum DependencyKind {
 /// What a link's dependencies ask for in one section.
 #[derive(Clone, Copy, Debug)]
 pub struct DependencyReq<'g> {
-    section: &'g Section,
+    status: EnabledStatus<'g>,
 }
 
 impl<'g> DependencyReq<'g> {
     /// Whether one of them stands in the section, for some platform.
     pub fn is_present(self) -> bool {
-        !self.section.is_never()
+        !self.status.is_never()
     }
 
     /// On which platforms.
     pub fn status(self) -> EnabledStatus<'g> {
-        EnabledStatus {
-            section: self.section,
-        }
+        self.status
     }
 }
 
 /// On which platforms a dependency is there.
 #[derive(Clone, Copy, Debug)]
 pub struct EnabledStatus<'g> {
-    section: &'g Section,
+    required: PlatformStatus<'g>,
+    optional: PlatformStatus<'g>,
 }
 
 impl<'g> EnabledStatus<'g> {
     /// Whether it is there on none.
     pub fn is_never(self) -> bool {
-        self.section.is_never()
+        self.required == PlatformStatus::Never && self.optional == PlatformStatus::Never
     }
 
     /// Where it is required.
     pub fn required_status(self) -> PlatformStatus<'g> {
-        self.section.required.seen()
+        self.required
     }
 
     /// Where it is optional.
     pub fn optional_status(self) -> PlatformStatus<'g> {
-        self.section.optional.seen()
+        self.optional
     }
 }
 
@@ -165,6 +153,10 @@ impl<'g> PackageMetadata<'g> {
         &self.graph.decoded.packages[self.position]
     }
 
+    fn part(self, span: Span) -> &'g str {
+        self.graph.decoded.part(span)
+    }
+
     /// The graph that it is of.
     pub fn graph(self) -> &'g PackageGraph {
         self.graph
@@ -177,46 +169,46 @@ impl<'g> PackageMetadata<'g> {
 
     /// Its name.
     pub fn name(self) -> &'g str {
-        &self.package().name
+        self.part(self.package().name)
     }
 
     /// Its version, as it is written.
     pub fn version(self) -> &'g str {
-        &self.package().version
+        self.part(self.package().version)
     }
 
     /// Where it comes from.
     pub fn source(self) -> PackageSource<'g> {
-        match &self.package().source {
-            Source::Workspace(path) => PackageSource::Workspace(path),
-            Source::Path(path) => PackageSource::Path(path),
-            Source::External(source) => PackageSource::External(source),
+        match self.package().source {
+            Source::Workspace(path) => PackageSource::Workspace(self.part(path)),
+            Source::Path(path) => PackageSource::Path(self.part(path)),
+            Source::External(source) => PackageSource::External(self.part(source)),
         }
     }
 
     /// The path of its manifest.
     pub fn manifest_path(self) -> &'g str {
-        &self.package().manifest_path
+        self.part(self.package().manifest_path)
     }
 
     /// Its description.
     pub fn description(self) -> Option<&'g str> {
-        self.package().description.as_deref()
+        self.package().description.map(|span| self.part(span))
     }
 
     /// Its license.
     pub fn license(self) -> Option<&'g str> {
-        self.package().license.as_deref()
+        self.package().license.map(|span| self.part(span))
     }
 
     /// Its edition.
     pub fn edition(self) -> &'g str {
-        &self.package().edition
+        self.part(self.package().edition)
     }
 
     /// Its repository.
     pub fn repository(self) -> Option<&'g str> {
-        self.package().repository.as_deref()
+        self.package().repository.map(|span| self.part(span))
     }
 
     /// Whether it is a member of the workspace.
@@ -241,8 +233,8 @@ impl<'g> PackageMetadata<'g> {
     ) -> impl ExactSizeIterator<Item = PackageLink<'g>> {
         let graph = self.graph;
         let numbers = match direction {
-            DependencyDirection::Forward => &graph.leaving[self.position],
-            DependencyDirection::Reverse => &graph.entering[self.position],
+            DependencyDirection::Forward => graph.leaving.at(self.position),
+            DependencyDirection::Reverse => graph.entering.at(self.position),
         };
         numbers.iter().map(|number| graph.link(*number))
     }
@@ -258,8 +250,16 @@ impl Eq for PackageMetadata<'_> {}
 
 impl fmt::Debug for PackageMetadata<'_> {
     fn fmt(&self, f: &mut fmt::Formatter<'_>) -> fmt::Result {
-        f.debug_tuple("PackageMetadata")
-            .field(self.package())
+        f.debug_struct("PackageMetadata")
+            .field("id", self.id())
+            .field("name", &self.name())
+            .field("version", &self.version())
+            .field("source", &self.source())
+            .field("manifest_path", &self.manifest_path())
+            .field("edition", &self.edition())
+            .field("description", &self.description())
+            .field("license", &self.license())
+            .field("repository", &self.repository())
             .finish()
     }
 }
@@ -295,23 +295,37 @@ impl<'g> PackageLink<'g> {
 
     /// The dependency's name in the manifest.
     pub fn dep_name(self) -> &'g str {
-        &self.link().dep_name
+        self.graph.decoded.part(self.link().dep_name)
     }
 
     /// The dependency's name in the code.
     pub fn resolved_name(self) -> &'g str {
-        &self.link().resolved_name
+        self.graph.decoded.part(self.link().resolved_name)
+    }
+
+    fn platforms(self, status: Status) -> PlatformStatus<'g> {
+        match status {
+            Status::Never => PlatformStatus::Never,
+            Status::Always => PlatformStatus::Always,
+            Status::Specs(number) => {
+                PlatformStatus::PlatformDependent(self.graph.decoded.specs(number))
+            }
+        }
     }
 
     /// What it asks for in the section.
     pub fn req_for_kind(self, kind: DependencyKind) -> DependencyReq<'g> {
         let link = self.link();
         let section = match kind {
-            DependencyKind::Normal => &link.normal,
-            DependencyKind::Development => &link.dev,
-            DependencyKind::Build => &link.build,
+            DependencyKind::Normal => link.normal,
+            DependencyKind::Development => link.dev,
+            DependencyKind::Build => link.build,
         };
-        DependencyReq { section }
+        let status = EnabledStatus {
+            required: self.platforms(section.required),
+            optional: self.platforms(section.optional),
+        };
+        DependencyReq { status }
     }
 
     /// What it asks for in `[dependencies]`.
@@ -345,13 +359,14 @@ impl Eq for PackageLink<'_> {}
 
 impl fmt::Debug for PackageLink<'_> {
     fn fmt(&self, f: &mut fmt::Formatter<'_>) -> fmt::Result {
-        let (from, to) = self.endpoints();
-        write!(
-            f,
-            "PackageLink({} -> {}, {:?})",
-            from.id(),
-            to.id(),
-            self.link()
-        )
+        f.debug_struct("PackageLink")
+            .field("from", self.from().id())
+            .field("to", self.to().id())
+            .field("dep_name", &self.dep_name())
+            .field("resolved_name", &self.resolved_name())
+            .field("normal", &self.normal().status())
+            .field("build", &self.build().status())
+            .field("dev", &self.dev().status())
+            .finish()
     }
 }
