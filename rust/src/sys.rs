@@ -172,14 +172,17 @@ pub(crate) fn links(links: &[Ends], set: &[bool], forward: bool) -> Vec<usize> {
     numbers
 }
 
-// The text that a call writes, or why it refuses, told once more where the first room is too small.
-fn text_of(room: usize, call: impl Fn(&mut [u8]) -> Answer) -> Result<String, String> {
-    let mut out = vec![0; room];
+// The text that a call writes, or why it refuses, told once more where the first room is too small. The call is given
+// where the room begins and how many bytes it has, and keeps its contract.
+fn text_of(room: usize, call: impl Fn(*mut u8, usize) -> Answer) -> Result<String, String> {
+    let mut out = Vec::with_capacity(room);
     loop {
-        let answer = call(&mut out);
+        let answer = call(out.as_mut_ptr(), out.capacity());
         match answer.status {
             0 | 1 => {
-                out.truncate(answer.len);
+                // SAFETY: the call wrote so many bytes, for which there was room.
+                unsafe { out.set_len(answer.len) };
+                out.shrink_to_fit();
                 let text = String::from_utf8(out).expect("texts are UTF-8");
                 return if answer.status == 0 {
                     Ok(text)
@@ -187,7 +190,7 @@ fn text_of(room: usize, call: impl Fn(&mut [u8]) -> Answer) -> Result<String, St
                     Err(text)
                 };
             }
-            2 => out = vec![0; answer.len],
+            2 => out = Vec::with_capacity(answer.len),
             _ => out_of_memory(room),
         }
     }
@@ -198,14 +201,14 @@ fn text_of(room: usize, call: impl Fn(&mut [u8]) -> Answer) -> Result<String, St
 pub(crate) fn answer(json: &str, args: &[&str]) -> Result<String, String> {
     let args = args.join("\0");
     // SAFETY: as above, and no slice overlaps `out`.
-    text_of(1 << 12, |out| unsafe {
+    text_of(1 << 12, |out, room| unsafe {
         guppy_answer(
             json.as_ptr(),
             json.len(),
             args.as_ptr(),
             args.len(),
-            out.as_mut_ptr(),
-            out.len(),
+            out,
+            room,
         )
     })
 }
@@ -213,8 +216,8 @@ pub(crate) fn answer(json: &str, args: &[&str]) -> Result<String, String> {
 /// The packages, links and workspace that the JSON describes as one text, or the line that says why there are none.
 pub(crate) fn records(json: &str) -> Result<String, String> {
     // SAFETY: as above, and no slice overlaps `out`.
-    text_of(json.len(), |out| unsafe {
-        guppy_records(json.as_ptr(), json.len(), out.as_mut_ptr(), out.len())
+    text_of(json.len(), |out, room| unsafe {
+        guppy_records(json.as_ptr(), json.len(), out, room)
     })
 }
 

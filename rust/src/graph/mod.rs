@@ -57,13 +57,16 @@ pub struct PackageGraph {
 impl PackageGraph {
     /// The graph of what `cargo metadata --format-version 1` printed: its packages and links are those that the JSON
     /// describes, which is proved. No ordered pair of packages may have two links, as in what Cargo prints.
-    pub fn from_json(json: impl AsRef<str>) -> Result<Self, Error> {
-        let decoded = Decoded::of(json.as_ref())?;
+    ///
+    /// The graph keeps the JSON for [`affected`](PackageGraph::affected): a `String` is taken as it is, a `&str` copied.
+    pub fn from_json(json: impl Into<String>) -> Result<Self, Error> {
+        let json = json.into();
+        let decoded = Decoded::of(&json)?;
         let count = decoded.packages.len();
         let components = sys::components(&decoded.ends, &decoded.firm, count)
             .map_err(|fault| decoded.told(fault))?;
         Ok(PackageGraph {
-            json: json.as_ref().to_owned(),
+            json,
             all: vec![true; decoded.ends.len()],
             components,
             leaving: LinksAt::of(count, &decoded.ends, |link| link.from),
