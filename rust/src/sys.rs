@@ -177,6 +177,7 @@ pub(crate) fn links(links: &[Ends], set: &[bool], forward: bool) -> Vec<usize> {
 fn text_of(room: usize, call: impl Fn(*mut u8, usize) -> Answer) -> Result<String, String> {
     let mut out = Vec::with_capacity(room);
     loop {
+        memory::ask_for_huge_pages(out.as_mut_ptr(), out.capacity());
         let answer = call(out.as_mut_ptr(), out.capacity());
         match answer.status {
             0 | 1 => {
@@ -229,6 +230,26 @@ mod memory {
         fn malloc(bytes: usize) -> *mut u8;
         fn realloc(block: *mut u8, bytes: usize) -> *mut u8;
         fn free(block: *mut u8);
+        fn madvise(begin: *mut u8, bytes: usize, advice: i32) -> i32;
+    }
+
+    const PAGE: usize = 1 << 12;
+    // Two of the pages that are asked for.
+    const LARGE: usize = 1 << 22;
+    const MADV_HUGEPAGE: i32 = 14;
+
+    /// Asks for huge pages where the block is large, so that the system need not be entered for each small page that is
+    /// written first. Whether it grants them makes no difference but in time.
+    ///
+    /// The advice is given of whole pages, so that a block that was mapped alone stays one mapping, which grows without
+    /// a copy.
+    pub(super) fn ask_for_huge_pages(block: *mut u8, bytes: usize) {
+        if bytes < LARGE {
+            return;
+        }
+        let before = block as usize % PAGE;
+        // SAFETY: the advice changes neither what the pages hold nor who may use them.
+        unsafe { madvise(block.wrapping_sub(before), before + bytes, MADV_HUGEPAGE) };
     }
 
     /// Whether there was memory, and the block; where there was none, any address but null.
@@ -238,9 +259,10 @@ mod memory {
         block: *mut u8,
     }
 
-    fn tried(block: *mut u8) -> Tried {
+    fn tried(block: *mut u8, bytes: usize) -> Tried {
         let found = !block.is_null();
         let block = if found {
+            ask_for_huge_pages(block, bytes);
             block
         } else {
             NonNull::dangling().as_ptr()
@@ -261,9 +283,9 @@ mod memory {
     unsafe extern "C" fn rattle_alloc(bytes: usize, alignment: usize) -> Tried {
         #[cfg(test)]
         if super::tests::is_refused() {
-            return tried(std::ptr::null_mut());
+            return tried(std::ptr::null_mut(), bytes);
         }
-        let tried = tried(unsafe { malloc(some(bytes, alignment)) });
+        let tried = tried(unsafe { malloc(some(bytes, alignment)) }, bytes);
         #[cfg(test)]
         super::tests::count(tried.found.into());
         tried
@@ -278,9 +300,9 @@ mod memory {
     ) -> Tried {
         #[cfg(test)]
         if super::tests::is_refused() {
-            return tried(std::ptr::null_mut());
+            return tried(std::ptr::null_mut(), bytes);
         }
-        tried(unsafe { realloc(block, some(bytes, alignment)) })
+        tried(unsafe { realloc(block, some(bytes, alignment)) }, bytes)
     }
 
     #[no_mangle]
