@@ -259,6 +259,14 @@ mod memory {
         block: *mut u8,
     }
 
+    #[cfg(test)]
+    impl Tried {
+        pub(super) fn block(self) -> *mut u8 {
+            assert!(self.found);
+            self.block
+        }
+    }
+
     fn tried(block: *mut u8, bytes: usize) -> Tried {
         let found = !block.is_null();
         let block = if found {
@@ -280,7 +288,7 @@ mod memory {
     }
 
     #[no_mangle]
-    unsafe extern "C" fn rattle_alloc(bytes: usize, alignment: usize) -> Tried {
+    pub(super) unsafe extern "C" fn rattle_alloc(bytes: usize, alignment: usize) -> Tried {
         #[cfg(test)]
         if super::tests::is_refused() {
             return tried(std::ptr::null_mut(), bytes);
@@ -292,7 +300,7 @@ mod memory {
     }
 
     #[no_mangle]
-    unsafe extern "C" fn rattle_realloc(
+    pub(super) unsafe extern "C" fn rattle_realloc(
         block: *mut u8,
         _kept: usize,
         bytes: usize,
@@ -306,7 +314,7 @@ mod memory {
     }
 
     #[no_mangle]
-    unsafe extern "C" fn rattle_dealloc(block: *mut u8) {
+    pub(super) unsafe extern "C" fn rattle_dealloc(block: *mut u8) {
         #[cfg(test)]
         super::tests::count(-1);
         unsafe { free(block) }
@@ -499,6 +507,36 @@ mod tests {
         }
         let [answer, _] = written(JSON, "affected\0crates/core/x", 100);
         assert_eq!(&answer.2[..answer.1], b"core\ntest-support\ncli\napp\n");
+    }
+
+    #[test]
+    fn a_text_is_asked_for_again_where_the_room_was_too_small() {
+        let (p, n) = (JSON.as_ptr(), JSON.len());
+        let calls = Cell::new(0);
+        let text = text_of(0, |out, room| {
+            calls.set(calls.get() + 1);
+            // SAFETY: as above.
+            unsafe { guppy_records(p, n, out, room) }
+        });
+        assert_eq!((calls.get(), text), (2, records(JSON)));
+    }
+
+    #[test]
+    fn a_large_block_keeps_what_it_holds() {
+        let (small, large) = (1 << 10, 1 << 24);
+        // SAFETY: only bytes of the block are read and written, and no more once it is given back.
+        unsafe {
+            let mut block = memory::rattle_alloc(small, 1).block();
+            block.write_bytes(7, small);
+            for bytes in [large, 2 * large, large, small] {
+                block = memory::rattle_realloc(block, small, bytes, 1).block();
+                block.add(small).write_bytes(9, bytes - small);
+            }
+            let kept = std::slice::from_raw_parts(block, small);
+            assert!(kept.iter().all(|byte| *byte == 7));
+            memory::rattle_dealloc(block);
+        }
+        assert_eq!(BLOCKS.get(), 0);
     }
 
     #[test]

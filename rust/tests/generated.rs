@@ -3,8 +3,9 @@
 mod common;
 
 use common::{json_of, Link};
-use guppy_proved::graph::{DependencyDirection, PackageGraph, PackageMetadata};
+use guppy_proved::graph::{DependencyDirection, PackageGraph, PackageLink, PackageMetadata};
 use guppy_proved::Error;
+use std::collections::BTreeSet;
 use DependencyDirection::{Forward, Reverse};
 
 // Numbers that look drawn, from a seed.
@@ -225,6 +226,52 @@ fn answers_are_those_of_plain_search() {
                 );
             }
             Err(error) => panic!("{error}"),
+        }
+    }
+}
+
+fn told(link: PackageLink<'_>) -> Link {
+    let (from, to) = link.endpoints();
+    let kinds = [
+        (link.normal(), "normal"),
+        (link.build(), "build"),
+        (link.dev(), "dev"),
+    ];
+    let present: Vec<_> = kinds.iter().filter(|kind| kind.0.is_present()).collect();
+    assert_eq!((link.dep_name(), present.len()), (to.name(), 1));
+    (number(from), number(to), present[0].1)
+}
+
+#[test]
+fn links_stand_at_both_of_their_ends() {
+    let mut draw = Draw(0x2545_f491_4f6c_dd1d);
+    for _ in 0..300 {
+        let (count, links) = drawn(&mut draw);
+        let graph = PackageGraph::from_json(json_of(count, &links)).unwrap();
+        for package in graph.packages() {
+            let at = |end: fn(&Link) -> usize| {
+                let at = links.iter().filter(|link| end(link) == number(package));
+                at.copied().collect::<BTreeSet<_>>()
+            };
+            let (leaving, entering) = (at(|link| link.0), at(|link| link.1));
+            assert_eq!(package.direct_links().len(), leaving.len());
+            assert_eq!(
+                package.direct_links().map(told).collect::<BTreeSet<_>>(),
+                leaving
+            );
+            assert_eq!(package.reverse_direct_links().len(), entering.len());
+            assert_eq!(
+                package
+                    .reverse_direct_links()
+                    .map(told)
+                    .collect::<BTreeSet<_>>(),
+                entering
+            );
+            for other in graph.packages() {
+                let is_linked = leaving.iter().any(|link| link.1 == number(other));
+                let answer = graph.directly_depends_on(package.id(), other.id());
+                assert_eq!(answer, Ok(is_linked));
+            }
         }
     }
 }

@@ -85,6 +85,69 @@ fn platforms_are_those_of_the_json() {
 }
 
 #[test]
+fn each_link_has_its_own_platforms() {
+    let on = |package: usize, platform: &str| {
+        let declared =
+            |target: &str| format!(r#""target":{target},"registry":null,"path":"/w/p{package}""#);
+        let id = format!("path+file:///w/p{package}#1.0.0");
+        let linked = |target: &str| {
+            format!(r#""pkg":"{id}","dep_kinds":[{{"kind":null,"target":{target}}}]"#)
+        };
+        let platform = format!("\"{platform}\"");
+        [
+            (declared("null"), declared(&platform)),
+            (linked("null"), linked(&platform)),
+        ]
+    };
+    let links = [(0, 1, "normal"), (0, 2, "normal"), (0, 3, "normal")];
+    let mut json = common::json_of(4, &links);
+    for (old, new) in [on(1, "cfg(windows)"), on(3, "x86_64-unknown-linux-gnu")].concat() {
+        assert!(json.contains(&old));
+        json = json.replace(&old, &new);
+    }
+    let graph = PackageGraph::from_json(json).unwrap();
+    let told = |name: &str| {
+        let package = graph.packages().next().unwrap();
+        let mut links = package.direct_links();
+        let link = links.find(|link| link.to().name() == name).unwrap();
+        assert!(link.normal().is_present() && !link.build().is_present());
+        link.normal().status().required_status()
+    };
+    let one = |text: &str| [text.to_owned()];
+    let (windows, linux) = (one("cfg(windows)"), one("x86_64-unknown-linux-gnu"));
+    assert_eq!(told("p1"), PlatformStatus::PlatformDependent(&windows));
+    assert_eq!(told("p2"), PlatformStatus::Always);
+    assert_eq!(told("p3"), PlatformStatus::PlatformDependent(&linux));
+}
+
+#[test]
+fn details_are_those_of_the_json() {
+    let plain = common::json_of(2, &[(0, 1, "normal")]);
+    let json = plain
+        .replace(
+            "\"description\":null",
+            "\"description\":\"Größe: 1 µm\\n12:\"",
+        )
+        .replace("\"license\":null", "\"license\":\"\"");
+    let graph = PackageGraph::from_json(json).unwrap();
+    for package in graph.packages() {
+        assert_eq!(package.description(), Some("Größe: 1 µm\n12:"));
+        assert_eq!((package.license(), package.repository()), (Some(""), None));
+        let shown = format!("{package:?}");
+        assert!(
+            shown.contains(package.name()) && shown.contains("Größe"),
+            "{shown}"
+        );
+    }
+    let link = graph.resolve_all().links(Forward).next().unwrap();
+    let shown = format!("{link:?}");
+    assert!(
+        shown.contains("p1#1.0.0") && shown.contains("required: Always"),
+        "{shown}"
+    );
+}
+
+#[test]
 fn members_are_published_after_what_they_need() {
     let graph = workspace();
     let order = named(graph.publish_order().unwrap());
