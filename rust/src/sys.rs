@@ -172,8 +172,8 @@ pub(crate) fn links(links: &[Ends], set: &[bool], forward: bool) -> Vec<usize> {
     numbers
 }
 
-// The text that a call writes, or why it refuses, told once more where the first room is too small. The call is given
-// where the room begins and how many bytes it has, and keeps its contract.
+// The text that a call writes, or why it refuses, told once more where the first room is too small. The call gets where
+// the room begins and how many bytes it has; they aren't cleared first, since it writes those that it tells of.
 fn text_of(room: usize, call: impl Fn(*mut u8, usize) -> Answer) -> Result<String, String> {
     let mut out = Vec::with_capacity(room);
     loop {
@@ -181,7 +181,7 @@ fn text_of(room: usize, call: impl Fn(*mut u8, usize) -> Answer) -> Result<Strin
         let answer = call(out.as_mut_ptr(), out.capacity());
         match answer.status {
             0 | 1 => {
-                // SAFETY: the call wrote so many bytes, for which there was room.
+                // SAFETY: the call wrote so many bytes, and there was room for them.
                 unsafe { out.set_len(answer.len) };
                 out.shrink_to_fit();
                 let text = String::from_utf8(out).expect("texts are UTF-8");
@@ -201,7 +201,7 @@ fn text_of(room: usize, call: impl Fn(*mut u8, usize) -> Answer) -> Result<Strin
 /// it refuses. None of the arguments has a NUL.
 pub(crate) fn answer(json: &str, args: &[&str]) -> Result<String, String> {
     let args = args.join("\0");
-    // SAFETY: as above, and no slice overlaps `out`.
+    // SAFETY: as above, and `out` has room for so many bytes, which no slice overlaps.
     text_of(1 << 12, |out, room| unsafe {
         guppy_answer(
             json.as_ptr(),
@@ -216,7 +216,7 @@ pub(crate) fn answer(json: &str, args: &[&str]) -> Result<String, String> {
 
 /// The packages, links and workspace that the JSON describes as one text, or the line that says why there are none.
 pub(crate) fn records(json: &str) -> Result<String, String> {
-    // SAFETY: as above, and no slice overlaps `out`.
+    // SAFETY: as above.
     text_of(json.len(), |out, room| unsafe {
         guppy_records(json.as_ptr(), json.len(), out, room)
     })
