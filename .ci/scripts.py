@@ -206,16 +206,16 @@ def try_proved(world):
     make_workspace(workspace)
     ran = world.run(["guppy-cargo", "affected", "other/src/lib.rs"], where=workspace)
     yield "it asks cargo itself", ran == (0, "other\nlast\n", ""), ran
-    yield from try_memory(world, world.top / "crates/guppy_run/out/guppy_run", ["guppy-run", "order"], {})
+    yield from try_memory(world, world.top / "crates/guppy_run/out/guppy_run", ["guppy-run", "order"])
 
 
-def try_memory(world, program, words, environment):
-    """How the program is to get its memory: by huge pages, or as the user says. In its place is one that tells."""
+def try_memory(world, program, words, path=None, **how):
+    """How the program is to get its memory: in huge pages, or as the user says. In its place is one that tells."""
     program.write_text('#!/bin/sh\nprintf %s "$GLIBC_TUNABLES"\n')
-    ran = world.run(words, environment=environment)
-    yield "it gets its memory in huge pages", ran == (0, "glibc.malloc.hugetlb=1", ""), ran
-    ran = world.run(words, environment=environment | {"GLIBC_TUNABLES": ""})
-    yield "or as the user says", ran == (0, "", ""), ran
+    for told in ({}, {"GLIBC_TUNABLES": "a=1"}):
+        ran = world.run(words, environment=(path or {}) | told, **how)
+        wanted = told.get("GLIBC_TUNABLES", "glibc.malloc.hugetlb=1")
+        yield f"{words[0]}: memory as {told or 'in huge pages'}", ran == (0, wanted, ""), ran
 
 
 def named(ran, status, word):
@@ -262,13 +262,14 @@ def try_installed(world):
     ran = world.run(["cargo", "guppy", "affected"], where=world.room, environment=path)
     yield "no workspace", ran[0] == 3 and ran[2].endswith("metadata by --metadata FILE\n"), ran
     left = sorted(str(it.relative_to(prefix)) for it in prefix.rglob("*") if it.is_file())
-    wanted = ["bin/cargo-guppy", "bin/guppy-cargo", "bin/guppy-run", "libexec/guppy/guppy-cargo", "libexec/guppy/metadata.sh"]
-    wanted += ["libexec/guppy/since.sh", "libexec/guppy/start.sh", "libexec/guppy/words.sh"]
+    wanted = ["bin/cargo-guppy", "bin/guppy-cargo", "bin/guppy-run", "libexec/guppy/guppy-cargo", "libexec/guppy/guppy-run"]
+    wanted += [f"libexec/guppy/{it}.sh" for it in ("metadata", "since", "start", "words")]
     yield "nothing else is there", left == wanted and not world.left(), (left, world.left())
     metadata = world.room / "metadata.json"
     metadata.write_text("{}")
     words = ["guppy-cargo", "order", "--metadata", str(metadata)]
-    yield from try_memory(world, prefix / "libexec/guppy/guppy-cargo", words, path)
+    for program, asked in (("guppy-cargo", words), ("guppy-run", ["guppy-run", "order"])):
+        yield from try_memory(world, prefix / "libexec/guppy" / program, asked, path, where=workspace)
 
 
 def try_quick(world):

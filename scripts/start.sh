@@ -1,4 +1,4 @@
-# Read by programs.sh, and by cargo-guppy where it is installed.
+# Read by programs.sh, and by what is installed, cargo-guppy and guppy-run.
 
 # Becomes this program, which gets its memory in huge pages where Linux hands them out to who asks: else a sixth of the time
 # goes to pages that are touched for the first time.
