@@ -21,12 +21,12 @@ from graphs import IDS, PROGRAM, REFUSING, WRAPPER, commands, written
 GROWING = ("chain", "scattered", "acyclic", "layered", "dense", "star")
 
 
-def run(program, words, path):
+def run(program, words, path, **how):
     """Seconds, peak mebibytes and status of one run."""
     with open(path, "rb") as source:
         begun = time.perf_counter()
         process = subprocess.Popen([program] + words, stdin=source, stdout=subprocess.DEVNULL,
-                                   stderr=subprocess.DEVNULL)
+                                   stderr=subprocess.DEVNULL, **how)
         _, status, usage = os.wait4(process.pid, 0)
         seconds = time.perf_counter() - begun
     process.returncode = os.waitstatus_to_exitcode(status)

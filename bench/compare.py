@@ -1,5 +1,6 @@
 #!/usr/bin/env python3
-"""Times guppy-run beside other programs that take the same commands and input, an older build say, by turns.
+"""Times guppy-run, with huge pages as its script starts it, beside other programs that take the same commands and input,
+an older build say, by turns.
 
 Prints for each graph and command the least time and the peak memory of each program, and what guppy-run takes of
 each of the others.
@@ -15,9 +16,14 @@ from bench import run
 from graphs import GRAPHS, PROGRAM, REFUSING, commands, written
 
 
+# As scripts/start.sh has it.
+STARTED = {"env": os.environ | {"GLIBC_TUNABLES": "glibc.malloc.hugetlb=1"}}
+
+
 def compare(programs, words, path, rounds):
     """The least seconds and the greatest memory of each program; they take turns."""
-    runs = [[run(program, words, path) for program in programs] for _ in range(rounds)]
+    how = {PROGRAM: STARTED}
+    runs = [[run(program, words, path, **how.get(program, {})) for program in programs] for _ in range(rounds)]
     for program, (_, _, status) in zip(programs, runs[0]):
         if status != 0 and words not in REFUSING:
             sys.exit(f"compare: {program} {' '.join(words)} ended with status {status}")
