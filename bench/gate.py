@@ -5,6 +5,7 @@ its must-fail edits, in processor seconds at one job.
     bench/gate.py               every crate, lowest first
     bench/gate.py guppy_core    these crates alone, with the proofs of those below them
     bench/gate.py --proofs guppy_core   the same without the edits
+    bench/gate.py --functions guppy_core    of its proof, the functions and the parts that take longest
     bench/gate.py --edits guppy_core    the edits alone, over what `rt check` kept in out/
     bench/gate.py --bugs guppy_core     the same, with each bug by itself of the lists in bugs/ and of shared edits
     bench/gate.py --apply    tries nothing: tells the bugs of the lists in bugs/ that no longer fit the sources
@@ -24,6 +25,9 @@ import resource
 import shutil
 import sys
 import tempfile
+import time
+from collections import Counter
+from pathlib import Path
 
 sys.dont_write_bytecode = True
 TOP = os.path.dirname(os.path.dirname(os.path.realpath(__file__)))
@@ -170,7 +174,37 @@ def measure_edits(rt, crate, kept, each_bug=False):
     return whole
 
 
+def function_and_part(module):
+    """Cuts the file of a checked module, as Rattle-guppy-proofs.set.PackageSet.packages.Lts.oantt: its last word in capitals
+    is the part of the proof, and a file of lemmas has no function."""
+    words = module.removesuffix(".oantt").removesuffix(".decls").partition("-proofs.")[2].split(".")
+    last = len(words)
+    while last > 1 and words[last - 1][:1].isupper():
+        last -= 1
+    return ".".join(words[:last]), words[-1] if last < len(words) else ""
+
+
+def measure_functions(rt, crate):
+    """Tells which functions and parts take longest: at one job, each module takes until it is written."""
+    functions, parts = Counter(), Counter()
+    with tempfile.TemporaryDirectory() as kept:
+        before = time.time()
+        ran, whole = seconds_of(rt.checked, crate, {}, ONE_JOB, kept)
+        for at, module in sorted((it.stat().st_mtime, it.name) for it in Path(kept).rglob("*.oantt")):
+            function, part = function_and_part(module)
+            functions[function] += at - before
+            parts[part] += at - before
+            before = at
+    tell("proof", crate.name, whole, not ran.returncode)
+    for what, spent in ("part", parts.most_common(8)), ("fn", functions.most_common(40)):
+        for name, seconds in spent:
+            tell(what, name or "others", seconds, True)
+    return whole
+
+
 def measure(rt, crate, parts):
+    if parts == "--functions":
+        return measure_functions(rt, crate)
     if parts in EDITS_ALONE:
         kept = f"{crate.folder}/out/incremental"
         with tempfile.TemporaryDirectory() as room:
@@ -192,7 +226,7 @@ def measure(rt, crate, parts):
 def main(words):
     if words == ["--apply"]:
         sys.exit(1 if bugs_that_miss() else 0)
-    parts = words.pop(0) if words and words[0] in ("--proofs", *EDITS_ALONE) else ""
+    parts = words.pop(0) if words and words[0] in ("--proofs", "--functions", *EDITS_ALONE) else ""
     names, edits_alone = words, parts in EDITS_ALONE
     rt = load_rt()
     with tempfile.TemporaryDirectory() as room:
