@@ -172,17 +172,21 @@ pub(crate) fn links(links: &[Ends], set: &[bool], forward: bool) -> Vec<usize> {
     numbers
 }
 
-// The text that a call writes, or why it refuses, told once more where the first room is too small. The call gets where
-// the room begins and how many bytes it has; they aren't cleared first, since it writes those that it tells of.
-fn text_of(room: usize, call: impl Fn(*mut u8, usize) -> Answer) -> Result<String, String> {
-    let mut out = Vec::with_capacity(room);
+// Room for so many bytes.
+fn room_of(bytes: usize) -> Vec<u8> {
+    let mut out = vec![0; bytes];
+    memory::ask_for_huge_pages(out.as_mut_ptr(), bytes);
+    out
+}
+
+// The text that a call writes, or why it refuses, told once more where the first room is too small.
+fn text_of(room: usize, call: impl Fn(&mut [u8]) -> Answer) -> Result<String, String> {
+    let mut out = room_of(room);
     loop {
-        memory::ask_for_huge_pages(out.as_mut_ptr(), out.capacity());
-        let answer = call(out.as_mut_ptr(), out.capacity());
+        let answer = call(&mut out);
         match answer.status {
             0 | 1 => {
-                // SAFETY: the call wrote so many bytes, and there was room for them.
-                unsafe { out.set_len(answer.len) };
+                out.truncate(answer.len);
                 out.shrink_to_fit();
                 let text = String::from_utf8(out).expect("texts are UTF-8");
                 return if answer.status == 0 {
@@ -191,7 +195,7 @@ fn text_of(room: usize, call: impl Fn(*mut u8, usize) -> Answer) -> Result<Strin
                     Err(text)
                 };
             }
-            2 => out = Vec::with_capacity(answer.len),
+            2 => out = room_of(answer.len),
             _ => out_of_memory(room),
         }
     }
@@ -201,24 +205,24 @@ fn text_of(room: usize, call: impl Fn(*mut u8, usize) -> Answer) -> Result<Strin
 /// it refuses. None of the arguments has a NUL.
 pub(crate) fn answer(json: &str, args: &[&str]) -> Result<String, String> {
     let args = args.join("\0");
-    // SAFETY: as above, and `out` has room for so many bytes, which no slice overlaps.
-    text_of(1 << 12, |out, room| unsafe {
+    // SAFETY: as above, and no slice overlaps `out`.
+    text_of(1 << 12, |out| unsafe {
         guppy_answer(
             json.as_ptr(),
             json.len(),
             args.as_ptr(),
             args.len(),
-            out,
-            room,
+            out.as_mut_ptr(),
+            out.len(),
         )
     })
 }
 
 /// The packages, links and workspace that the JSON describes as one text, or the line that says why there are none.
 pub(crate) fn records(json: &str) -> Result<String, String> {
-    // SAFETY: as above.
-    text_of(json.len(), |out, room| unsafe {
-        guppy_records(json.as_ptr(), json.len(), out, room)
+    // SAFETY: as above, and no slice overlaps `out`.
+    text_of(json.len(), |out| unsafe {
+        guppy_records(json.as_ptr(), json.len(), out.as_mut_ptr(), out.len())
     })
 }
 
@@ -513,10 +517,10 @@ mod tests {
     fn a_text_is_asked_for_again_where_the_room_was_too_small() {
         let (p, n) = (JSON.as_ptr(), JSON.len());
         let calls = Cell::new(0);
-        let text = text_of(0, |out, room| {
+        let text = text_of(0, |out| {
             calls.set(calls.get() + 1);
             // SAFETY: as above.
-            unsafe { guppy_records(p, n, out, room) }
+            unsafe { guppy_records(p, n, out.as_mut_ptr(), out.len()) }
         });
         assert_eq!((calls.get(), text), (2, records(JSON)));
     }
