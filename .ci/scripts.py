@@ -210,11 +210,13 @@ def try_proved(world):
 
 
 def try_memory(world, program, words, path=None, **how):
-    """How the program is to get its memory: in huge pages, or as the user says. In its place is one that tells."""
+    """How the program is to get its memory: in huge pages, guppy-cargo all of it from the heap, or as the user says. In
+    its place is one that tells."""
     program.write_text('#!/bin/sh\nprintf %s "$GLIBC_TUNABLES"\n')
+    own = "glibc.malloc.hugetlb=1" + ":glibc.malloc.mmap_threshold=4294967296" * ("cargo" in program.name)
     for told in ({}, {"GLIBC_TUNABLES": "a=1"}):
         ran = world.run(words, environment=(path or {}) | told, **how)
-        wanted = told.get("GLIBC_TUNABLES", "glibc.malloc.hugetlb=1")
+        wanted = told.get("GLIBC_TUNABLES", own)
         yield f"{words[0]}: memory as {told or 'in huge pages'}", ran == (0, wanted, ""), ran
 
 

@@ -1,8 +1,13 @@
 # Read by programs.sh, and by what is installed, cargo-guppy and guppy-run.
 
 # Becomes this program, which gets its memory in huge pages where Linux hands them out to who asks: with small ones,
-# each entered into the system's tables when it is touched first, it takes up to half as long again.
+# each entered into the system's tables when it is touched first, it takes up to half as long again. The few large blocks
+# of guppy-cargo come from the heap too, where what it reads grows in its place.
 start() {
-    export GLIBC_TUNABLES="${GLIBC_TUNABLES-glibc.malloc.hugetlb=1}"
+    memory=glibc.malloc.hugetlb=1
+    case ${1##*/} in
+    guppy_cargo_main | guppy-cargo) memory=$memory:glibc.malloc.mmap_threshold=4294967296 ;;
+    esac
+    export GLIBC_TUNABLES="${GLIBC_TUNABLES-$memory}"
     exec "$@"
 }

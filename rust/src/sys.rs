@@ -205,6 +205,7 @@ fn text_of(room: usize, call: impl Fn(&mut [u8]) -> Answer) -> Result<String, St
 /// it refuses. None of the arguments has a NUL.
 pub(crate) fn answer(json: &str, args: &[&str]) -> Result<String, String> {
     let args = args.join("\0");
+    let _region = region::for_text(json.len());
     // SAFETY: as above, and no slice overlaps `out`.
     text_of(1 << 12, |out| unsafe {
         guppy_answer(
@@ -220,14 +221,17 @@ pub(crate) fn answer(json: &str, args: &[&str]) -> Result<String, String> {
 
 /// The packages, links and workspace that the JSON describes as one text, or the line that says why there are none.
 pub(crate) fn records(json: &str) -> Result<String, String> {
+    let _region = region::for_text(json.len());
     // SAFETY: as above, and no slice overlaps `out`.
     text_of(json.len(), |out| unsafe {
         guppy_records(json.as_ptr(), json.len(), out.as_mut_ptr(), out.len())
     })
 }
 
-/// The memory that the library takes: the C library's, whose blocks fit each alignment that is asked for.
+/// The memory that the library takes: the C library's, whose blocks fit each alignment that is asked for, or that of a
+/// region.
 mod memory {
+    use super::region;
     use std::ptr::NonNull;
 
     extern "C" {
@@ -291,22 +295,46 @@ mod memory {
         }
     }
 
+    fn taken(bytes: usize) -> Tried {
+        match region::take(bytes) {
+            Some(block) => Tried { found: true, block },
+            // SAFETY: any number of bytes may be asked for.
+            None => tried(unsafe { malloc(bytes) }, bytes),
+        }
+    }
+
     #[no_mangle]
     pub(super) unsafe extern "C" fn rattle_alloc(bytes: usize, alignment: usize) -> Tried {
         #[cfg(test)]
         if super::tests::is_refused() {
             return tried(std::ptr::null_mut(), bytes);
         }
-        let tried = tried(unsafe { malloc(some(bytes, alignment)) }, bytes);
+        let tried = taken(some(bytes, alignment));
         #[cfg(test)]
         super::tests::count(tried.found.into());
         tried
     }
 
+    // Changes the size of the region's block, where it is or by a copy of what is kept.
+    unsafe fn resized(block: *mut u8, kept: usize, bytes: usize) -> Tried {
+        if unsafe { region::resize(block, bytes) } {
+            return Tried { found: true, block };
+        }
+        let moved = taken(bytes);
+        if moved.found {
+            // SAFETY: the blocks are apart, and each has as many bytes as are kept.
+            unsafe {
+                std::ptr::copy_nonoverlapping(block, moved.block, kept.min(bytes));
+                region::give_back(block);
+            }
+        }
+        moved
+    }
+
     #[no_mangle]
     pub(super) unsafe extern "C" fn rattle_realloc(
         block: *mut u8,
-        _kept: usize,
+        kept: usize,
         bytes: usize,
         alignment: usize,
     ) -> Tried {
@@ -314,14 +342,177 @@ mod memory {
         if super::tests::is_refused() {
             return tried(std::ptr::null_mut(), bytes);
         }
-        tried(unsafe { realloc(block, some(bytes, alignment)) }, bytes)
+        let bytes = some(bytes, alignment);
+        if region::has(block) {
+            return unsafe { resized(block, kept, bytes) };
+        }
+        tried(unsafe { realloc(block, bytes) }, bytes)
     }
 
     #[no_mangle]
     pub(super) unsafe extern "C" fn rattle_dealloc(block: *mut u8) {
         #[cfg(test)]
         super::tests::count(-1);
-        unsafe { free(block) }
+        if region::has(block) {
+            unsafe { region::give_back(block) }
+        } else {
+            unsafe { free(block) }
+        }
+    }
+}
+
+/// Memory for the small blocks of one call on a large text.
+///
+/// The library gives back all that it takes before a call ends, and a call stays on its thread. So a region of huge pages
+/// is mapped as the call begins, and unmapped as it ends. Blocks are cut from its front, or are such as were given back:
+/// none is ever joined with those beside it.
+mod region {
+    use std::cell::Cell;
+    use std::marker::PhantomData;
+    use std::ptr::null_mut;
+
+    extern "C" {
+        fn mmap(at: *mut u8, bytes: usize, may: i32, how: i32, file: i32, from: i64) -> *mut u8;
+        fn munmap(begin: *mut u8, bytes: usize) -> i32;
+    }
+
+    const MAY_READ_AND_WRITE: i32 = 3;
+    // Private, of no file, and with memory only for what is touched.
+    const MAPPED: i32 = 0x2 | 0x20 | 0x4000;
+    const FAILED: *mut u8 = usize::MAX as *mut u8;
+
+    /// The texts for which it pays.
+    pub(super) const LARGE_TEXT: usize = 1 << 24;
+    // How many times as long as the text the region is.
+    const TIMES: usize = 4;
+    // What stands before a block: the size of both, a multiple of the unit.
+    const HEAD: usize = 8;
+    const UNIT: usize = 16;
+    const LARGEST: usize = 1 << 13;
+
+    struct Region {
+        begin: usize,
+        // Where the next block is cut.
+        front: usize,
+        end: usize,
+        // Of each size the block that was given back last, which has the address of the one before, or 0.
+        given_back: [usize; LARGEST / UNIT + 1],
+    }
+
+    impl Region {
+        fn cut(&mut self, size: usize) -> Option<usize> {
+            if self.end - self.front < size {
+                return None;
+            }
+            let head = self.front;
+            self.front += size;
+            Some(head)
+        }
+    }
+
+    thread_local! {
+        static REGION: Cell<*mut Region> = const { Cell::new(null_mut()) };
+    }
+
+    /// There is a region on this thread until this is dropped.
+    pub(super) struct InUse(PhantomData<*mut u8>);
+
+    /// Maps a region where the text is large and there is none yet. It is done without where it isn't to be had.
+    pub(super) fn for_text(bytes: usize) -> Option<InUse> {
+        if bytes < LARGE_TEXT || !REGION.get().is_null() {
+            return None;
+        }
+        let len = bytes.checked_mul(TIMES)?;
+        // SAFETY: what is mapped anew overlaps nothing.
+        let begin = unsafe { mmap(null_mut(), len, MAY_READ_AND_WRITE, MAPPED, -1, 0) };
+        if begin == FAILED {
+            return None;
+        }
+        super::memory::ask_for_huge_pages(begin, len);
+        let begin = begin as usize;
+        REGION.set(Box::into_raw(Box::new(Region {
+            begin,
+            front: begin + UNIT - HEAD,
+            end: begin + len,
+            given_back: [0; LARGEST / UNIT + 1],
+        })));
+        Some(InUse(PhantomData))
+    }
+
+    impl Drop for InUse {
+        fn drop(&mut self) {
+            // SAFETY: this is the box that was made, and no block of the region is in use any more.
+            unsafe {
+                let region = Box::from_raw(REGION.replace(null_mut()));
+                munmap(region.begin as *mut u8, region.end - region.begin);
+            }
+        }
+    }
+
+    // What a block of so many bytes takes, where it is small.
+    fn size_of(bytes: usize) -> Option<usize> {
+        (bytes <= LARGEST - HEAD).then(|| (bytes + HEAD).next_multiple_of(UNIT))
+    }
+
+    /// A block of so many bytes, where there is a region, they are few, and it has room.
+    pub(super) fn take(bytes: usize) -> Option<*mut u8> {
+        // SAFETY: only this thread uses its region; a block that was given back and a head are the region's to read and
+        // write.
+        unsafe {
+            let region = REGION.get().as_mut()?;
+            let size = size_of(bytes)?;
+            let last = region.given_back[size / UNIT];
+            if last != 0 {
+                region.given_back[size / UNIT] = *(last as *const usize);
+                return Some(last as *mut u8);
+            }
+            let head = region.cut(size)?;
+            *(head as *mut usize) = size;
+            Some((head + HEAD) as *mut u8)
+        }
+    }
+
+    /// Whether the block is the region's.
+    pub(super) fn has(block: *mut u8) -> bool {
+        // SAFETY: as above.
+        unsafe { REGION.get().as_ref() }
+            .is_some_and(|region| (region.begin..region.end).contains(&(block as usize)))
+    }
+
+    /// Whether the block, which is the region's, could be made of so many bytes where it is.
+    pub(super) unsafe fn resize(block: *mut u8, bytes: usize) -> bool {
+        let Some(size) = size_of(bytes) else {
+            return false;
+        };
+        // SAFETY: as above.
+        unsafe {
+            let region = &mut *REGION.get();
+            let head = block as usize - HEAD;
+            let had = *(head as *const usize);
+            if size > had {
+                let is_last = head + had == region.front;
+                if !is_last || region.cut(size - had).is_none() {
+                    return false;
+                }
+            } else if size < had {
+                let rest = head + size;
+                *(rest as *mut usize) = had - size;
+                give_back((rest + HEAD) as *mut u8);
+            }
+            *(head as *mut usize) = size;
+            true
+        }
+    }
+
+    /// Takes back the block, which is the region's.
+    pub(super) unsafe fn give_back(block: *mut u8) {
+        // SAFETY: as above.
+        unsafe {
+            let region = &mut *REGION.get();
+            let size = *((block as usize - HEAD) as *const usize);
+            *(block as *mut usize) = region.given_back[size / UNIT];
+            region.given_back[size / UNIT] = block as usize;
+        }
     }
 }
 
@@ -540,6 +731,65 @@ mod tests {
             assert!(kept.iter().all(|byte| *byte == 7));
             memory::rattle_dealloc(block);
         }
+        assert_eq!(BLOCKS.get(), 0);
+    }
+
+    // Blocks are taken, made larger or smaller, and given back, as numbers tell that look like chance; each is full of a
+    // byte of its own, which it is to keep.
+    #[test]
+    fn blocks_of_a_region_keep_what_they_hold() {
+        let _region = region::for_text(region::LARGE_TEXT).expect("memory for a region");
+        let mut blocks: Vec<(*mut u8, usize, u8)> = Vec::new();
+        let (mut number, mut inside) = (1_u64, 0);
+        for turn in 0..20_000 {
+            number = number
+                .wrapping_mul(6_364_136_223_846_793_005)
+                .wrapping_add(1_442_695_040_888_963_407);
+            let bytes = 1 + (number >> 33) as usize % (1 << (1 + turn % 14));
+            let at = (number >> 20) as usize % (blocks.len() + 1);
+            // SAFETY: only bytes of blocks in use are read and written.
+            unsafe {
+                if turn % 3 == 0 || at == blocks.len() {
+                    let block = memory::rattle_alloc(bytes, 8).block();
+                    assert_eq!(block as usize % 16, 0);
+                    inside += usize::from(region::has(block));
+                    block.write_bytes(turn as u8, bytes);
+                    blocks.push((block, bytes, turn as u8));
+                    continue;
+                }
+                let (block, had, byte) = blocks[at];
+                let held = std::slice::from_raw_parts(block, had);
+                assert!(held.iter().all(|it| *it == byte), "turn {turn}");
+                if turn % 3 == 1 {
+                    let block = memory::rattle_realloc(block, had, bytes, 8).block();
+                    let kept = std::slice::from_raw_parts(block, had.min(bytes));
+                    assert!(kept.iter().all(|it| *it == byte), "turn {turn}");
+                    block.write_bytes(byte, bytes);
+                    blocks[at] = (block, bytes, byte);
+                } else {
+                    memory::rattle_dealloc(block);
+                    blocks.swap_remove(at);
+                }
+            }
+        }
+        assert!(inside > 4_000, "{inside} blocks of the region");
+        for (block, ..) in blocks {
+            // SAFETY: it is in use.
+            unsafe { memory::rattle_dealloc(block) };
+        }
+        assert_eq!(BLOCKS.get(), 0);
+    }
+
+    #[test]
+    fn a_region_makes_no_difference_to_a_text() {
+        assert!(region::for_text(region::LARGE_TEXT - 1).is_none());
+        let without = (records(JSON), answer(JSON, &["order"]), answer("[", &[]));
+        let region = region::for_text(region::LARGE_TEXT);
+        assert!(region.is_some() && region::for_text(region::LARGE_TEXT).is_none());
+        let within = (records(JSON), answer(JSON, &["order"]), answer("[", &[]));
+        assert_eq!(within, without);
+        drop(region);
+        assert!(region::take(16).is_none());
         assert_eq!(BLOCKS.get(), 0);
     }
 

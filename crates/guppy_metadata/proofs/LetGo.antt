@@ -1,7 +1,8 @@
 -- Packages whose dependencies may have been let go: what is said of them is said of the whole ones.
-use Rattle.std.proofs.Common.{◌≡◌, ◌∙◌, ◌⊎◌, inl, inr, ℕ, zero, suc, Bool, List, [], ◌∷◌, map, Option, None, Some, IfSome, IsSomeAnd, slice_get, option_and_then, refl, sym, ap, subst, string_bytes, codes}
+use Rattle.std.proofs.Common.{◌≡◌, ◌∙◌, ◌⊎◌, inl, inr, ℕ, zero, suc, Bool, List, [], ◌∷◌, map, Option, None, Some, IfSome, IsSomeAnd, slice_get, option_map, option_and_then, refl, sym, ap, subst, string_bytes, codes}
 use Rattle.std.proofs.Math.ListN.{set}
-use Rattle.std.specs.Borrow.{Bor}
+use Rattle.std.specs.Prelude.{String}
+use Rattle.std.specs.declared.alloc.Global.{Global}
 use Rattle.std.specs.List.{AllZip}
 use Rattle.std.specs.Option.{option_copied}
 use Rattle.json.specs.Json.{Json}
@@ -52,7 +53,7 @@ let_at (other ∷ packages) (suc k) p q at is = (let_itself other, let_at packag
 pub ids_kept : (ps qs : List Package) → AllZip IsLetGo ps qs → map (λ p. p.id.now) ps ≡ map (λ p. p.id.now) qs
 ids_kept ps qs all = made_alike IsLetGo (λ p. p.id.now) (λ p. p.id.now) (λ p q is. ap (λ id. id.now) is.id) ps qs all
 
-pub positions_kept : {S : Type 0} (ps qs : List Package) (positions : IndexMap (Bor (List ℕ)) ℕ S) → AllZip IsLetGo ps qs → ArePositions ps positions → ArePositions qs positions
+pub positions_kept : {S : Type 0} (ps qs : List Package) (positions : IndexMap (String Global) ℕ S) → AllZip IsLetGo ps qs → ArePositions ps positions → ArePositions qs positions
 positions_kept ps qs positions all are id = are id ∙ ap (last_position id) (ids_kept ps qs all)
 
 -- links between them are links between the whole ones
@@ -61,7 +62,7 @@ alike_let p q is = record {
   id = ap (λ id. id.now) (sym is.id);
   name = ap (λ r. string_bytes r.name) (sym is.record_is);
   version = ap (λ r. parts_of r.version) (sym is.record_is);
-  library = ap option_copied (sym is.library);
+  library = ap (option_map string_bytes) (sym is.library);
   declared = by is.declared;
 }
   where

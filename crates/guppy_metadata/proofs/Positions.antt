@@ -1,12 +1,13 @@
 -- Packages by the positions of their IDs.
 use Rattle.std.proofs.Common.{◌≡◌, ◌∙◌, ℕ, suc, Bool, true, false, cond, List, [], ◌∷◌, ◌++◌, Option, None, Some, filter, map, length, slice_get, get_or, ◌<◌, ◌≤◌, IfSome, option_map, option_and_then, refl, sym, ap, subst}
-use Rattle.std.specs.Prelude.{MatchOption}
+use Rattle.std.specs.Prelude.{MatchOption, String}
+use Rattle.std.specs.declared.alloc.Global.{Global}
 use Rattle.std.specs.Borrow.{Bor}
 use Rattle.std.specs.List.{last_or}
 use Rattle.std.specs.Option.{option_copied, option_or}
 use Rattle.std.specs.Str.{bytes_eq}
 use Rattle.std.proofs.lemmas.Option.{slice_get_past, slice_get_read}
-use Rattle.indexmap.specs.IndexMap.{IndexMap, get_by}
+use Rattle.indexmap.specs.IndexMap.{IndexMap, get_by_text}
 use Rattle.guppy_metadata.specs.declared.package.Package.{Package}
 use Rattle.guppy_metadata.specs.Package.{last_position, with_id, ArePositions}
 
@@ -78,8 +79,8 @@ module _ (id : List ℕ) where
       by (Some k) last = last.1 ∙ sym (last.2 None)
 
 -- the package that is found behind an ID is the last one with it
-pub found_at : {S : Type 0} (packages : List Package) (positions : IndexMap (Bor (List ℕ)) ℕ S) → ArePositions packages positions → (id : List ℕ)
-    → option_and_then (slice_get packages) (get_by (λ key. bytes_eq id key.now) positions) ≡ with_id id packages
+pub found_at : {S : Type 0} (packages : List Package) (positions : IndexMap (String Global) ℕ S) → ArePositions packages positions → (id : List ℕ)
+    → option_and_then (slice_get packages) (get_by_text positions id) ≡ with_id id packages
 found_at packages positions are id = ap (option_and_then (slice_get packages)) (are id) ∙ at_last id packages
 
 -- what is read at a place is what stands there

@@ -1,7 +1,6 @@
 -- Packages that one JSON tells: the links between them are the same.
-use Rattle.std.proofs.Common.{◌≡◌, ◌∙◌, ◌⊎◌, inl, inr, filter, [], ◌∷◌, ℕ, ◌==◌, ◌&&◌, ◌||◌, Bool, List, Option, None, Some, map, length, refl, sym, ap, subst, string_bytes, codes}
+use Rattle.std.proofs.Common.{◌≡◌, ◌∙◌, ◌⊎◌, inl, inr, filter, [], ◌∷◌, ℕ, ◌==◌, ◌&&◌, ◌||◌, Bool, List, Option, None, Some, map, option_map, length, refl, sym, ap, subst, string_bytes, codes}
 use Rattle.std.specs.List.{AllZip}
-use Rattle.std.specs.Option.{option_copied}
 use Rattle.std.specs.Str.{bytes_eq}
 use Rattle.std.proofs.lemmas.List.{length-map}
 use Rattle.json.specs.Json.{Json}
@@ -35,7 +34,7 @@ pub record IsAlike (p q : Package) : Type 0 where
   pub id : p.id.now ≡ q.id.now
   pub name : string_bytes p.record.name ≡ string_bytes q.record.name
   pub version : parts_of p.record.version ≡ parts_of q.record.version
-  pub library : option_copied p.library ≡ option_copied q.library
+  pub library : option_map string_bytes p.library ≡ option_map string_bytes q.library
   pub declared : AllZip IsSame p.declared.items q.declared.items ⊎ (p.declared.items ≡ [])
 
 alike_itself : (p : Package) → IsAlike p p
@@ -55,7 +54,7 @@ told_once details d p q is also = record {
   version =
       let text = text_once d (codes "version") is.named.version.0 also.named.version.0 is.named.version.1 also.named.version.1 in
       ok-value _ _ (sym is.named.version.2 ∙ (ap version_parts text ∙ also.named.version.2));
-  library = library_once d (option_copied p.library) (option_copied q.library) is.library also.library;
+  library = library_once d (option_map string_bytes p.library) (option_map string_bytes q.library) is.library also.library;
   declared = inl (lists_fit (IsDeclared details) (IsDeclared details) IsSame (declared_once details) (get (codes "dependencies") d) p.declared.items q.declared.items is.declared also.declared);
 }
 

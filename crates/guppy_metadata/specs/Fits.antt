@@ -1,5 +1,5 @@
 -- Which of the declared dependencies were resolved to one.
-use Rattle.std.specs.Prelude.{◌==◌, ◌&&◌, ◌||◌, ℕ, Bool, if◌then◌else◌, List, length, map, unwrap_or, string_bytes}
+use Rattle.std.specs.Prelude.{◌==◌, ◌&&◌, ◌||◌, ℕ, Bool, if◌then◌else◌, List, length, map, option_map, unwrap_or, string_bytes}
 use Rattle.std.specs.Cmp.Lexicographic.{pointwise}
 use Rattle.std.specs.List.{list_any, list_all}
 use Rattle.std.specs.Option.{option_copied, option_eq}
@@ -30,7 +30,7 @@ in_code name = map letter_in_code name
 -- the name by which the code uses a dependency on a package: the one that it is given, else that of the package's
 -- library, and that of the package where it has none
 abbrev pub used_name : Declared → Package → List ℕ
-used_name x needed = unwrap_or (option_copied x.rename) (unwrap_or (option_copied needed.library) x.name.now)
+used_name x needed = unwrap_or (option_copied x.rename) (unwrap_or (option_map string_bytes needed.library) x.name.now)
 
 -- whether a dependency on the package has this name in the code; one on what is no library has none there
 abbrev pub has_name : Declared → Package → List ℕ → Bool

@@ -1,10 +1,10 @@
 -- What the JSON of a package says.
-use Rattle.std.specs.Prelude.{◌≡◌, ◌==◌, ◌⊎◌, ℕ, zero, suc, Bool, true, false, List, [], ◌∷◌, ◌++◌, Option, Some, None, IsSomeAnd, Ok, length, cond, filter, map, option_map, unwrap_or, string_bytes, codes}
-use Rattle.std.specs.Borrow.{Bor}
+use Rattle.std.specs.Prelude.{◌≡◌, ◌==◌, ◌⊎◌, ℕ, zero, suc, Bool, true, false, List, [], ◌∷◌, ◌++◌, Option, Some, None, IsSomeAnd, Ok, length, cond, String, filter, map, option_map, unwrap_or, string_bytes, codes}
+use Rattle.std.specs.declared.alloc.Global.{Global}
 use Rattle.std.specs.List.{AllZip, last_or}
 use Rattle.std.specs.Option.{option_copied, option_or}
 use Rattle.std.specs.Str.{bytes_eq}
-use Rattle.indexmap.specs.IndexMap.{IndexMap, get_by}
+use Rattle.indexmap.specs.IndexMap.{IndexMap, get_by_text}
 use Rattle.semver.specs.Identifiers.{parts_of}
 use Rattle.semver.specs.Parse.{version_parts}
 use Rattle.semver.specs.declared.Version.{Version}
@@ -140,7 +140,7 @@ pub record IsTold (details : Bool) (d : Json) (p : Package) : Type 0 where
   pub named : IsNamed d p.record
   pub detailed : IsDetailed details d p.record
   pub targets : AreAskedTargets details d p.record.build_targets.items
-  pub library : IsLibrary d (option_copied p.library)
+  pub library : IsLibrary d (option_map string_bytes p.library)
   pub declared : AreDeclared details d p.declared.items
   pub optional : details ≡ true → NamesOptional p.declared.items p.record.optional_deps
 
@@ -219,6 +219,6 @@ last_position id [] = None
 last_position id (other ∷ ids) = option_or (option_map suc (last_position id ids)) (cond (bytes_eq other id) (Some 0) None)
 
 -- the positions of the packages behind their IDs
-abbrev pub ArePositions : {S : Type 0} → List Package → IndexMap (Bor (List ℕ)) ℕ S → Type 0
+abbrev pub ArePositions : {S : Type 0} → List Package → IndexMap (String Global) ℕ S → Type 0
 ArePositions packages positions = (id : List ℕ)
-    → get_by (λ key. bytes_eq id key.now) positions ≡ last_position id (map (λ p. p.id.now) packages)
+    → get_by_text positions id ≡ last_position id (map (λ p. p.id.now) packages)

@@ -35,7 +35,7 @@ use std::collections::BTreeMap;
 #[derive(Clone, Copy)]
 pub(crate) struct Packages<'p, 'a> {
     pub(crate) packages: &'p [Package<'a>],
-    pub(crate) positions: &'p IndexMap<&'a str, usize>,
+    pub(crate) positions: &'p IndexMap<String, usize>,
 }
 
 impl<'p, 'a> Packages<'p, 'a> {
@@ -80,9 +80,9 @@ fn is_named(name: &[u8], in_code: &[u8]) -> bool
 fn has_name(declared: &Declared<'_>, needed: &Package<'_>, in_code: &str) -> bool
     ensures { result ≡ has_name declared.now needed.now in_code.now }
 {
-    let name = match (declared.rename, needed.library) {
+    let name = match (declared.rename, &needed.library) {
         (Some(rename), _) => rename,
-        (None, Some(library)) => library,
+        (None, Some(library)) => library.as_str(),
         (None, None) => declared.name,
     };
     in_code.is_empty() || is_named(name.as_bytes(), in_code.as_bytes())

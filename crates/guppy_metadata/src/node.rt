@@ -93,7 +93,12 @@ fn read_members<'a>(
 }
 
 // Lets go what the package with this ID declares.
-fn let_go(alloc: Global, packages: &mut [Package<'_>], positions: &IndexMap<&str, usize>, id: &str)
+fn let_go(
+    alloc: Global,
+    packages: &mut [Package<'_>],
+    positions: &IndexMap<String, usize>,
+    id: &str,
+)
     ensures { AllZip IsLetGo packages.old packages.new }
 {
     let Some(position) = positions.get(id) else {
@@ -110,7 +115,7 @@ pub(crate) fn read_node(
     links: &mut Vec<LinkRecord>,
     reader: &mut Reader<'_>,
     packages: &mut [Package<'_>],
-    positions: &IndexMap<&str, usize>,
+    positions: &IndexMap<String, usize>,
 ) -> Option<()>
     requires { ArePositions packages.old positions.now }
     ensures links { OnSome result ((told : Json) × (value 125 reader.old ≡ Some (told, reader.new))

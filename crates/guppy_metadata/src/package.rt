@@ -15,7 +15,7 @@ ghost use Rattle.guppy_metadata.specs.Package.{IsFrom, IsNamed, IsDescribed, IsF
 use crate::declared::{Declared, declared_dependencies, optional_names};
 use crate::fault::Misfit;
 use crate::feature::named_features;
-use crate::object::{Object, version_of};
+use crate::object::{Object, optional_copy, version_of};
 use crate::path::folder_from;
 use crate::target::{build_targets, first_library};
 use crate::workspace::set_of;
@@ -34,8 +34,8 @@ pub(crate) struct Package<'a> {
     pub(crate) id: &'a str,
     /// Where it comes from, where that is told.
     pub(crate) source: Option<&'a str>,
-    /// The name of its library, where it has one.
-    pub(crate) library: Option<&'a str>,
+    /// A copy of the name of its library, where it has one, which lies beside its record's texts.
+    pub(crate) library: Option<String>,
     /// The dependencies that it declares.
     pub(crate) declared: Vec<Declared<'a>>,
     /// Its record, but for where it comes from.
@@ -232,6 +232,7 @@ fn filled_package<'a>(
 {
     let targets = asked_targets(json, details)?;
     add_details(&mut made, json, declared.as_slice(), targets, details)?;
+    let library = optional_copy(json.alloc, library)?;
     Ok(Package {
         id,
         source,
@@ -302,16 +303,17 @@ pub(crate) fn packages_of<'a>(
     Ok(packages)
 }
 
-/// The positions of the packages, each behind its ID.
-pub(crate) fn positions_of<'a>(
+/// The positions of the packages, each behind a copy of its ID: the copies lie together, and the IDs far apart in the
+/// JSON.
+pub(crate) fn positions_of(
     alloc: Global,
-    packages: &[Package<'a>],
-) -> Result<IndexMap<&'a str, usize>, AllocError>
+    packages: &[Package<'_>],
+) -> Result<IndexMap<String, usize>, AllocError>
     ensures { IfOk result (ArePositions packages.now) }
 {
     let mut positions = IndexMap::with_capacity(alloc, packages.len())?;
     for (position, package) in packages.iter().enumerate() {
-        positions.insert(package.id, position)?;
+        positions.insert(String::from_str(alloc, package.id)?, position)?;
     }
     Ok(positions)
 }

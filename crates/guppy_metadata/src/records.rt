@@ -226,7 +226,8 @@ fn records_from(alloc: Global, json: &str, details: bool) -> Result<Records, Met
 /// Time grows with the text, and of one package with its resolved times its declared dependencies. Where the
 /// text has `packages` before `resolve`, and of each node the `id` before the `deps`, as Cargo prints them, takes
 /// as much memory as the text is long, and memory for the records, the declared dependencies and what else one
-/// package says. Else, and before a fault is told, the text is read once more, with memory for all that it says.
+/// package says; a link of each declared dependency has room before the first is read. Else, and before a fault is
+/// told, the text is read once more, with memory for all that it says.
 pub fn records_of(alloc: Global, json: &str) -> Result<Records, MetadataFault>
     ensures json { OnOk result (IsSome (document json.now)) }
     ensures packages { IfOk result

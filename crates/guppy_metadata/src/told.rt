@@ -1,5 +1,5 @@
 //! The packages and the resolved nodes, read item by item, so that no value of the whole stands in memory.
-ghost use Rattle.std.specs.Prelude.{◌≡◌, ◌++◌, List, Some, IfSome, OnSome, IsSomeAnd, codes};
+ghost use Rattle.std.specs.Prelude.{◌≡◌, ◌++◌, [], List, Some, IfSome, OnSome, IsSomeAnd, codes};
 ghost use Rattle.std.specs.List.{AllZip};
 ghost use Rattle.json.specs.Json.{Json, max_depth, value};
 ghost use Rattle.json.specs.Find.{get};
@@ -48,12 +48,28 @@ fn read_packages<'a>(
     Some(packages)
 }
 
+// How many dependencies the packages declare.
+fn declared_count(packages: &[Package<'_>]) -> usize {
+    let mut count: usize = 0;
+    for package in packages {
+        count = count.saturating_add(package.declared.len());
+    }
+    count
+}
+
+// No links, with room for one of each dependency that the packages declare, so that none is moved.
+fn room_for_links(alloc: Global, packages: &[Package<'_>]) -> Option<Vec<LinkRecord>>
+    ensures { IfSome result (λ links. links.items ≡ []) }
+{
+    Vec::with_capacity(alloc, declared_count(packages)).ok()
+}
+
 // The links of the nodes of the list that comes next. Lets go what the packages of these declare.
 fn read_nodes(
     alloc: Global,
     reader: &mut Reader<'_>,
     packages: &mut [Package<'_>],
-    positions: &IndexMap<&str, usize>,
+    positions: &IndexMap<String, usize>,
 ) -> Option<Vec<LinkRecord>>
     requires { ArePositions packages.old positions.now }
     ensures links { IfSome result (λ links. (told : Json)
@@ -64,10 +80,11 @@ fn read_nodes(
     let Some(Token::BeginArray) = reader.next() else {
         return None;
     };
-    let mut links = Vec::new(alloc);
+    let mut links = room_for_links(alloc, packages)?;
     while !reader.take_end_array() {
         read_node(&mut links, reader, packages, positions)?;
     }
+    links.shrink_to_fit();
     Some(links)
 }
 
@@ -76,7 +93,7 @@ fn read_resolve(
     alloc: Global,
     reader: &mut Reader<'_>,
     packages: &mut [Package<'_>],
-    positions: &IndexMap<&str, usize>,
+    positions: &IndexMap<String, usize>,
 ) -> Option<Vec<LinkRecord>>
     requires { ArePositions packages.old positions.now }
     ensures links { IfSome result (λ links. (told : Json)

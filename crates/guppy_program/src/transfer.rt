@@ -23,6 +23,7 @@ pub fn read_all<R: Source, F: ProgramFault>(alloc: Global, reader: &mut R) -> Re
             return Err(F::of(Fault::InputFailed));
         };
         if count == 0 {
+            bytes.shrink_to_fit();
             return Ok(bytes);
         }
         if bytes.extend_from_slice(&chunk[..count]).is_err() {

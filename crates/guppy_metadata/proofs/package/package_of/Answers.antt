@@ -1,5 +1,4 @@
-use Rattle.std.proofs.Common.{refl}
-use Rattle.std.specs.Option.{option_copied}
+use Rattle.std.proofs.Common.{refl, option_map, string_bytes}
 use Rattle.guppy_metadata.specs.Members.{data_of}
 use Rattle.guppy_metadata.specs.Package.{AreAskedTargets, IsDetailed, IsTold}
 use Rattle.guppy_metadata.proofs.Refused.{refused, implied_apart, part}
@@ -18,7 +17,7 @@ pub returns-in_err-record : goal.returns-in_err-record
 returns-in_err-record c = refused _ _ _ c.from_residual-in_err-record.ensures (λ made holds. (made.record, holds.named)) c.in_err-record.ensures.named
 
 pub returns-in_err-library : goal.returns-in_err-library
-returns-in_err-library c = refused _ _ _ c.from_residual-in_err-library.ensures (λ made holds. (option_copied made.library, holds.library)) c.in_err-library.ensures
+returns-in_err-library c = refused _ _ _ c.from_residual-in_err-library.ensures (λ made holds. (option_map string_bytes made.library, holds.library)) c.in_err-library.ensures
 
 pub returns : goal.returns
 returns c =

@@ -1,9 +1,9 @@
-use Rattle.std.proofs.Common.{◌∙◌, [], ◌∷◌, ◌++◌, refl, ap, arith}
+use Rattle.std.proofs.Common.{◌∙◌, [], ◌∷◌, ◌++◌, refl, sym, ap, subst, arith}
 use Rattle.std.proofs.lemmas.List.{flat_map_more}
 use Rattle.indexmap.proofs.SetLemmas.{AllZip-push}
 use Rattle.json.specs.Json.{array}
 use Rattle.json.specs.Value.{items_of}
-use Rattle.guppy_metadata.specs.Links.{AreLinksOf}
+use Rattle.guppy_metadata.specs.Links.{AreLinksOf, AreLinksOfAll}
 use Rattle.guppy_metadata.proofs.LetGo.{none_let, all_further, positions_kept, links_of_whole}
 use Rattle.guppy_metadata.proofs.Turns.{no_item_read, next_read, item_takes, list_told}
 use Rattle.guppy_metadata.proofs.told.read_nodes.Goals as goal
@@ -15,7 +15,7 @@ loop-links-init c = (
   record {
     rows = [];
     rows_are = tt;
-    all = c.new-links.ensures.items;
+    all = c.in_ok-links.ensures;
   },
   none_let c.args.packages.now,
 )
@@ -50,5 +50,5 @@ returns-clause-links c =
     let were = c.loop-links.invariant in (
       array (items_of were.0),
       list_told 126 _ c.next.new.self _ were.0 c.loop-links.reader _ (omega arith) c.in-Some-BeginArray.ensures.value c.in-Some-BeginArray.field-0-is were.1 c.loop-links-test.ensures,
-      (were.0, refl, were.2),
+      (were.0, refl, subst (AreLinksOfAll c.args.packages.now were.0) (sym c.shrink_to_fit.ensures.items) were.2),
     )
