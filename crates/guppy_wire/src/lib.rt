@@ -67,6 +67,10 @@ fn push_specs(text: &mut String, specs: &[TargetSpec]) -> Result<(), AllocError>
     ensures { OnOk result (string_bytes text.new
         ≡ string_bytes text.old ++ listed field specs.now) }
 {
+    // Most statuses are of no platform.
+    if specs.is_empty() {
+        return text.push_str("0;");
+    }
     push_number(text, specs.len())?;
     text.push(';')?;
     for spec in specs {
@@ -154,16 +158,24 @@ fn push_links(text: &mut String, links: &[LinkRecord]) -> Result<(), AllocError>
     Ok(())
 }
 
+// How long the text is at most where IDs and paths are as long as in most workspaces.
+fn likely_len(records: &Records) -> usize {
+    let packages = records.packages.len().saturating_mul(1 << 10);
+    let links = records.links.len().saturating_mul(1 << 8);
+    packages.saturating_add(links)
+}
+
 /// The records as one text: the workspace's root and target directory, each package with ID, name, version, source,
 /// manifest, edition, description, license and repository, and each link with its ends by ID, its names and the
 /// platforms of its sections.
 ///
-/// Takes memory for the text, and fails only where there is none. Time grows with the text.
+/// Takes memory for the text, a kilobyte a package and a quarter of one a link at first, and fails only where there is
+/// none. Time grows with the text.
 pub fn records_text(alloc: Global, records: &Records) -> Result<String, AllocError>
     ensures { IfOk result (λ text. string_bytes text ≡ records_text records.now.packages.items
         records.now.links.items records.now.workspace) }
 {
-    let mut text = String::new(alloc);
+    let mut text = String::with_capacity(alloc, likely_len(records))?;
     push_field(&mut text, records.workspace.root.as_path().as_str())?;
     push_field(
         &mut text,
