@@ -812,6 +812,6 @@ mod tests {
             }
         }
         // Where memory is wanting while the records are read one by one, they are read as a whole.
-        assert!(refusals.iter().all(|it| *it > 10), "{refusals:?}");
+        assert!(refusals.iter().all(|it| *it > 5), "{refusals:?}");
     }
 }
