@@ -209,15 +209,14 @@ def try_proved(world):
     yield from try_memory(world, world.top / "crates/guppy_run/out/guppy_run", ["guppy-run", "order"])
 
 
-def try_memory(world, program, words, path=None, **how):
-    """How the program is to get its memory: in huge pages, guppy-cargo all of it from the heap, or as the user says. In
-    its place is one that tells."""
+def try_memory(world, program, words, more="", path=None, **how):
+    """How the program is to get its memory: in huge pages, and by more settings, or as the user says. In its place is
+    one that tells."""
     program.write_text('#!/bin/sh\nprintf %s "$GLIBC_TUNABLES"\n')
-    own = "glibc.malloc.hugetlb=1" + ":glibc.malloc.mmap_threshold=4294967296" * ("cargo" in program.name)
     for told in ({}, {"GLIBC_TUNABLES": "a=1"}):
         ran = world.run(words, environment=(path or {}) | told, **how)
-        wanted = told.get("GLIBC_TUNABLES", own)
-        yield f"{words[0]}: memory as {told or 'in huge pages'}", ran == (0, wanted, ""), ran
+        wanted = told.get("GLIBC_TUNABLES", f"glibc.malloc.hugetlb=1{more}")
+        yield f"{words[0]}: memory as {told or wanted}", ran == (0, wanted, ""), ran
 
 
 def named(ran, status, word):
@@ -268,10 +267,15 @@ def try_installed(world):
     wanted += [f"libexec/guppy/{it}.sh" for it in ("metadata", "since", "start", "words")]
     yield "nothing else is there", left == wanted and not world.left(), (left, world.left())
     metadata = world.room / "metadata.json"
-    metadata.write_text("{}")
     words = ["guppy-cargo", "order", "--metadata", str(metadata)]
-    for program, asked in (("guppy-cargo", words), ("guppy-run", ["guppy-run", "order"])):
-        yield from try_memory(world, prefix / "libexec/guppy" / program, asked, path, where=workspace)
+    heap = ":glibc.malloc.top_pad=2097152"
+    for program, asked, size, more in (
+        ("guppy-cargo", words, 2, heap),
+        ("guppy-cargo", words, 1 << 23, heap + ":glibc.malloc.mmap_threshold=8388608"),
+        ("guppy-run", ["guppy-run", "order"], 2, ""),
+    ):
+        metadata.write_text("{}".ljust(size))
+        yield from try_memory(world, prefix / "libexec/guppy" / program, asked, more, path, where=workspace)
 
 
 def try_quick(world):
