@@ -4,8 +4,8 @@ use Rattle.std.specs.Fmt.{decimal}
 use Rattle.guppy_data.specs.declared.texts.error.Error.TheVariants.{OutOfMemory, UnknownPackageId}
 use Rattle.guppy_data.specs.Texts.{error_text}
 use Rattle.guppy_metadata.specs.Fault.{fault_text as metadata_text}
-use Rattle.guppy_json.specs.declared.fault.MetadataFault.{MetadataFault}
-use Rattle.guppy_json.specs.declared.fault.MetadataFault.TheVariants.{OutOfMemory as MetadataMemory}
+use Rattle.guppy_metadata.specs.declared.fault.MetadataFault.{MetadataFault}
+use Rattle.guppy_metadata.specs.declared.fault.MetadataFault.TheVariants.{OutOfMemory as MetadataMemory}
 use Rattle.guppy_program.specs.Cause.{Cause, library, bad_arguments, ambiguous, bad_input}
 use Rattle.guppy_program.specs.Shown.{cause_shown}
 use Rattle.guppy_program.specs.declared.fault.Fault.TheVariants.{Library, BadArguments, NoWalk, InputFailed, OutputFailed}

@@ -5,7 +5,7 @@ use Rattle.json.specs.Json.{document}
 use Rattle.guppy_data.specs.declared.records.PackageRecord.{PackageRecord}
 use Rattle.guppy_data.specs.declared.records.LinkRecord.{LinkRecord}
 use Rattle.guppy_data.specs.declared.records.WorkspaceRecord.{WorkspaceRecord}
-use Rattle.guppy_json.specs.declared.fault.MetadataFault.{MetadataFault}
+use Rattle.guppy_metadata.specs.declared.fault.MetadataFault.{MetadataFault}
 use Rattle.guppy_metadata.specs.Fault.{IsNotJson, IsNotResolved, IsOutOfMemory}
 use Rattle.guppy_metadata.specs.Members.{present}
 use Rattle.guppy_metadata.specs.Records.{AreRecordsWith, SaysNoRecordsWith}

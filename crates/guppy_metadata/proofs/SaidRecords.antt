@@ -6,15 +6,15 @@ use Rattle.json.specs.Value.{items_of}
 use Rattle.guppy_data.specs.declared.records.LinkRecord.{LinkRecord}
 use Rattle.guppy_data.specs.declared.records.PackageRecord.{PackageRecord}
 use Rattle.guppy_data.specs.declared.records.WorkspaceRecord.{WorkspaceRecord}
-use Rattle.guppy_json.specs.declared.package.Package.{Package}
-use Rattle.guppy_json.specs.Links.{AreLinksOfAll, AreLinksOfList, nodes_in}
-use Rattle.guppy_json.specs.Members.{are_among, is_among, list_of}
-use Rattle.guppy_json.specs.Package.{AreTold, are_known}
+use Rattle.guppy_metadata.specs.declared.package.Package.{Package}
+use Rattle.guppy_metadata.specs.Links.{AreLinksOfAll, AreLinksOfList, nodes_in}
+use Rattle.guppy_metadata.specs.Members.{are_among, is_among, list_of}
+use Rattle.guppy_metadata.specs.Package.{AreTold, are_known}
 use Rattle.guppy_metadata.specs.Records.{AreRecordsWith}
-use Rattle.guppy_json.proofs.OnceTold.{items_once, list_once}
-use Rattle.guppy_json.proofs.Options.{some_told}
-use Rattle.guppy_json.proofs.Packages.{same_ids}
-use Rattle.guppy_json.proofs.SamePackages.{links_between_told}
+use Rattle.guppy_metadata.proofs.OnceTold.{items_once, list_once}
+use Rattle.guppy_metadata.proofs.Options.{some_told}
+use Rattle.guppy_metadata.proofs.Packages.{same_ids}
+use Rattle.guppy_metadata.proofs.SamePackages.{links_between_told}
 
 module _ (details : Bool) (d : Json) (records : List PackageRecord) (links : List LinkRecord) (workspace : WorkspaceRecord) (are : AreRecordsWith details d records links workspace) where
   pub nodes_there : (nodes : Items) × (nodes_in d ≡ Some (array nodes))

@@ -4,9 +4,9 @@ use Rattle.json.specs.Json.{Json, document}
 use Rattle.guppy_data.specs.declared.records.LinkRecord.{LinkRecord}
 use Rattle.guppy_data.specs.declared.records.PackageRecord.{PackageRecord}
 use Rattle.guppy_data.specs.declared.records.WorkspaceRecord.{WorkspaceRecord}
-use Rattle.guppy_json.specs.Links.{AreLinksWith}
-use Rattle.guppy_json.specs.Package.{ArePackagesWith}
-use Rattle.guppy_json.specs.Workspace.{IsWorkspace}
+use Rattle.guppy_metadata.specs.Links.{AreLinksWith}
+use Rattle.guppy_metadata.specs.Package.{ArePackagesWith}
+use Rattle.guppy_metadata.specs.Workspace.{IsWorkspace}
 
 -- the JSON says these packages, these links and this workspace, with details or without
 pub record AreRecordsWith (details : Bool) (d : Json) (packages : List PackageRecord) (links : List LinkRecord) (workspace : WorkspaceRecord) : Type 0 where

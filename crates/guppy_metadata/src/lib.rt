@@ -1,10 +1,46 @@
 //! Reads what `cargo metadata --format-version 1` prints into the records that `guppy` makes a package
 //! graph of.
+//!
+//! The modules, from the bottom up:
+//!
+//! - `fault`: why there are no records, and where in the JSON;
+//! - `object`: the members of a JSON object;
+//! - `read`: objects that are read into memory that is used again;
+//! - `asked`: members of objects that are asked for by their names;
+//! - `path`: the folder of a package, from the workspace's root;
+//! - `feature`: named features;
+//! - `target`: build targets;
+//! - `declared`: a dependency as a package declares it;
+//! - `workspace`: the workspace and its members;
+//! - `package`: packages;
+//! - `parts`: a package, read member by member;
+//! - `resolved`: dependencies as they are resolved;
+//! - `link`: links, of what is declared and what is resolved;
+//! - `node`: the links of a node, read member by member;
+//! - `told`: the packages and the links, read item by item;
+//! - `records`: all records;
+//! - `laws`: what fits under one name.
 #![tactic(auto)]
 
+mod asked;
+mod declared;
+mod fault;
+mod feature;
+pub mod laws;
+mod link;
+mod node;
+mod object;
+mod package;
+mod parts;
+mod path;
+mod read;
 mod records;
+mod resolved;
+mod table;
+mod target;
+mod told;
+mod workspace;
 
+pub use fault::{Kind, MetadataFault, TextFault};
 pub use guppy_data::Records;
-pub use guppy_json::fault::{Kind, MetadataFault, TextFault};
-pub use guppy_json::laws;
 pub use records::{plain_records_of, records_of};

@@ -3,7 +3,7 @@ use Rattle.std.specs.Str.{bytes_eq}
 use Rattle.std.proofs.lemmas.List.{take_all}
 use Rattle.std.proofs.lemmas.List.Folds.{list_any_more}
 use Rattle.guppy_program.specs.Format.{has_id}
-use Rattle.guppy_json.proofs.TextLists.{in_keys, among_inserted}
+use Rattle.guppy_metadata.proofs.TextLists.{in_keys, among_inserted}
 use Rattle.guppy_cargo.proofs.names.ids_of.Goals as goal
 
 pub loop-package-preserved : goal.loop-package-preserved

@@ -1,9 +1,9 @@
 use Rattle.std.proofs.Common.{◌∙◌, ◌+◌, ◌&&◌, List, [], ℕ, Bool, map, take, get_or, sym, ap, arith}
 use Rattle.std.proofs.lemmas.List.{take_all}
 use Rattle.std.proofs.lemmas.List.Folds.{list_all-map, list_all_at, list_all_more}
-use Rattle.guppy_json.specs.Members.{is_among}
-use Rattle.guppy_json.specs.Package.{are_known}
-use Rattle.guppy_json.proofs.KnownMembers.{known_at}
+use Rattle.guppy_metadata.specs.Members.{is_among}
+use Rattle.guppy_metadata.specs.Package.{are_known}
+use Rattle.guppy_metadata.proofs.KnownMembers.{known_at}
 use Rattle.guppy_metadata.proofs.records.check_members.Goals as goal
 
 pub returns-then-is_none : goal.returns-then-is_none

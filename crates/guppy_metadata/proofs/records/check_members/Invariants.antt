@@ -1,5 +1,5 @@
 use Rattle.std.proofs.Common.{◌≡◌, true, map, take}
-use Rattle.guppy_json.specs.Package.{are_known}
+use Rattle.guppy_metadata.specs.Package.{are_known}
 use Rattle.guppy_metadata.proofs.records.check_members.Given as goal
 
 abbrev pub invariant-loop-index : goal.invariant-loop-index

@@ -6,7 +6,7 @@ use Rattle.guppy_data.specs.declared.records.LinkRecord.{LinkRecord}
 use Rattle.guppy_data.specs.declared.records.PackageRecord.{PackageRecord}
 use Rattle.guppy_data.specs.declared.records.WorkspaceRecord.{WorkspaceRecord}
 use Rattle.guppy_metadata.specs.Records.{AreRecordsWith}
-use Rattle.guppy_json.proofs.Refused.{of_error}
+use Rattle.guppy_metadata.proofs.Refused.{of_error}
 use Rattle.guppy_metadata.proofs.records.records_from.Goals as goal
 
 abbrev SaysNone : Bool → Json → Type 0

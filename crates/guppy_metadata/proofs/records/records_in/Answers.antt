@@ -1,10 +1,10 @@
 use Rattle.std.proofs.Common.{◌≡◌, true, IsSomeAnd, map, refl, sym, subst}
 use Rattle.json.specs.Value.{value_view}
-use Rattle.guppy_json.specs.Links.{AreLinksWith, AreLinksOfAll, AreLinksOfList}
-use Rattle.guppy_json.specs.Members.{data_of}
-use Rattle.guppy_json.specs.Package.{are_known}
-use Rattle.guppy_json.proofs.Packages.{packages_are}
-use Rattle.guppy_json.proofs.Refused.{refused}
+use Rattle.guppy_metadata.specs.Links.{AreLinksWith, AreLinksOfAll, AreLinksOfList}
+use Rattle.guppy_metadata.specs.Members.{data_of}
+use Rattle.guppy_metadata.specs.Package.{are_known}
+use Rattle.guppy_metadata.proofs.Packages.{packages_are}
+use Rattle.guppy_metadata.proofs.Refused.{refused}
 use Rattle.guppy_metadata.proofs.SaidRecords.{links_there, members_there, nodes_there, packages_there}
 use Rattle.guppy_metadata.proofs.records.records_in.Goals as goal
 

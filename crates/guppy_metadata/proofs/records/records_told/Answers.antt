@@ -1,9 +1,9 @@
 use Rattle.std.proofs.Common.{◌∙◌, IfSome, ap, subst}
 use Rattle.json.specs.Find.{get}
 use Rattle.json.proofs.Trees.{view-Object}
-use Rattle.guppy_json.specs.Links.{AreLinksWith}
-use Rattle.guppy_json.specs.Package.{AreLeft}
-use Rattle.guppy_json.proofs.Turns.{if_ok}
+use Rattle.guppy_metadata.specs.Links.{AreLinksWith}
+use Rattle.guppy_metadata.specs.Package.{AreLeft}
+use Rattle.guppy_metadata.proofs.Turns.{if_ok}
 use Rattle.guppy_metadata.proofs.records.records_told.Goals as goal
 
 pub returns : goal.returns

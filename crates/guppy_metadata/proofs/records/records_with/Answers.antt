@@ -1,9 +1,9 @@
 use Rattle.std.proofs.Common.{◌≡◌, ◌∙◌, true, map, refl, sym, subst, codes}
-use Rattle.guppy_json.specs.Members.{are_among, is_among, data_of}
-use Rattle.guppy_json.specs.Package.{are_known}
-use Rattle.guppy_json.proofs.LetGo.{ids_kept, records_of_whole}
-use Rattle.guppy_json.proofs.ObjectMembers.{workspace_alike}
-use Rattle.guppy_json.proofs.Packages.{packages_are}
+use Rattle.guppy_metadata.specs.Members.{are_among, is_among, data_of}
+use Rattle.guppy_metadata.specs.Package.{are_known}
+use Rattle.guppy_metadata.proofs.LetGo.{ids_kept, records_of_whole}
+use Rattle.guppy_metadata.proofs.ObjectMembers.{workspace_alike}
+use Rattle.guppy_metadata.proofs.Packages.{packages_are}
 use Rattle.guppy_metadata.proofs.records.records_with.Goals as goal
 
 pub returns : goal.returns

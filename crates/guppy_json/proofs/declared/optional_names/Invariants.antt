@@ -1,6 +1,0 @@
-use Rattle.std.proofs.Common.{take}
-use Rattle.guppy_json.specs.Dependency.{NamesOptional}
-use Rattle.guppy_json.proofs.declared.optional_names.Given as goal
-
-abbrev pub invariant-loop-dependency : goal.invariant-loop-dependency
-invariant-loop-dependency l = NamesOptional (take l.dependency-index l.declared) l.names

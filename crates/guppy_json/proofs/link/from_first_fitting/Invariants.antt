@@ -1,6 +1,0 @@
-use Rattle.std.proofs.Common.{◌≡◌, filter, drop}
-use Rattle.guppy_json.specs.Fits.{fits}
-use Rattle.guppy_json.proofs.link.from_first_fitting.Given as goal
-
-abbrev pub invariant-loop-index : goal.invariant-loop-index
-invariant-loop-index l = filter (fits l.from l.resolved l.needed) (drop l.index l.declared) ≡ filter (fits l.from l.resolved l.needed) l.declared

@@ -1,6 +1,0 @@
-use Rattle.std.proofs.Common.{◌≡◌, drop}
-use Rattle.guppy_json.specs.Fits.{is_matched}
-use Rattle.guppy_json.proofs.link.is_matched.Given as goal
-
-abbrev pub invariant-loop-index : goal.invariant-loop-index
-invariant-loop-index l = is_matched l.from l.resolved l.needed (drop l.index l.declared) l.usage ≡ is_matched l.from l.resolved l.needed l.declared l.usage

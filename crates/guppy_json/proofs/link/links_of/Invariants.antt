@@ -1,7 +1,0 @@
-use Rattle.std.proofs.Common.{map, take}
-use Rattle.json.specs.Value.{value_view}
-use Rattle.guppy_json.specs.Links.{AreLinksOfAll}
-use Rattle.guppy_json.proofs.link.links_of.Given as goal
-
-abbrev pub invariant-loop-index : goal.invariant-loop-index
-invariant-loop-index l = AreLinksOfAll l.packages.packages.now (map value_view (take l.index l.nodes)) l.links.items

@@ -1,8 +1,0 @@
-use Rattle.std.proofs.Common.{map, take}
-use Rattle.std.specs.List.{AllZip}
-use Rattle.json.specs.Value.{value_view}
-use Rattle.guppy_json.specs.Package.{IsTold}
-use Rattle.guppy_json.proofs.package.packages_of.Given as goal
-
-abbrev pub invariant-loop-index : goal.invariant-loop-index
-invariant-loop-index l = AllZip (IsTold l.details) (map value_view (take l.index l.item-items)) l.packages.items

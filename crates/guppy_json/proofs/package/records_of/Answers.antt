@@ -1,9 +1,0 @@
-use Rattle.guppy_data.specs.Utf8Path.{path_text}
-use Rattle.indexmap.proofs.SetLemmas.{AllZip-push}
-use Rattle.guppy_json.specs.Members.{is_in_set}
-use Rattle.guppy_json.specs.Package.{IsRecordOf}
-use Rattle.guppy_json.proofs.package.records_of.Goals as goal
-
-pub loop-package-preserved : goal.loop-package-preserved
-loop-package-preserved c =
-    rw c.in_ok-push.ensures.items (AllZip-push (IsRecordOf (path_text c.args.root) (is_in_set c.args.members.now)) _ _ _ _ c.loop-package.invariant c.in_ok-record_of.ensures)

@@ -1,0 +1,12 @@
+use Rattle.std.proofs.Common.{List, length}
+use Rattle.std.specs.List.{AllZip}
+use Rattle.json.specs.Json.{Json}
+use Rattle.guppy_metadata.specs.Dependency.{IsDeclared}
+use Rattle.guppy_metadata.proofs.Turns.{ItemsRead}
+use Rattle.guppy_metadata.proofs.declared.read_dependencies.Given as goal
+
+abbrev pub invariant-loop-alloc : goal.invariant-loop-alloc
+invariant-loop-alloc l = (js : List Json) × ItemsRead 124 l.initial.reader js l.reader × AllZip (IsDeclared l.details) js l.declared.items
+
+abbrev pub decreases-loop-alloc : goal.decreases-loop-alloc
+decreases-loop-alloc l = length l.reader

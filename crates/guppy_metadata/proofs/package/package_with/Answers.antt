@@ -1,0 +1,7 @@
+use Rattle.std.proofs.lemmas.Result.{IfOk-weaker}
+use Rattle.guppy_metadata.proofs.package.package_with.Goals as goal
+
+pub returns : goal.returns
+returns c =
+    IfOk-weaker c.filled_package.result _ _
+    (λ made told d same library declared. told d same c.in_ok-id.ensures c.in_ok-source.ensures c.in_ok-record.ensures.named c.in_ok-record.ensures.plain library declared) c.filled_package.ensures.told

@@ -1,0 +1,36 @@
+use Rattle.std.proofs.Common.{◌≡◌, ◌∙◌, [], ◌∷◌, ◌++◌, if◌then◌else◌, refl, sym, ap, subst, arith}
+use Rattle.std.specs.List.{AllZip}
+use Rattle.indexmap.proofs.SetLemmas.{AllZip-push}
+use Rattle.json.specs.Json.{array}
+use Rattle.json.specs.Value.{items_of}
+use Rattle.guppy_metadata.specs.Links.{IsUsage}
+use Rattle.guppy_metadata.proofs.Turns.{no_item_read, next_read, item_takes, list_told}
+use Rattle.guppy_metadata.proofs.resolved.read_usages.Goals as goal
+
+pub loop-alloc-init : goal.loop-alloc-init
+loop-alloc-init c = ([], no_item_read 121 _, subst (AllZip IsUsage []) (sym c.new-usages.ensures.items) tt)
+
+pub loop-alloc-preserved : goal.loop-alloc-preserved
+loop-alloc-preserved c =
+    let l = c.loop-alloc in
+    let were = l.invariant in
+    let more = c.in_ok-usage.ensures in
+    let items = l.usages.items ++ c.in_ok-usage.usage ∷ [] in
+    let pushed : c.push.new.self.items ≡ items = c.push.ensures.items ∙ ap (λ well. if well then items else l.usages.items) (sym c.in_ok-ok.ensures.variant) in (
+      were.0 ++ more.0 ∷ [],
+      next_read 121 _ were.0 l.reader _ _ more.0 were.1 c.loop-alloc-test.ensures more.1,
+      subst (AllZip IsUsage (were.0 ++ more.0 ∷ [])) (sym pushed) (AllZip-push IsUsage _ _ _ _ were.2 more.2),
+    )
+
+pub loop-alloc-smaller : goal.loop-alloc-smaller
+loop-alloc-smaller c =
+    let more = c.in_ok-usage.ensures in
+    item_takes 121 c.loop-alloc.reader _ _ more.0 c.loop-alloc-test.ensures more.1
+
+pub returns : goal.returns
+returns c =
+    let were = c.loop-alloc.invariant in (
+      array (items_of were.0),
+      list_told 122 _ c.next.new.self _ were.0 c.loop-alloc.reader _ (omega arith) c.in-Some-BeginArray.ensures.value c.in-Some-BeginArray.field-0-is were.1 c.loop-alloc-test.ensures,
+      (were.0, refl, were.2),
+    )

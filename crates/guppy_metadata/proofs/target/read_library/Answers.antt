@@ -1,0 +1,31 @@
+use Rattle.std.proofs.Common.{[], ◌∷◌, ◌++◌, refl, arith}
+use Rattle.json.specs.Json.{array}
+use Rattle.json.specs.Value.{items_of}
+use Rattle.guppy_metadata.proofs.Turns.{no_item_read, next_read, item_takes, list_told}
+use Rattle.guppy_metadata.proofs.target.read_library.Goals as goal
+
+pub loop-alloc-init : goal.loop-alloc-init
+loop-alloc-init c = ([], no_item_read 124 _, refl)
+
+pub loop-alloc-preserved : goal.loop-alloc-preserved
+loop-alloc-preserved c =
+    let l = c.loop-alloc in
+    let were = l.invariant in
+    let more = c.in_ok-library.ensures in (
+      were.0 ++ more.0 ∷ [],
+      next_read 124 _ were.0 l.reader _ _ more.0 were.1 c.loop-alloc-test.ensures more.1,
+      more.2 were.0 were.2,
+    )
+
+pub loop-alloc-smaller : goal.loop-alloc-smaller
+loop-alloc-smaller c =
+    let more = c.in_ok-library.ensures in
+    item_takes 124 c.loop-alloc.reader _ _ more.0 c.loop-alloc-test.ensures more.1
+
+pub returns : goal.returns
+returns c =
+    let were = c.loop-alloc.invariant in (
+      array (items_of were.0),
+      list_told 125 _ c.next.new.self _ were.0 c.loop-alloc.reader _ (omega arith) c.in-Some-BeginArray.ensures.value c.in-Some-BeginArray.field-0-is were.1 c.loop-alloc-test.ensures,
+      (were.0, refl, were.2),
+    )

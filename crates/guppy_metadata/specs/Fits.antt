@@ -1,0 +1,68 @@
+-- Which of the declared dependencies were resolved to one.
+use Rattle.std.specs.Prelude.{◌==◌, ◌&&◌, ◌||◌, ℕ, Bool, if◌then◌else◌, List, length, map, option_map, unwrap_or, string_bytes}
+use Rattle.std.specs.Cmp.Lexicographic.{pointwise}
+use Rattle.std.specs.List.{list_any, list_all}
+use Rattle.std.specs.Option.{option_copied, option_eq}
+use Rattle.std.specs.Str.{bytes_eq}
+use Rattle.semver.specs.Eval.{matches_all}
+use Rattle.semver.specs.declared.Version.{Version}
+use Rattle.semver.specs.declared.VersionReq.{VersionReq}
+use Rattle.guppy_metadata.specs.declared.declared.Declared.{Declared}
+use Rattle.guppy_metadata.specs.declared.resolved.Resolved.{Resolved}
+use Rattle.guppy_metadata.specs.declared.resolved.Usage.{Usage}
+use Rattle.guppy_metadata.specs.declared.package.Package.{Package}
+use Rattle.guppy_metadata.specs.Gathered.{same_section}
+
+-- a letter of a name stands for itself in the code, and `-` for `_` too
+abbrev pub stands_for : ℕ → ℕ → Bool
+stands_for letter in_code = (letter == in_code) || ((letter == 45) && (in_code == 95))
+
+abbrev pub is_named : List ℕ → List ℕ → Bool
+is_named name in_code = pointwise stands_for name in_code
+
+-- a name as it is in the code
+abbrev pub letter_in_code : ℕ → ℕ
+letter_in_code letter = if letter == 45 then 95 else letter
+
+abbrev pub in_code : List ℕ → List ℕ
+in_code name = map letter_in_code name
+
+-- the name by which the code uses a dependency on a package: the one that it is given, else that of the package's
+-- library, and that of the package where it has none
+abbrev pub used_name : Declared → Package → List ℕ
+used_name x needed = unwrap_or (option_copied x.rename) (unwrap_or (option_map string_bytes needed.library) x.name.now)
+
+-- whether a dependency on the package has this name in the code; one on what is no library has none there
+abbrev pub has_name : Declared → Package → List ℕ → Bool
+has_name x needed in_code = (length in_code == 0) || is_named (used_name x needed) in_code
+
+-- whether a requirement takes the version: `*`, which has no comparator, takes each one
+abbrev pub takes : VersionReq → Version → Bool
+takes req version = (length req.comparators.items == 0) || matches_all req.comparators.items version
+
+-- whether a usage is in the section and on the platforms of the dependency
+abbrev pub same_usage : Declared → Usage → Bool
+same_usage x usage = same_section usage.section x.section && option_eq bytes_eq (option_copied usage.target) (option_copied x.target)
+
+-- whether one of the usages is
+abbrev pub is_used : Declared → List Usage → Bool
+is_used x usages = list_any (same_usage x) usages
+
+-- whether what the package `from` declares was resolved to the package: a dependency of its name, in the code too
+-- where it isn't `from` itself, that takes its version and is used
+abbrev pub fits : List ℕ → Resolved → Package → Declared → Bool
+fits from resolved needed x =
+    bytes_eq x.name.now (string_bytes needed.record.name)
+    && (bytes_eq from resolved.id.now || has_name x needed resolved.name.now)
+    && takes x.requirement needed.record.version
+    && is_used x resolved.usages.items
+
+-- whether the usage is that of one of the dependencies that were resolved so
+abbrev pub is_matched : List ℕ → Resolved → Package → List Declared → Usage → Bool
+is_matched from resolved needed declared usage =
+    list_any (λ x. same_usage x usage && fits from resolved needed x) declared
+
+-- whether each of these usages is
+abbrev pub are_matched : List ℕ → Resolved → Package → List Declared → List Usage → Bool
+are_matched from resolved needed declared usages =
+    list_all (is_matched from resolved needed declared) usages

@@ -1,0 +1,290 @@
+//! A dependency as a package declares it.
+ghost use Rattle.std.specs.Prelude.{◌≡◌, false, Some, map, length, unwrap_or, IfOk, IfSome, MatchOption, MatchResult};
+ghost use Rattle.std.specs.Option.{option_copied};
+ghost use Rattle.json.specs.Json.{Json, value};
+ghost use Rattle.guppy_data.specs.declared.texts.dependency_kind.DependencyKind.{DependencyKind};
+ghost use Rattle.guppy_metadata.specs.Asked.{AreValuesOf, HasName};
+ghost use Rattle.guppy_metadata.specs.declared.declared.TheConstants.{ASKED};
+ghost use Rattle.guppy_metadata.specs.Dependency.{AreAsked, IsDeclared, NamesSection, NamesOptional};
+ghost use Rattle.guppy_metadata.specs.Fault.{NoneIs, IsRead};
+ghost use Rattle.guppy_metadata.specs.Members.{data_of, IsListOf};
+ghost use Rattle.guppy_metadata.specs.Package.{AreDeclared};
+
+use crate::asked::{optional_text, read_asked, truth_or};
+use crate::fault::{Misfit, TextFault};
+use crate::object::{Object, requirement_of};
+use crate::read::read_object;
+use guppy_data::DependencyKind;
+use indexmap::IndexSet;
+use json::{MAX_DEPTH, Reader, Token, Value};
+use semver::{Version, VersionReq};
+use std::alloc::{AllocError, Global};
+
+/// A dependency as a package declares it, with borrowed texts.
+#[derive(Drop)]
+pub(crate) struct Declared<'a> {
+    /// The name of the package that is asked for.
+    pub(crate) name: &'a str,
+    /// The name that the dependency has instead.
+    pub(crate) rename: Option<&'a str>,
+    /// The versions that are asked for.
+    pub(crate) requirement: VersionReq,
+    /// The section that asks for it.
+    pub(crate) section: DependencyKind,
+    /// The platforms on which it is asked for, where not on all.
+    pub(crate) target: Option<&'a str>,
+    /// Whether it is there only where a feature switches it on.
+    pub(crate) optional: bool,
+    /// Whether its default features are asked for.
+    pub(crate) default_features: bool,
+    /// The features that are asked for, or none where details are left out.
+    pub(crate) features: Vec<&'a str>,
+    /// The registry that is asked for.
+    pub(crate) registry: Option<&'a str>,
+    /// The path that is asked for.
+    pub(crate) path: Option<&'a str>,
+}
+
+impl<'a> Declared<'a> {
+    ghost use Rattle.std.specs.Prelude.{◌≡◌, unwrap_or};
+    ghost use Rattle.std.specs.Option.{option_copied};
+    ghost use Rattle.guppy_metadata.specs.Fits.{takes};
+
+    /// The dependency's name in the manifest.
+    pub(crate) fn dep_name(&self) -> &'a str
+        ensures { result.now ≡ unwrap_or (option_copied self.now.rename) self.now.name.now }
+    {
+        match self.rename {
+            Some(rename) => rename,
+            None => self.name,
+        }
+    }
+
+    /// Whether the version may be taken; `*` takes each, a pre-release too.
+    pub(crate) fn takes(&self, version: &Version) -> bool
+        ensures { result ≡ takes self.now.requirement version.now }
+    {
+        self.requirement.comparators.is_empty() || self.requirement.matches(version)
+    }
+}
+
+/// The section of this name; the normal one where there is none.
+pub(crate) fn section_named(name: Option<&str>) -> Option<DependencyKind>
+    ensures { MatchOption result ((section : DependencyKind) → ¬ HasName (option_copied name.entry) section)
+        (HasName (option_copied name.entry)) }
+{
+    match name {
+        None | Some("normal") => Some(DependencyKind::Normal),
+        Some("dev") => Some(DependencyKind::Development),
+        Some("build") => Some(DependencyKind::Build),
+        Some(_) => None,
+    }
+}
+
+/// The section that the text in the member `kind` names; `normal` where there is none.
+pub(crate) fn section_of(object: Object<'_, '_>) -> Result<DependencyKind, Misfit>
+    ensures { IsRead (NamesSection (data_of object.entry)) result }
+{
+    let name = object.optional_text("kind")?;
+    match section_named(name) {
+        Some(section) => Ok(section),
+        None => {
+            let why = TextFault::NoDependencyKind;
+            Err(Misfit::bad_text(object.alloc, "kind", why))
+        }
+    }
+}
+
+// The features that are asked for.
+fn asked_features<'a>(dependency: Object<'_, 'a>, details: bool) -> Result<Vec<&'a str>, Misfit>
+    ensures { MatchResult result
+        (λ features. AreAsked details (data_of dependency.entry) (map (λ text. text.now) features.items))
+        (NoneIs (AreAsked details (data_of dependency.entry))) }
+{
+    if details {
+        dependency.texts("features")
+    } else {
+        Ok(Vec::new(dependency.alloc))
+    }
+}
+
+fn declared_of<'a>(dependency: Object<'_, 'a>, details: bool) -> Result<Declared<'a>, Misfit>
+    ensures { IsRead (IsDeclared details (data_of dependency.entry)) result }
+{
+    let name = dependency.text("name")?;
+    let rename = dependency.optional_text("rename")?;
+    let text = dependency.text("req")?;
+    let section = section_of(dependency)?;
+    let target = dependency.optional_text("target")?;
+    let optional = dependency.boolean("optional", false)?;
+    let default_features = dependency.boolean("uses_default_features", true)?;
+    let registry = dependency.optional_text("registry")?;
+    let path = dependency.optional_text("path")?;
+    let features = asked_features(dependency, details)?;
+    let requirement = requirement_of(dependency.alloc, "req", text)?;
+    Ok(Declared {
+        name,
+        rename,
+        requirement,
+        section,
+        target,
+        optional,
+        default_features,
+        features,
+        registry,
+        path,
+    })
+}
+
+/// The dependencies that a package declares, with details or without: the items of the list `dependencies`.
+pub(crate) fn declared_dependencies<'a>(
+    json: Object<'_, 'a>,
+    details: bool,
+) -> Result<Vec<Declared<'a>>, Misfit>
+    ensures { MatchResult result
+        (λ declared. AreDeclared details (data_of json.entry) declared.items)
+        (NoneIs (AreDeclared details (data_of json.entry))) }
+{
+    let alloc = json.alloc;
+    let items = json.list("dependencies")?;
+    let mut declared = Vec::with_capacity(alloc, items.len())?;
+    for (index, item) in items.iter().enumerate() {
+        let dependency = Object::of_item(alloc, "dependencies", index, item)?;
+        match declared_of(dependency, details) {
+            Ok(dependency) => declared.push(dependency)?,
+            Err(fault) => return Err(fault.within_item(alloc, "dependencies", index)),
+        }
+    }
+    Ok(declared)
+}
+
+// The names of the members that a dependency is read from without details, in the order in which Cargo prints them.
+// `source` is there only because Cargo prints it among them.
+const ASKED: [&str; 10] = [
+    "name",
+    "source",
+    "req",
+    "kind",
+    "rename",
+    "optional",
+    "uses_default_features",
+    "target",
+    "registry",
+    "path",
+];
+
+// The dependency whose members have these values, without details.
+fn plain_of<'a>(values: &[Value<'a>], alloc: Global) -> Option<Declared<'a>>
+    requires { length values.now ≡ 10 }
+    ensures { IfSome result (λ made. (told : Json) → AreValuesOf told (map (λ n. n.now) ASKED) values.now
+        → IsDeclared false told made) }
+{
+    let name = values[0].as_str()?;
+    let text = values[2].as_str()?;
+    let kind = optional_text(&values[3])?;
+    let rename = optional_text(&values[4])?;
+    let optional = truth_or(&values[5], false)?;
+    let default_features = truth_or(&values[6], true)?;
+    let target = optional_text(&values[7])?;
+    let registry = optional_text(&values[8])?;
+    let path = optional_text(&values[9])?;
+    let section = section_named(kind)?;
+    let requirement = requirement_of(alloc, "req", text).ok()?;
+    Some(Declared {
+        name,
+        rename,
+        requirement,
+        section,
+        target,
+        optional,
+        default_features,
+        features: Vec::new(alloc),
+        registry,
+        path,
+    })
+}
+
+// The dependency that the object that comes next tells, without details. Its members' values are read in place of what
+// was read before.
+fn read_plain<'a>(
+    values: &mut [Value<'a>],
+    alloc: Global,
+    reader: &mut Reader<'a>,
+) -> Option<Declared<'a>>
+    requires { length values.old ≡ 10 }
+    ensures { IfSome result (λ made. (told : Json)
+        × (value 124 reader.old ≡ Some (told, reader.new)) × IsDeclared false told made) }
+{
+    read_asked(values, &ASKED, alloc, reader, MAX_DEPTH - 4)?;
+    plain_of(values, alloc)
+}
+
+// The dependency that the object that comes next tells, with details or without. The object is read in place of what
+// was read before, as a whole or by its values.
+fn read_dependency<'a>(
+    item: &mut Value<'a>,
+    values: &mut [Value<'a>],
+    alloc: Global,
+    reader: &mut Reader<'a>,
+    details: bool,
+) -> Option<Declared<'a>>
+    requires { length values.old ≡ 10 }
+    ensures { IfSome result (λ made. (told : Json)
+        × (value 124 reader.old ≡ Some (told, reader.new)) × IsDeclared details told made) }
+{
+    if !details {
+        return read_plain(values, alloc, reader);
+    }
+    read_object(item, alloc, reader, MAX_DEPTH - 4)?;
+    declared_of(Object { alloc, value: item }, details).ok()
+}
+
+/// The dependencies that the list that comes next tells, with details or without.
+pub(crate) fn read_dependencies<'a>(
+    alloc: Global,
+    reader: &mut Reader<'a>,
+    details: bool,
+) -> Option<Vec<Declared<'a>>>
+    ensures { IfSome result (λ declared. (told : Json)
+        × (value 125 reader.old ≡ Some (told, reader.new)) × IsListOf (IsDeclared details) told declared.items) }
+{
+    let Some(Token::BeginArray) = reader.next() else {
+        return None;
+    };
+    let mut declared = Vec::new(alloc);
+    let mut item = Value::Null;
+    let mut values = [
+        Value::Null,
+        Value::Null,
+        Value::Null,
+        Value::Null,
+        Value::Null,
+        Value::Null,
+        Value::Null,
+        Value::Null,
+        Value::Null,
+        Value::Null,
+    ];
+    while !reader.take_end_array() {
+        let dependency = read_dependency(&mut item, &mut values, alloc, reader, details)?;
+        declared.push(dependency).ok()?;
+    }
+    declared.shrink_to_fit();
+    Some(declared)
+}
+
+/// The names of the optional dependencies in the manifest, in their order, each once.
+pub(crate) fn optional_names(
+    alloc: Global,
+    declared: &[Declared<'_>],
+) -> Result<IndexSet<String>, AllocError>
+    ensures { IfOk result (NamesOptional declared.now) }
+{
+    let mut names = IndexSet::new(alloc);
+    for dependency in declared {
+        if dependency.optional {
+            names.insert(String::from_str(alloc, dependency.dep_name())?)?;
+        }
+    }
+    Ok(names)
+}

@@ -1,0 +1,93 @@
+//! Named features.
+ghost use Rattle.std.specs.Prelude.{◌≡◌, ℕ, List, map, IfOk, MatchResult};
+ghost use Rattle.std.specs.List.{AllZip};
+ghost use Rattle.json.specs.Value.{value_view};
+ghost use Rattle.guppy_data.specs.Texts.{named_feature_text};
+ghost use Rattle.guppy_metadata.specs.Fault.{NoneIs};
+ghost use Rattle.guppy_metadata.specs.Feature.{NamesDependency, IsFeature, AreFeatures};
+ghost use Rattle.guppy_metadata.specs.Members.{list_of};
+
+use crate::fault::{Kind, Misfit};
+use crate::object::texts_of;
+use guppy_data::NamedFeatureDep;
+use indexmap::IndexMap;
+use json::Value;
+use std::alloc::{AllocError, Global};
+
+// The name of a dependency, and whether a `?` behind it says that it is a weak one.
+fn without_mark(dependency: &str) -> (&str, bool)
+    ensures { NamesDependency dependency.now result.0.now result.1 }
+{
+    match dependency.strip_suffix("?") {
+        Some(name) => (name, true),
+        None => (dependency, false),
+    }
+}
+
+/// What the text of a feature switches on. The text is what is printed of it.
+pub(crate) fn feature_of(alloc: Global, text: &str) -> Result<NamedFeatureDep, AllocError>
+    ensures read { IfOk result (IsFeature text.now) }
+    ensures printed { IfOk result (λ feature. named_feature_text feature ≡ text.now) }
+{
+    if let Some((dependency, feature)) = text.split_once("/") {
+        let (dep_name, weak) = without_mark(dependency);
+        return Ok(NamedFeatureDep::DependencyNamedFeature {
+            dep_name: String::from_str(alloc, dep_name)?,
+            feature: String::from_str(alloc, feature)?,
+            weak,
+        });
+    }
+    match text.strip_prefix("dep:") {
+        Some(dep_name) => {
+            let dep_name = String::from_str(alloc, dep_name)?;
+            Ok(NamedFeatureDep::OptionalDependency(dep_name))
+        }
+        None => {
+            let feature = String::from_str(alloc, text)?;
+            Ok(NamedFeatureDep::NamedFeature(feature))
+        }
+    }
+}
+
+// What each of these texts switches on.
+fn features_of(alloc: Global, texts: &[&str]) -> Result<Vec<NamedFeatureDep>, AllocError>
+    ensures { IfOk result
+        (λ features. AllZip IsFeature (map (λ text. text.now) texts.now) features.items) }
+{
+    let mut features = Vec::with_capacity(alloc, texts.len())?;
+    for text in texts {
+        features.push(feature_of(alloc, text)?)?;
+    }
+    Ok(features)
+}
+
+// What the texts of the list in the member of this name switch on.
+fn switched_on(alloc: Global, name: &str, value: &Value<'_>) -> Result<Vec<NamedFeatureDep>, Misfit>
+    ensures { MatchResult result
+        (λ features. (texts : List (List ℕ)) × (value_view value.now ≡ list_of texts)
+        × AllZip IsFeature texts features.items)
+        (NoneIs (λ texts. value_view value.now ≡ list_of texts)) }
+{
+    let texts = texts_of(alloc, name, value)?;
+    Ok(features_of(alloc, texts.as_slice())?)
+}
+
+/// The named features that the members of the object `features` are.
+pub(crate) fn named_features(
+    alloc: Global,
+    value: &Value<'_>,
+) -> Result<IndexMap<String, Vec<NamedFeatureDep>>, Misfit>
+    ensures { MatchResult result (λ named. AreFeatures (value_view value.now) named.entries)
+        (NoneIs (AreFeatures (value_view value.now))) }
+{
+    let Value::Object(members) = value else {
+        return Err(Misfit::wrong_kind(alloc, "", Kind::Object));
+    };
+    let mut named = IndexMap::with_capacity(alloc, members.len())?;
+    for member in members {
+        let (name, value) = member;
+        let features = switched_on(alloc, name, value)?;
+        named.insert(String::from_str(alloc, name)?, features)?;
+    }
+    Ok(named)
+}

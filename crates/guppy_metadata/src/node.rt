@@ -1,0 +1,136 @@
+//! The links of a node, read member by member.
+ghost use Rattle.std.specs.Prelude.{◌≡◌, ◌++◌, List, Some, IfSome, OnSome};
+ghost use Rattle.std.specs.List.{AllZip};
+ghost use Rattle.json.specs.Json.{Json, value};
+ghost use Rattle.guppy_data.specs.declared.records.LinkRecord.{LinkRecord};
+ghost use Rattle.guppy_metadata.specs.Links.{AreLinksOf};
+ghost use Rattle.guppy_metadata.specs.Node.{TellsNode};
+ghost use Rattle.guppy_metadata.specs.Package.{IsLetGo, ArePositions};
+
+use crate::link::{Packages, read_links};
+use crate::package::Package;
+use guppy_data::LinkRecord;
+use indexmap::IndexMap;
+use json::{MAX_DEPTH, Reader, Token, Value};
+use std::alloc::Global;
+
+// What the members of a node's object tell that were read.
+#[derive(Drop)]
+struct Node<'a> {
+    // The ID of its package.
+    from: Option<&'a str>,
+    // Whether its links were added.
+    has_links: bool,
+}
+
+impl<'a> Node<'a> {
+    ghost use Rattle.std.specs.Prelude.{◌≡◌, ◌++◌, List, Some, OnSome};
+    ghost use Rattle.json.specs.Json.{Json, value};
+    ghost use Rattle.guppy_data.specs.declared.records.LinkRecord.{LinkRecord};
+    ghost use Rattle.guppy_metadata.specs.Node.{TellsNode};
+    ghost use Rattle.guppy_metadata.specs.Package.{ArePositions};
+    ghost use Rattle.guppy_metadata.specs.Told.{IsWith};
+
+    // Reads the member of this name, whose value comes next. The ID is to come before the links, and neither twice.
+    fn read_member(
+        &mut self,
+        links: &mut Vec<LinkRecord>,
+        reader: &mut Reader<'a>,
+        packages: Packages<'_, '_>,
+        name: &str,
+    ) -> Option<()>
+        requires { ArePositions packages.packages.now packages.positions.now }
+        ensures { OnSome result ((told : Json) × (value 124 reader.old ≡ Some (told, reader.new))
+            × ((d e : Json) (front row : List LinkRecord) → IsWith name.now told d e
+            → links.old.items ≡ front ++ row → TellsNode packages.entry.packages.now d self.old row
+            → (rows : List LinkRecord) × (links.new.items ≡ front ++ rows)
+            × TellsNode packages.entry.packages.now e self.new rows)) }
+    {
+        if name == "id" {
+            if self.has_links {
+                return None;
+            }
+            let Value::String(id) = Value::read(*links.allocator(), reader, MAX_DEPTH - 4).ok()?
+            else {
+                return None;
+            };
+            self.from = Some(id);
+        } else if name == "deps" {
+            if self.has_links {
+                return None;
+            }
+            read_links(links, reader, packages, self.from?)?;
+            self.has_links = true;
+        } else {
+            reader.skip_value(MAX_DEPTH - 4).ok()?;
+        }
+        Some(())
+    }
+}
+
+// Reads the node that comes next, and adds its links.
+fn read_members<'a>(
+    links: &mut Vec<LinkRecord>,
+    reader: &mut Reader<'a>,
+    packages: Packages<'_, '_>,
+) -> Option<Node<'a>>
+    requires { ArePositions packages.packages.now packages.positions.now }
+    ensures { IfSome result (λ node. (told : Json) × (value 125 reader.old ≡ Some (told, reader.new))
+        × (row : List LinkRecord) × (links.new.items ≡ links.old.items ++ row)
+        × TellsNode packages.entry.packages.now told node row) }
+{
+    let Some(Token::BeginObject) = reader.next() else {
+        return None;
+    };
+    let mut node = Node {
+        from: None,
+        has_links: false,
+    };
+    while let Some(name) = reader.next_key().ok()? {
+        node.read_member(links, reader, packages, name)?;
+    }
+    Some(node)
+}
+
+// Lets go what the package with this ID declares.
+fn let_go(
+    alloc: Global,
+    packages: &mut [Package<'_>],
+    positions: &IndexMap<String, usize>,
+    id: &str,
+)
+    ensures { AllZip IsLetGo packages.old packages.new }
+{
+    let Some(position) = positions.get(id) else {
+        return;
+    };
+    let position = *position;
+    if position < packages.len() {
+        packages[position].declared = Vec::new(alloc);
+    }
+}
+
+/// Adds the links of the node that comes next. Lets go what its package declares.
+pub(crate) fn read_node(
+    links: &mut Vec<LinkRecord>,
+    reader: &mut Reader<'_>,
+    packages: &mut [Package<'_>],
+    positions: &IndexMap<String, usize>,
+) -> Option<()>
+    requires { ArePositions packages.old positions.now }
+    ensures links { OnSome result ((told : Json) × (value 125 reader.old ≡ Some (told, reader.new))
+        × (row : List LinkRecord) × (links.new.items ≡ links.old.items ++ row)
+        × AreLinksOf packages.old told row) }
+    ensures left { OnSome result (AllZip IsLetGo packages.old packages.new) }
+{
+    let known = Packages {
+        packages: &*packages,
+        positions,
+    };
+    let node = read_members(links, reader, known)?;
+    if !node.has_links {
+        return None;
+    }
+    let_go(*links.allocator(), packages, positions, node.from?);
+    Some(())
+}

@@ -1,0 +1,394 @@
+//! Packages.
+ghost use Rattle.std.specs.Prelude.{◌≡◌, true, List, Option, Some, IfOk, IfErr, OnOk, MatchResult, map, string_bytes, codes};
+ghost use Rattle.std.specs.List.{AllZip};
+ghost use Rattle.std.specs.Option.{option_copied};
+ghost use Rattle.json.specs.Json.{Json, string};
+ghost use Rattle.json.specs.Find.{get};
+ghost use Rattle.json.specs.Value.{value_view};
+ghost use Rattle.guppy_data.specs.Utf8Path.{path_text};
+ghost use Rattle.guppy_metadata.specs.Dependency.{NamesOptional};
+ghost use Rattle.guppy_metadata.specs.Fault.{NoneIs, IsRead};
+ghost use Rattle.guppy_metadata.specs.Members.{data_of, is_among, is_in_set, IsText};
+ghost use Rattle.guppy_metadata.specs.declared.package.Package.{Package};
+ghost use Rattle.guppy_metadata.specs.Package.{IsFrom, IsNamed, IsDescribed, IsFilled, IsPlain, IsDetailed, IsTold, IsRecordOf, IsPublishable, IsRustVersion, AreAskedTargets, IsLibrary, AreDeclared, AreTold, AreAlike, ArePositions, dots_in, zeros_behind, whole_version};
+
+use crate::declared::{Declared, declared_dependencies, optional_names};
+use crate::fault::Misfit;
+use crate::feature::named_features;
+use crate::object::{Object, optional_copy, version_of};
+use crate::path::folder_from;
+use crate::target::{build_targets, first_library};
+use crate::workspace::set_of;
+use guppy_data::{
+    BuildTargetRecord, PackageId, PackagePublishRecord, PackageRecord, PackageSourceRecord,
+    Utf8Path, Utf8PathBuf,
+};
+use indexmap::{IndexMap, IndexSet};
+use json::Value;
+use semver::Version;
+use std::alloc::{AllocError, Global};
+
+/// A package as the JSON tells it.
+#[derive(Drop)]
+pub(crate) struct Package<'a> {
+    pub(crate) id: &'a str,
+    /// Where it comes from, where that is told.
+    pub(crate) source: Option<&'a str>,
+    /// A copy of the name of its library, where it has one, which lies beside its record's texts.
+    pub(crate) library: Option<String>,
+    /// The dependencies that it declares.
+    pub(crate) declared: Vec<Declared<'a>>,
+    /// Its record, but for where it comes from.
+    pub(crate) record: PackageRecord,
+}
+
+fn optional_path(json: Object<'_, '_>, name: &str) -> Result<Option<Utf8PathBuf>, Misfit>
+    ensures { IsRead (IsText name.now (data_of json.entry)) result }
+{
+    match json.optional_copied_text(name)? {
+        Some(path) => Ok(Some(Utf8PathBuf::new(path))),
+        None => Ok(None),
+    }
+}
+
+// Fills in what else is told of a package for people.
+fn describe(made: &mut PackageRecord, json: Object<'_, '_>) -> Result<(), Misfit>
+    ensures described { OnOk result (IsDescribed (data_of json.entry) made.new) }
+    ensures refused { IfErr result (NoneIs (IsDescribed (data_of json.entry))) }
+    ensures targets { made.new.build_targets ≡ made.old.build_targets }
+    ensures named { (d : Json) → IsNamed d made.old → IsNamed d made.new }
+{
+    made.authors = json.copied_texts("authors")?;
+    made.license_file = optional_path(json, "license_file")?;
+    made.categories = json.copied_texts("categories")?;
+    made.keywords = json.copied_texts("keywords")?;
+    made.readme = optional_path(json, "readme")?;
+    made.homepage = json.optional_copied_text("homepage")?;
+    made.documentation = json.optional_copied_text("documentation")?;
+    Ok(())
+}
+
+fn publish_of(json: Object<'_, '_>) -> Result<PackagePublishRecord, Misfit>
+    ensures { IsRead (IsPublishable (data_of json.entry)) result }
+{
+    match json.optional("publish") {
+        Some(_) => {
+            let registries = json.copied_texts("publish")?;
+            Ok(PackagePublishRecord::Registries(registries))
+        }
+        None => Ok(PackagePublishRecord::Unrestricted),
+    }
+}
+
+// How many dots the text has.
+fn dots_in(text: &[u8]) -> usize
+    ensures { result ≡ dots_in text.now }
+{
+    let mut count = 0;
+    for byte in text {
+        if *byte == b'.' {
+            count += 1;
+        }
+    }
+    count
+}
+
+// As many zeros as a version with so many dots leaves out.
+fn zeros_behind(dots: usize) -> &'static str
+    ensures { result.now ≡ zeros_behind dots }
+{
+    match dots {
+        0 => ".0.0",
+        1 => ".0",
+        _ => "",
+    }
+}
+
+// The text of a version with zeros in place of the numbers that it leaves out.
+fn whole_version(alloc: Global, text: &str) -> Result<String, AllocError>
+    ensures { IfOk result (λ whole. string_bytes whole ≡ whole_version text.now) }
+{
+    let mut whole = String::from_str(alloc, text)?;
+    whole.push_str(zeros_behind(dots_in(text.as_bytes())))?;
+    Ok(whole)
+}
+
+fn rust_version(json: Object<'_, '_>) -> Result<Option<Version>, Misfit>
+    ensures { IsRead (IsRustVersion (data_of json.entry)) result }
+{
+    let Some(text) = json.optional_text("rust_version")? else {
+        return Ok(None);
+    };
+    let whole = whole_version(json.alloc, text)?;
+    let version = version_of(json.alloc, "rust_version", whole.as_str())?;
+    Ok(Some(version))
+}
+
+// Fills in what else is told of a package for Cargo.
+fn fill(
+    made: &mut PackageRecord,
+    json: Object<'_, '_>,
+    declared: &[Declared<'_>],
+) -> Result<(), Misfit>
+    ensures filled { OnOk result (IsFilled (data_of json.entry) made.new) }
+    ensures refused { IfErr result (NoneIs (IsFilled (data_of json.entry))) }
+    ensures optional { OnOk result (NamesOptional declared.now made.new.optional_deps) }
+    ensures targets { made.new.build_targets ≡ made.old.build_targets }
+    ensures named { (d : Json) → IsNamed d made.old → IsNamed d made.new }
+    ensures described { (d : Json) → IsDescribed d made.old → IsDescribed d made.new }
+{
+    let alloc = json.alloc;
+    made.metadata_table = json.table("metadata")?;
+    made.links = json.optional_copied_text("links")?;
+    made.default_run = json.optional_copied_text("default_run")?;
+    made.rust_version = rust_version(json)?;
+    match named_features(alloc, json.required("features")?) {
+        Ok(features) => made.named_features = features,
+        Err(fault) => return Err(fault.within(alloc, "features")),
+    }
+    made.optional_deps = optional_names(alloc, declared)?;
+    Ok(())
+}
+
+// The record of the package, without details and build targets.
+fn named_record(json: Object<'_, '_>) -> Result<PackageRecord, Misfit>
+    ensures named { IsRead (IsNamed (data_of json.entry)) result }
+    ensures plain { IfOk result IsPlain }
+{
+    let alloc = json.alloc;
+    let version = version_of(alloc, "version", json.text("version")?)?;
+    let id = json.copied_text("id")?;
+    let name = json.copied_text("name")?;
+    let manifest_path = json.copied_text("manifest_path")?;
+    let edition = json.copied_text("edition")?;
+    let mut record = PackageRecord::new(
+        alloc,
+        PackageId::new(id),
+        name,
+        version,
+        PackageSourceRecord::Path(Utf8PathBuf::new(String::new(alloc))),
+        Utf8PathBuf::new(manifest_path),
+        edition,
+    );
+    record.description = json.optional_copied_text("description")?;
+    record.license = json.optional_copied_text("license")?;
+    record.repository = json.optional_copied_text("repository")?;
+    record.publish = publish_of(json)?;
+    Ok(record)
+}
+
+// Fills in the build targets, and the details of a package with these dependencies where they are read.
+fn add_details(
+    made: &mut PackageRecord,
+    json: Object<'_, '_>,
+    declared: &[Declared<'_>],
+    targets: Vec<BuildTargetRecord>,
+    details: bool,
+) -> Result<(), Misfit>
+    ensures detailed { OnOk result (IsPlain made.old → IsDetailed details (data_of json.entry) made.new) }
+    ensures refused { IfErr result (NoneIs (IsDetailed details (data_of json.entry))) }
+    ensures optional { OnOk result (details ≡ true → NamesOptional declared.now made.new.optional_deps) }
+    ensures targets { OnOk result (made.new.build_targets ≡ targets) }
+    ensures named { (d : Json) → IsNamed d made.old → IsNamed d made.new }
+{
+    made.build_targets = targets;
+    if details {
+        describe(made, json)?;
+        fill(made, json, declared)
+    } else {
+        Ok(())
+    }
+}
+
+// The build targets that are told of a package, or none of them where details are left out.
+fn asked_targets(json: Object<'_, '_>, details: bool) -> Result<Vec<BuildTargetRecord>, Misfit>
+    ensures { MatchResult result (λ targets. AreAskedTargets details (data_of json.entry) targets.items)
+        (NoneIs (AreAskedTargets details (data_of json.entry))) }
+{
+    if details {
+        build_targets(json)
+    } else {
+        Ok(Vec::new(json.alloc))
+    }
+}
+
+// The package of its record so far, its library and dependencies, with details or without.
+fn filled_package<'a>(
+    json: Object<'_, 'a>,
+    id: &'a str,
+    source: Option<&'a str>,
+    library: Option<&'a str>,
+    declared: Vec<Declared<'a>>,
+    mut made: PackageRecord,
+    details: bool,
+) -> Result<Package<'a>, Misfit>
+    ensures told { IfOk result (λ p. (d : Json) → AreAlike details (data_of json.entry) d
+        → get (codes "id") (data_of json.entry) ≡ Some (string id.now)
+        → IsText (codes "source") (data_of json.entry) (option_copied source.entry)
+        → IsNamed (data_of json.entry) made → IsPlain made
+        → IsLibrary d (option_copied library.entry) → AreDeclared details d declared.entry.items → IsTold details d p) }
+    ensures refused { IfErr result (NoneIs (λ (r : PackageRecord). AreAskedTargets details (data_of json.entry) r.build_targets.items
+        × IsDetailed details (data_of json.entry) r)) }
+{
+    let targets = asked_targets(json, details)?;
+    add_details(&mut made, json, declared.as_slice(), targets, details)?;
+    let library = optional_copy(json.alloc, library)?;
+    Ok(Package {
+        id,
+        source,
+        library,
+        declared,
+        record: made,
+    })
+}
+
+/// The package that an object tells with this library and these dependencies, with details or without.
+pub(crate) fn package_with<'a>(
+    json: Object<'_, 'a>,
+    library: Option<&'a str>,
+    declared: Vec<Declared<'a>>,
+    details: bool,
+) -> Result<Package<'a>, Misfit>
+    ensures { IfOk result (λ made. (d : Json) → AreAlike details (data_of json.entry) d
+        → IsLibrary d (option_copied library.entry) → AreDeclared details d declared.entry.items → IsTold details d made) }
+{
+    let id = json.text("id")?;
+    let source = json.optional_text("source")?;
+    let record = named_record(json)?;
+    filled_package(json, id, source, library, declared, record, details)
+}
+
+/// The package that an object tells, with details or without.
+pub(crate) fn package_of<'a>(json: Object<'_, 'a>, details: bool) -> Result<Package<'a>, Misfit>
+    ensures { IsRead (IsTold details (data_of json.entry)) result }
+{
+    let id = json.text("id")?;
+    let source = json.optional_text("source")?;
+    let declared = declared_dependencies(json, details)?;
+    let record = named_record(json)?;
+    let library = first_library(json)?;
+    filled_package(json, id, source, library, declared, record, details)
+}
+
+/// The package that the item of the list `packages` at this index is, with details or without.
+pub(crate) fn package_at<'a>(
+    alloc: Global,
+    index: usize,
+    item: &Value<'a>,
+    details: bool,
+) -> Result<Package<'a>, Misfit>
+    ensures { IsRead (IsTold details (value_view item.now)) result }
+{
+    let json = Object::of_item(alloc, "packages", index, item)?;
+    match package_of(json, details) {
+        Ok(package) => Ok(package),
+        Err(fault) => Err(fault.within_item(alloc, "packages", index)),
+    }
+}
+
+/// The packages that the JSON tells, with details or without: the items of the list `packages`.
+pub(crate) fn packages_of<'a>(
+    metadata: Object<'_, 'a>,
+    details: bool,
+) -> Result<Vec<Package<'a>>, Misfit>
+    ensures { MatchResult result (λ packages. AreTold details (data_of metadata.entry) packages.items)
+        (NoneIs (AreTold details (data_of metadata.entry))) }
+{
+    let alloc = metadata.alloc;
+    let items = metadata.list("packages")?;
+    let mut packages = Vec::with_capacity(alloc, items.len())?;
+    for (index, item) in items.iter().enumerate() {
+        packages.push(package_at(alloc, index, item, details)?)?;
+    }
+    Ok(packages)
+}
+
+/// The positions of the packages, each behind a copy of its ID: the copies lie together, and the IDs far apart in the
+/// JSON.
+pub(crate) fn positions_of(
+    alloc: Global,
+    packages: &[Package<'_>],
+) -> Result<IndexMap<String, usize>, AllocError>
+    ensures { IfOk result (ArePositions packages.now) }
+{
+    let mut positions = IndexMap::with_capacity(alloc, packages.len())?;
+    for (position, package) in packages.iter().enumerate() {
+        positions.insert(String::from_str(alloc, package.id)?, position)?;
+    }
+    Ok(positions)
+}
+
+// Where a package comes from.
+fn source_of(
+    alloc: Global,
+    is_member: bool,
+    told: Option<&str>,
+    manifest_path: Utf8Path<'_>,
+    root: Utf8Path<'_>,
+) -> Result<PackageSourceRecord, AllocError>
+    ensures { IfOk result (IsFrom (path_text root.entry) (path_text manifest_path.entry) is_member (option_copied told.entry)) }
+{
+    if is_member {
+        let folder = folder_from(alloc, manifest_path, root)?;
+        return Ok(PackageSourceRecord::Workspace(folder));
+    }
+    match told {
+        Some(source) => Ok(PackageSourceRecord::External(String::from_str(alloc, source)?)),
+        None => {
+            let folder = folder_from(alloc, manifest_path, root)?;
+            Ok(PackageSourceRecord::Path(folder))
+        }
+    }
+}
+
+// The record of a package of a workspace with these members.
+fn record_of(
+    alloc: Global,
+    package: Package<'_>,
+    members: &IndexSet<&str>,
+    root: Utf8Path<'_>,
+) -> Result<PackageRecord, AllocError>
+    ensures { IfOk result (IsRecordOf (path_text root.entry) (is_in_set members.now) «package».entry) }
+{
+    let source = source_of(
+        alloc,
+        members.contains(package.id),
+        package.source,
+        package.record.manifest_path.as_path(),
+        root,
+    )?;
+    let mut record = package.record;
+    record.source = source;
+    Ok(record)
+}
+
+// The records of the packages of a workspace with these members at this root.
+fn records_of(
+    alloc: Global,
+    packages: Vec<Package<'_>>,
+    members: &IndexSet<&str>,
+    root: Utf8Path<'_>,
+) -> Result<Vec<PackageRecord>, AllocError>
+    ensures { IfOk result
+        (λ records. AllZip (IsRecordOf (path_text root.entry) (is_in_set members.now)) packages.entry.items records.items) }
+{
+    let mut records = Vec::with_capacity(alloc, packages.len())?;
+    for package in packages {
+        records.push(record_of(alloc, package, members, root)?)?;
+    }
+    Ok(records)
+}
+
+/// The records of the packages of a workspace with these members at this root.
+pub(crate) fn package_records(
+    alloc: Global,
+    packages: Vec<Package<'_>>,
+    members: &[&str],
+    root: Utf8Path<'_>,
+) -> Result<Vec<PackageRecord>, AllocError>
+    ensures { IfOk result
+        (λ records. AllZip (IsRecordOf (path_text root.entry) (is_among (map (λ id. id.now) members.now))) packages.entry.items records.items) }
+{
+    let known = set_of(alloc, members)?;
+    records_of(alloc, packages, &known, root)
+}

@@ -1,0 +1,144 @@
+//! A package, read member by member.
+ghost use Rattle.std.specs.Prelude.{◌≡◌, true, false, Some, IfSome};
+ghost use Rattle.std.specs.Option.{option_copied};
+ghost use Rattle.json.specs.Json.{Json, value};
+ghost use Rattle.guppy_metadata.specs.Members.{data_of};
+ghost use Rattle.guppy_metadata.specs.Package.{IsTold, IsLibrary, AreAlike, is_asked};
+ghost use Rattle.guppy_metadata.specs.Parts.{TellsParts};
+
+use crate::declared::{Declared, read_dependencies};
+use crate::object::Object;
+use crate::package::{Package, package_with};
+use crate::target::{first_library, read_library};
+use json::{MAX_DEPTH, Reader, Token, Value};
+use std::alloc::Global;
+
+// What the object of a package tells.
+#[derive(Drop)]
+struct Parts<'a> {
+    declared: Option<Vec<Declared<'a>>>,
+    // Whether the build targets were read, of which only the library's name is kept. With details they are among
+    // the others.
+    has_targets: bool,
+    library: Option<&'a str>,
+    // All other members that are asked for.
+    others: Vec<(&'a str, Value<'a>)>,
+}
+
+// Whether the member of this name is asked for: without details, whether it is none.
+fn is_asked(name: &str, details: bool) -> bool
+    ensures { result ≡ is_asked details name.now }
+{
+    details
+        || name == "id"
+        || name == "name"
+        || name == "version"
+        || name == "source"
+        || name == "manifest_path"
+        || name == "edition"
+        || name == "description"
+        || name == "license"
+        || name == "repository"
+        || name == "publish"
+}
+
+impl<'a> Parts<'a> {
+    ghost use Rattle.std.specs.Prelude.{◌≡◌, Some, OnSome};
+    ghost use Rattle.json.specs.Json.{Json, value};
+    ghost use Rattle.guppy_metadata.specs.Parts.{TellsParts};
+    ghost use Rattle.guppy_metadata.specs.Told.{IsWith};
+
+    // Reads the member of this name, whose value comes next.
+    fn read_member(
+        &mut self,
+        alloc: Global,
+        reader: &mut Reader<'a>,
+        name: &'a str,
+        details: bool,
+    ) -> Option<()>
+        ensures { OnSome result ((told : Json) × (value 125 reader.old ≡ Some (told, reader.new))
+            × ((d e : Json) → IsWith name.now told d e → TellsParts details d self.old → TellsParts details e self.new)) }
+    {
+        if name == "dependencies" {
+            self.declared = Some(read_dependencies(alloc, reader, details)?);
+        } else if !details && name == "targets" {
+            self.library = read_library(alloc, reader)?;
+            self.has_targets = true;
+        } else if is_asked(name, details) {
+            let value = Value::read(alloc, reader, MAX_DEPTH - 3).ok()?;
+            self.others.push((name, value)).ok()?;
+        } else {
+            reader.skip_value(MAX_DEPTH - 3).ok()?;
+        }
+        Some(())
+    }
+}
+
+// What the object that comes next tells, with details or without.
+fn read_parts<'a>(alloc: Global, reader: &mut Reader<'a>, details: bool) -> Option<Parts<'a>>
+    ensures { IfSome result (λ parts. (told : Json)
+        × (value 126 reader.old ≡ Some (told, reader.new)) × TellsParts details told parts) }
+{
+    let Some(Token::BeginObject) = reader.next() else {
+        return None;
+    };
+    let mut parts = Parts {
+        declared: None,
+        has_targets: false,
+        library: None,
+        others: Vec::new(alloc),
+    };
+    while let Some(name) = reader.next_key().ok()? {
+        parts.read_member(alloc, reader, name, details)?;
+    }
+    Some(parts)
+}
+
+// The name of the library: with details of the targets among the members, else the one that was read.
+fn library_told<'a>(
+    json: Object<'_, 'a>,
+    library: Option<&'a str>,
+    has_targets: bool,
+    details: bool,
+) -> Option<Option<&'a str>>
+    ensures { IfSome result (λ name. (d : Json) → AreAlike details (data_of json.entry) d
+        → (details ≡ false → has_targets ≡ true → IsLibrary d (option_copied library.entry)) → IsLibrary d (option_copied name)) }
+{
+    if details {
+        return first_library(json).ok();
+    }
+    if has_targets { Some(library) } else { None }
+}
+
+// The package that is told, where nothing is missing or wrong.
+fn package_told<'a>(alloc: Global, parts: Parts<'a>, details: bool) -> Option<Package<'a>>
+    ensures { IfSome result (λ made. (d : Json) → TellsParts details d parts.entry → IsTold details d made) }
+{
+    let Parts {
+        declared,
+        has_targets,
+        library,
+        others,
+    } = parts;
+    let declared = declared?;
+    let value = Value::Object(others);
+    let json = Object {
+        alloc,
+        value: &value,
+    };
+    let library = library_told(json, library, has_targets, details)?;
+    package_with(json, library, declared, details).ok()
+}
+
+/// The package that the object that comes next tells, with details or without.
+pub(crate) fn read_package<'a>(
+    alloc: Global,
+    reader: &mut Reader<'a>,
+    details: bool,
+) -> Option<Package<'a>>
+    ensures { IfSome result (λ made. (told : Json)
+        × (value 126 reader.old ≡ Some (told, reader.new)) × IsTold details told made) }
+{
+    let parts = read_parts(alloc, reader, details)?;
+    package_told(alloc, parts, details)
+}

@@ -1,0 +1,188 @@
+//! The packages and the resolved nodes, read item by item, so that no value of the whole stands in memory.
+ghost use Rattle.std.specs.Prelude.{◌≡◌, ◌++◌, [], List, Some, IfSome, OnSome, IsSomeAnd, codes};
+ghost use Rattle.std.specs.List.{AllZip};
+ghost use Rattle.json.specs.Json.{Json, max_depth, value};
+ghost use Rattle.json.specs.Find.{get};
+ghost use Rattle.guppy_data.specs.declared.records.LinkRecord.{LinkRecord};
+ghost use Rattle.guppy_metadata.specs.Links.{AreLinksOf, AreLinksOfList};
+ghost use Rattle.guppy_metadata.specs.Members.{IsListOf};
+ghost use Rattle.guppy_metadata.specs.Package.{IsTold, IsLetGo, ArePositions};
+ghost use Rattle.guppy_metadata.specs.Told.{Tells};
+
+use crate::node::read_node;
+use crate::package::{Package, positions_of};
+use crate::parts::read_package;
+use guppy_data::LinkRecord;
+use indexmap::IndexMap;
+use json::{MAX_DEPTH, Reader, Token, Value};
+use std::alloc::Global;
+
+/// What the object of the whole JSON tells.
+#[derive(Drop)]
+pub(crate) struct Told<'a> {
+    /// The packages; without what they declare, where the links were read.
+    pub(crate) packages: Option<Vec<Package<'a>>>,
+    /// The links of what is resolved.
+    pub(crate) links: Option<Vec<LinkRecord>>,
+    /// All other members.
+    pub(crate) others: Vec<(&'a str, Value<'a>)>,
+}
+
+// The packages that the list that comes next tells, with details or without.
+fn read_packages<'a>(
+    alloc: Global,
+    reader: &mut Reader<'a>,
+    details: bool,
+) -> Option<Vec<Package<'a>>>
+    ensures { IfSome result (λ packages. (told : Json)
+        × (value 127 reader.old ≡ Some (told, reader.new)) × IsListOf (IsTold details) told packages.items) }
+{
+    let Some(Token::BeginArray) = reader.next() else {
+        return None;
+    };
+    let mut packages = Vec::new(alloc);
+    while !reader.take_end_array() {
+        let package = read_package(alloc, reader, details)?;
+        packages.push(package).ok()?;
+    }
+    Some(packages)
+}
+
+// How many dependencies the packages declare.
+fn declared_count(packages: &[Package<'_>]) -> usize {
+    let mut count: usize = 0;
+    for package in packages {
+        count = count.saturating_add(package.declared.len());
+    }
+    count
+}
+
+// No links, with room for one of each dependency that the packages declare, so that none is moved.
+fn room_for_links(alloc: Global, packages: &[Package<'_>]) -> Option<Vec<LinkRecord>>
+    ensures { IfSome result (λ links. links.items ≡ []) }
+{
+    Vec::with_capacity(alloc, declared_count(packages)).ok()
+}
+
+// The links of the nodes of the list that comes next. Lets go what the packages of these declare.
+fn read_nodes(
+    alloc: Global,
+    reader: &mut Reader<'_>,
+    packages: &mut [Package<'_>],
+    positions: &IndexMap<String, usize>,
+) -> Option<Vec<LinkRecord>>
+    requires { ArePositions packages.old positions.now }
+    ensures links { IfSome result (λ links. (told : Json)
+        × (value 126 reader.old ≡ Some (told, reader.new))
+        × AreLinksOfList packages.old told links.items) }
+    ensures left { OnSome result (AllZip IsLetGo packages.old packages.new) }
+{
+    let Some(Token::BeginArray) = reader.next() else {
+        return None;
+    };
+    let mut links = room_for_links(alloc, packages)?;
+    while !reader.take_end_array() {
+        read_node(&mut links, reader, packages, positions)?;
+    }
+    links.shrink_to_fit();
+    Some(links)
+}
+
+// The links of the nodes of the object that comes next. Lets go what the packages of these declare.
+fn read_resolve(
+    alloc: Global,
+    reader: &mut Reader<'_>,
+    packages: &mut [Package<'_>],
+    positions: &IndexMap<String, usize>,
+) -> Option<Vec<LinkRecord>>
+    requires { ArePositions packages.old positions.now }
+    ensures links { IfSome result (λ links. (told : Json)
+        × (value 127 reader.old ≡ Some (told, reader.new))
+        × IsSomeAnd (get (codes "nodes") told)
+        (λ nodes. AreLinksOfList packages.old nodes links.items)) }
+    ensures left { OnSome result (AllZip IsLetGo packages.old packages.new) }
+{
+    let Some(Token::BeginObject) = reader.next() else {
+        return None;
+    };
+    let mut links = None;
+    while let Some(name) = reader.next_key().ok()? {
+        if name == "nodes" {
+            links = Some(read_nodes(alloc, reader, packages, positions)?);
+        } else {
+            reader.skip_value(MAX_DEPTH - 2).ok()?;
+        }
+    }
+    links
+}
+
+impl<'a> Told<'a> {
+    ghost use Rattle.std.specs.Prelude.{◌≡◌, Some, IfSome, OnSome, IsSomeAnd, codes};
+    ghost use Rattle.json.specs.Json.{Json, value};
+    ghost use Rattle.json.specs.Find.{get};
+    ghost use Rattle.std.specs.List.{AllZip};
+    ghost use Rattle.guppy_metadata.specs.Links.{AreLinksOfList};
+    ghost use Rattle.guppy_metadata.specs.Package.{IsLetGo};
+    ghost use Rattle.guppy_metadata.specs.Told.{IsWith, Tells};
+
+    // The links, between the packages, of the nodes of the object that comes next. Lets go what the packages of these
+    // declare.
+    fn read_links(&mut self, alloc: Global, reader: &mut Reader<'a>) -> Option<Vec<LinkRecord>>
+        ensures links { IfSome result (λ links. (told : Json)
+            × (value 127 reader.old ≡ Some (told, reader.new))
+            × IsSomeAnd self.old.packages (λ packages. IsSomeAnd (get (codes "nodes") told)
+            (λ nodes. AreLinksOfList packages.items nodes links.items))) }
+        ensures left { OnSome result (IsSomeAnd self.old.packages (λ packages.
+            IsSomeAnd self.new.packages (λ left. AllZip IsLetGo packages.items left.items))) }
+        ensures others { self.new.others ≡ self.old.others }
+    {
+        let packages = self.packages.as_mut()?.as_mut_slice();
+        let positions = positions_of(alloc, packages).ok()?;
+        read_resolve(alloc, reader, packages, &positions)
+    }
+
+    // Reads the member of this name, whose value comes next.
+    fn read_member(
+        &mut self,
+        alloc: Global,
+        reader: &mut Reader<'a>,
+        name: &'a str,
+        details: bool,
+    ) -> Option<()>
+        ensures { OnSome result ((told : Json) × (value 127 reader.old ≡ Some (told, reader.new))
+            × ((d e : Json) → IsWith name.now told d e → Tells details d self.old → Tells details e self.new)) }
+    {
+        if name == "packages" {
+            if self.links.is_some() {
+                return None;
+            }
+            self.packages = Some(read_packages(alloc, reader, details)?);
+        } else if name == "resolve" {
+            self.links = Some(self.read_links(alloc, reader)?);
+        } else {
+            let value = Value::read(alloc, reader, MAX_DEPTH - 1).ok()?;
+            self.others.push((name, value)).ok()?;
+        }
+        Some(())
+    }
+}
+
+/// What the object that comes next tells, with details or without. There is none where its packages don't stand
+/// before what is resolved, as Cargo prints them, and where something is wrong: then the whole is to be read.
+pub(crate) fn told_in<'a>(alloc: Global, reader: &mut Reader<'a>, details: bool) -> Option<Told<'a>>
+    ensures { IfSome result (λ told. (d : Json)
+        × (value max_depth reader.old ≡ Some (d, reader.new)) × Tells details d told) }
+{
+    let Some(Token::BeginObject) = reader.next() else {
+        return None;
+    };
+    let mut told = Told {
+        packages: None,
+        links: None,
+        others: Vec::new(alloc),
+    };
+    while let Some(name) = reader.next_key().ok()? {
+        told.read_member(alloc, reader, name, details)?;
+    }
+    Some(told)
+}
