@@ -43,15 +43,19 @@ module _ (details : Bool) (d e : Json) (same : AreAlike details d e) where
 
   pub named_alike : (r : PackageRecord) → IsNamed d r → IsNamed e r
   named_alike r is = record {
-    id = sym (plain_same (codes "id") refl refl) ∙ is.id;
-    name = sym (plain_same (codes "name") refl refl) ∙ is.name;
-    version = (is.version.0, sym (plain_same (codes "version") refl refl) ∙ is.version.1, is.version.2);
-    manifest_path = sym (plain_same (codes "manifest_path") refl refl) ∙ is.manifest_path;
-    edition = sym (plain_same (codes "edition") refl refl) ∙ is.edition;
-    description = text_alike (codes "description") (option_map string_bytes r.description) refl refl is.description;
-    license = text_alike (codes "license") (option_map string_bytes r.license) refl refl is.license;
-    repository = text_alike (codes "repository") (option_map string_bytes r.repository) refl refl is.repository;
-    publish = publish_alike r.publish is.publish;
+    known = record {
+      id = sym (plain_same (codes "id") refl refl) ∙ is.known.id;
+      name = sym (plain_same (codes "name") refl refl) ∙ is.known.name;
+      version = (is.known.version.0, sym (plain_same (codes "version") refl refl) ∙ is.known.version.1, is.known.version.2);
+      manifest_path = sym (plain_same (codes "manifest_path") refl refl) ∙ is.known.manifest_path;
+      edition = sym (plain_same (codes "edition") refl refl) ∙ is.known.edition;
+    };
+    shown = record {
+      description = text_alike (codes "description") (option_map string_bytes r.description) refl refl is.shown.description;
+      license = text_alike (codes "license") (option_map string_bytes r.license) refl refl is.shown.license;
+      repository = text_alike (codes "repository") (option_map string_bytes r.repository) refl refl is.shown.repository;
+      publish = publish_alike r.publish is.shown.publish;
+    };
   }
 
 -- the details

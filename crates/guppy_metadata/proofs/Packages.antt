@@ -19,7 +19,7 @@ pub same_ids : (details : Bool) (d : Json) (root : List ℕ) (is_member : List �
     → IsSomeAnd (get (codes "packages") d) (λ told. IsListOf (IsPackage details root is_member) told records) → map (λ p. p.id.now) packages ≡ map (λ r. r.id) records
 same_ids details d root is_member packages records tells are =
     made_alike (λ p r. p.id.now ≡ r.id) (λ p. p.id.now) (λ r. r.id) (λ p r same. same) packages records
-    (lists_fit (IsTold details) (IsPackage details root is_member) (λ p r. p.id.now ≡ r.id) (λ j p r is also. text_once j (codes "id") p.id.now r.id is.id also.named.id) (get (codes "packages") d) packages records tells are)
+    (lists_fit (IsTold details) (IsPackage details root is_member) (λ p r. p.id.now ≡ r.id) (λ j p r is also. text_once j (codes "id") p.id.now r.id is.id also.named.known.id) (get (codes "packages") d) packages records tells are)
 
 -- members that are told in another way are the same
 pub record_alike : (root : List ℕ) (known told : List ℕ → Bool) → ((id : List ℕ) → known id ≡ told id) → (p : Package) (r : PackageRecord) → IsRecordOf root known p r → IsRecordOf root told p r
@@ -36,7 +36,7 @@ module _ (details : Bool) (root : List ℕ) (is_member : List ℕ → Bool) wher
   record_is : (d : Json) (p : Package) (r : PackageRecord) → IsTold details d p → IsRecordOf root is_member p r → IsPackage details root is_member d r
   record_is d p r tells is =
       let named = is.named d tells.named in
-      let id : p.id.now ≡ r.id = text_once d (codes "id") p.id.now r.id tells.id named.id in
+      let id : p.id.now ≡ r.id = text_once d (codes "id") p.id.now r.id tells.id named.known.id in
       record {
         named = named;
         detailed = is.detailed details d tells.detailed;

@@ -50,10 +50,10 @@ alike_itself p = record {
 told_once : (details : Bool) (d : Json) (p q : Package) → IsTold details d p → IsTold details d q → IsAlike p q
 told_once details d p q is also = record {
   id = text_once d (codes "id") p.id.now q.id.now is.id also.id;
-  name = text_once d (codes "name") (string_bytes p.record.name) (string_bytes q.record.name) is.named.name also.named.name;
+  name = text_once d (codes "name") (string_bytes p.record.name) (string_bytes q.record.name) is.named.known.name also.named.known.name;
   version =
-      let text = text_once d (codes "version") is.named.version.0 also.named.version.0 is.named.version.1 also.named.version.1 in
-      ok-value _ _ (sym is.named.version.2 ∙ (ap version_parts text ∙ also.named.version.2));
+      let text = text_once d (codes "version") is.named.known.version.0 also.named.known.version.0 is.named.known.version.1 also.named.known.version.1 in
+      ok-value _ _ (sym is.named.known.version.2 ∙ (ap version_parts text ∙ also.named.known.version.2));
   library = library_once d (option_map string_bytes p.library) (option_map string_bytes q.library) is.library also.library;
   declared = inl (lists_fit (IsDeclared details) (IsDeclared details) IsSame (declared_once details) (get (codes "dependencies") d) p.declared.items q.declared.items is.declared also.declared);
 }

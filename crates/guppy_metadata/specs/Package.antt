@@ -43,18 +43,26 @@ IsPublishable d Unrestricted = present (codes "publish") d ≡ None
 IsPublishable d (Registries names) =
     present (codes "publish") d ≡ Some (list_of (map string_bytes names.items))
 
--- what is read of each package, with details or without
-pub record IsNamed (d : Json) (r : PackageRecord) : Type 0 where
+-- what each package has
+pub record IsKnown (d : Json) (r : PackageRecord) : Type 0 where
   pub id : get (codes "id") d ≡ Some (string r.id)
   pub name : get (codes "name") d ≡ Some (string (string_bytes r.name))
   pub version : (text : List ℕ) × (get (codes "version") d ≡ Some (string text))
       × (version_parts text ≡ Ok (parts_of r.version))
   pub manifest_path : get (codes "manifest_path") d ≡ Some (string r.manifest_path)
   pub edition : get (codes "edition") d ≡ Some (string (string_bytes r.edition))
+
+-- what of a package may be left out by Cargo, and is read with details or without
+pub record IsShown (d : Json) (r : PackageRecord) : Type 0 where
   pub description : IsText (codes "description") d (option_map string_bytes r.description)
   pub license : IsText (codes "license") d (option_map string_bytes r.license)
   pub repository : IsText (codes "repository") d (option_map string_bytes r.repository)
   pub publish : IsPublishable d r.publish
+
+-- what is read of each package, with details or without
+pub record IsNamed (d : Json) (r : PackageRecord) : Type 0 where
+  pub known : IsKnown d r
+  pub shown : IsShown d r
 
 -- what else is told of a package for people
 pub record IsDescribed (d : Json) (r : PackageRecord) : Type 0 where

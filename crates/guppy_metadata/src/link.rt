@@ -105,12 +105,22 @@ fn is_used(declared: &Declared<'_>, usages: &[Usage<'_>]) -> bool
     false
 }
 
+// Whether two names are the same. Their last letters are compared first, as many names begin alike.
+fn are_same(name: &str, other: &str) -> bool
+    ensures { result ≡ bytes_eq name.now other.now }
+{
+    match (name.as_bytes().last(), other.as_bytes().last()) {
+        (Some(last), Some(other_last)) if last != other_last => false,
+        _ => name == other,
+    }
+}
+
 // Whether what a package declares is among the dependencies that were resolved to this one. One on itself
 // is resolved with the name of its library, whatever its own is.
 fn fits(declared: &Declared<'_>, from: &str, resolved: &Resolved<'_>, needed: &Package<'_>) -> bool
     ensures { result ≡ fits from.now resolved.now needed.now declared.now }
 {
-    declared.name == needed.record.name.as_str()
+    are_same(declared.name, needed.record.name.as_str())
         && (from == resolved.id || has_name(declared, needed, resolved.name))
         && declared.takes(&needed.record.version)
         && is_used(declared, resolved.usages.as_slice())

@@ -1,5 +1,5 @@
 //! Packages.
-ghost use Rattle.std.specs.Prelude.{◌≡◌, true, List, Option, Some, IfOk, IfErr, OnOk, MatchResult, map, string_bytes, codes};
+ghost use Rattle.std.specs.Prelude.{◌≡◌, true, List, Option, Some, IfOk, IfErr, OnOk, MatchResult, map, option_map, string_bytes, codes, Bool};
 ghost use Rattle.std.specs.List.{AllZip};
 ghost use Rattle.std.specs.Option.{option_copied};
 ghost use Rattle.json.specs.Json.{Json, string};
@@ -10,7 +10,7 @@ ghost use Rattle.guppy_metadata.specs.Dependency.{NamesOptional};
 ghost use Rattle.guppy_metadata.specs.Fault.{NoneIs, IsRead};
 ghost use Rattle.guppy_metadata.specs.Members.{data_of, is_among, is_in_set, IsText};
 ghost use Rattle.guppy_metadata.specs.declared.package.Package.{Package};
-ghost use Rattle.guppy_metadata.specs.Package.{IsFrom, IsNamed, IsDescribed, IsFilled, IsPlain, IsDetailed, IsTold, IsRecordOf, IsPublishable, IsRustVersion, AreAskedTargets, IsLibrary, AreDeclared, AreTold, AreAlike, ArePositions, dots_in, zeros_behind, whole_version};
+ghost use Rattle.guppy_metadata.specs.Package.{IsFrom, IsNamed, IsKnown, IsShown, IsDescribed, IsFilled, IsPlain, IsDetailed, IsTold, IsRecordOf, IsPublishable, IsRustVersion, AreAskedTargets, IsLibrary, AreDeclared, AreTold, AreAlike, ArePositions, dots_in, zeros_behind, whole_version};
 
 use crate::declared::{Declared, declared_dependencies, optional_names};
 use crate::fault::Misfit;
@@ -150,9 +150,9 @@ fn fill(
     Ok(())
 }
 
-// The record of the package, without details and build targets.
-fn named_record(json: Object<'_, '_>) -> Result<PackageRecord, Misfit>
-    ensures named { IsRead (IsNamed (data_of json.entry)) result }
+// The record of the package with the texts that each has.
+fn known_record(json: Object<'_, '_>) -> Result<PackageRecord, Misfit>
+    ensures known { IsRead (IsKnown (data_of json.entry)) result }
     ensures plain { IfOk result IsPlain }
 {
     let alloc = json.alloc;
@@ -161,7 +161,7 @@ fn named_record(json: Object<'_, '_>) -> Result<PackageRecord, Misfit>
     let name = json.copied_text("name")?;
     let manifest_path = json.copied_text("manifest_path")?;
     let edition = json.copied_text("edition")?;
-    let mut record = PackageRecord::new(
+    Ok(PackageRecord::new(
         alloc,
         PackageId::new(id),
         name,
@@ -169,35 +169,31 @@ fn named_record(json: Object<'_, '_>) -> Result<PackageRecord, Misfit>
         PackageSourceRecord::Path(Utf8PathBuf::new(String::new(alloc))),
         Utf8PathBuf::new(manifest_path),
         edition,
-    );
-    record.description = json.optional_copied_text("description")?;
-    record.license = json.optional_copied_text("license")?;
-    record.repository = json.optional_copied_text("repository")?;
-    record.publish = publish_of(json)?;
-    Ok(record)
+    ))
 }
 
-// Fills in the build targets, and the details of a package with these dependencies where they are read.
-fn add_details(
-    made: &mut PackageRecord,
-    json: Object<'_, '_>,
-    declared: &[Declared<'_>],
-    targets: Vec<BuildTargetRecord>,
-    details: bool,
-) -> Result<(), Misfit>
-    ensures detailed { OnOk result (IsPlain made.old → IsDetailed details (data_of json.entry) made.new) }
-    ensures refused { IfErr result (NoneIs (IsDetailed details (data_of json.entry))) }
-    ensures optional { OnOk result (details ≡ true → NamesOptional declared.now made.new.optional_deps) }
-    ensures targets { OnOk result (made.new.build_targets ≡ targets) }
-    ensures named { (d : Json) → IsNamed d made.old → IsNamed d made.new }
+// Fills in what of a package is read with details or without.
+fn show(made: &mut PackageRecord, json: Object<'_, '_>) -> Result<(), Misfit>
+    ensures shown { OnOk result (IsShown (data_of json.entry) made.new) }
+    ensures refused { IfErr result (NoneIs (IsShown (data_of json.entry))) }
+    ensures known { (d : Json) → IsKnown d made.old → IsKnown d made.new }
+    ensures plain { IsPlain made.old → IsPlain made.new }
 {
-    made.build_targets = targets;
-    if details {
-        describe(made, json)?;
-        fill(made, json, declared)
-    } else {
-        Ok(())
-    }
+    made.description = json.optional_copied_text("description")?;
+    made.license = json.optional_copied_text("license")?;
+    made.repository = json.optional_copied_text("repository")?;
+    made.publish = publish_of(json)?;
+    Ok(())
+}
+
+// The record of the package, without details and build targets.
+fn named_record(json: Object<'_, '_>) -> Result<PackageRecord, Misfit>
+    ensures named { IsRead (IsNamed (data_of json.entry)) result }
+    ensures plain { IfOk result IsPlain }
+{
+    let mut record = known_record(json)?;
+    show(&mut record, json)?;
+    Ok(record)
 }
 
 // The build targets that are told of a package, or none of them where details are left out.
@@ -212,12 +208,35 @@ fn asked_targets(json: Object<'_, '_>, details: bool) -> Result<Vec<BuildTargetR
     }
 }
 
+// Fills in the build targets, and the details of a package with these dependencies where they are read.
+fn add_details(
+    made: &mut PackageRecord,
+    json: Object<'_, '_>,
+    declared: &[Declared<'_>],
+    details: bool,
+) -> Result<(), Misfit>
+    ensures targets { OnOk result (AreAskedTargets details (data_of json.entry) made.new.build_targets.items) }
+    ensures detailed { OnOk result (IsPlain made.old → IsDetailed details (data_of json.entry) made.new) }
+    ensures refused { IfErr result (NoneIs (λ (r : PackageRecord). AreAskedTargets details (data_of json.entry) r.build_targets.items
+        × IsDetailed details (data_of json.entry) r)) }
+    ensures optional { OnOk result (details ≡ true → NamesOptional declared.now made.new.optional_deps) }
+    ensures named { (d : Json) → IsNamed d made.old → IsNamed d made.new }
+{
+    made.build_targets = asked_targets(json, details)?;
+    if details {
+        describe(made, json)?;
+        fill(made, json, declared)
+    } else {
+        Ok(())
+    }
+}
+
 // The package of its record so far, its library and dependencies, with details or without.
 fn filled_package<'a>(
     json: Object<'_, 'a>,
     id: &'a str,
     source: Option<&'a str>,
-    library: Option<&'a str>,
+    library: Option<String>,
     declared: Vec<Declared<'a>>,
     mut made: PackageRecord,
     details: bool,
@@ -226,13 +245,11 @@ fn filled_package<'a>(
         → get (codes "id") (data_of json.entry) ≡ Some (string id.now)
         → IsText (codes "source") (data_of json.entry) (option_copied source.entry)
         → IsNamed (data_of json.entry) made → IsPlain made
-        → IsLibrary d (option_copied library.entry) → AreDeclared details d declared.entry.items → IsTold details d p) }
+        → IsLibrary d (option_map string_bytes library) → AreDeclared details d declared.entry.items → IsTold details d p) }
     ensures refused { IfErr result (NoneIs (λ (r : PackageRecord). AreAskedTargets details (data_of json.entry) r.build_targets.items
         × IsDetailed details (data_of json.entry) r)) }
 {
-    let targets = asked_targets(json, details)?;
-    add_details(&mut made, json, declared.as_slice(), targets, details)?;
-    let library = optional_copy(json.alloc, library)?;
+    add_details(&mut made, json, declared.as_slice(), details)?;
     Ok(Package {
         id,
         source,
@@ -254,6 +271,7 @@ pub(crate) fn package_with<'a>(
 {
     let id = json.text("id")?;
     let source = json.optional_text("source")?;
+    let library = optional_copy(json.alloc, library)?;
     let record = named_record(json)?;
     filled_package(json, id, source, library, declared, record, details)
 }
@@ -265,8 +283,8 @@ pub(crate) fn package_of<'a>(json: Object<'_, 'a>, details: bool) -> Result<Pack
     let id = json.text("id")?;
     let source = json.optional_text("source")?;
     let declared = declared_dependencies(json, details)?;
+    let library = optional_copy(json.alloc, first_library(json)?)?;
     let record = named_record(json)?;
-    let library = first_library(json)?;
     filled_package(json, id, source, library, declared, record, details)
 }
 
@@ -341,6 +359,20 @@ fn source_of(
     }
 }
 
+// The record of a package that comes from there.
+fn record_from(package: Package<'_>, source: PackageSourceRecord) -> PackageRecord
+    ensures source { result.source ≡ source }
+    ensures named { (d : Json) → IsNamed d «package».entry.record → IsNamed d result }
+    ensures detailed { (details : Bool) (d : Json) → IsDetailed details d «package».entry.record → IsDetailed details d result }
+    ensures targets { result.build_targets ≡ «package».entry.record.build_targets }
+    ensures optional { result.optional_deps ≡ «package».entry.record.optional_deps }
+    ensures manifest_path { result.manifest_path ≡ «package».entry.record.manifest_path }
+{
+    let mut record = package.record;
+    record.source = source;
+    record
+}
+
 // The record of a package of a workspace with these members.
 fn record_of(
     alloc: Global,
@@ -357,9 +389,7 @@ fn record_of(
         package.record.manifest_path.as_path(),
         root,
     )?;
-    let mut record = package.record;
-    record.source = source;
-    Ok(record)
+    Ok(record_from(package, source))
 }
 
 // The records of the packages of a workspace with these members at this root.
