@@ -267,15 +267,11 @@ def try_installed(world):
     wanted += [f"libexec/guppy/{it}.sh" for it in ("metadata", "since", "start", "words")]
     yield "nothing else is there", left == wanted and not world.left(), (left, world.left())
     metadata = world.room / "metadata.json"
+    metadata.write_text("{}")
+    heap = ":glibc.malloc.top_pad=2097152:glibc.malloc.mmap_threshold=1073741824:glibc.malloc.trim_threshold=4294967296"
     words = ["guppy-cargo", "order", "--metadata", str(metadata)]
-    heap = ":glibc.malloc.top_pad=2097152"
-    for program, asked, size, more in (
-        ("guppy-cargo", words, 2, heap),
-        ("guppy-cargo", words, 1 << 23, heap + ":glibc.malloc.mmap_threshold=8388608"),
-        ("guppy-run", ["guppy-run", "order"], 2, ""),
-    ):
-        metadata.write_text("{}".ljust(size))
-        yield from try_memory(world, prefix / "libexec/guppy" / program, asked, more, path, where=workspace)
+    yield from try_memory(world, prefix / "libexec/guppy/guppy-cargo", words, heap, path, where=workspace)
+    yield from try_memory(world, prefix / "libexec/guppy/guppy-run", ["guppy-run", "order"], "", path, where=workspace)
 
 
 def try_quick(world):

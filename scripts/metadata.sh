@@ -29,7 +29,7 @@ give_up_cargo() {
 }
 
 # Makes standard input the metadata of a workspace, those given or else what cargo says, by way of a file that is gone at
-# once. Sets is_large, for start.
+# once.
 take_metadata() {
     copy=
     trap 'rm -f "$copy"' EXIT
@@ -45,8 +45,6 @@ take_metadata() {
         eval "\"\$cargo\" metadata --format-version 1 $manifest $features $others" < /dev/null > "$copy" ||
             give_up_cargo "cargo gives no metadata" ", or metadata by --metadata FILE"
     fi
-    is_large=
-    [ "$(wc -c < "$copy")" -lt 8388608 ] || is_large=yes
     exec < "$copy"
     trap - EXIT HUP INT TERM
     rm -f "$copy"

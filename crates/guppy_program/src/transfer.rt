@@ -17,7 +17,7 @@ pub fn read_all<R: Source, F: ProgramFault>(alloc: Global, reader: &mut R) -> Re
     ensures err { IfErr result (λ fault. IsReadFault (F.cause fault)) }
 {
     let mut bytes = Vec::new(alloc);
-    let mut chunk = [0u8; 16384];
+    let mut chunk = [0u8; 65536];
     'read: loop {
         let Ok(count) = reader.read(&mut chunk) else {
             return Err(F::of(Fault::InputFailed));
