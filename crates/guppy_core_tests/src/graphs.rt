@@ -1,6 +1,7 @@
 //! Sets of positions and small graphs.
 ghost use Rattle.std.specs.Prelude.{◌≡◌, ◌<◌, length, All, IfOk};
 
+use crate::positions::{assert_of, ixs_of};
 use guppy_core::graph_core::{Graph, GraphFault, Link};
 use guppy_core::ix::{DependencyDirection, GraphSpec, IndexType, IxSet, PackageIx};
 use std::alloc::{AllocError, Global};
@@ -27,35 +28,29 @@ fn of_ixs(alloc: Global, ixs: &[PackageIx], count: usize) -> Result<IxSet<Letter
 fn set_of(rt: &impl Abort, alloc: Global, positions: &[usize], count: usize) -> IxSet<Letters>
     ensures { length result ≡ count }
 {
-    let mut ixs = Vec::new(alloc);
-    for position in positions {
-        if *position < count && *position < 4_294_967_295 {
-            ixs.push(PackageIx::new(*position)).expect(rt, "indexes");
-        }
-    }
+    let ixs = ixs_of(rt, alloc, positions, count);
     of_ixs(alloc, ixs.as_slice(), count).expect(rt, "a set")
 }
 
-// Exactly these are in the set, by each call that tells, and those that are left count down.
-fn has_members(rt: &impl Abort, name: &str, set: &IxSet<Letters>, count: u16, members: &[usize])
+// Whether exactly these are in the set, by each call that tells, and those that are left count down.
+fn has_members(set: &IxSet<Letters>, count: u16, members: &[usize]) -> bool
     requires { length set.now ≡ count }
 {
-    assert!(rt; set.len() == members.len(), "{name}");
-    assert!(rt; set.is_empty() == members.is_empty(), "{name}");
     let mut ones = set.ones();
     for (place, position) in members.iter().enumerate() {
-        assert!(rt; ones.len() == members.len() - place, "{name}");
-        assert!(rt; ones.next().expect(rt, name).index() == *position, "{name}");
+        let is_counted = ones.len() == members.len() - place;
+        match ones.next() {
+            Some(ix) if is_counted && ix.index() == *position => {}
+            _ => return false,
+        }
     }
-    assert!(rt; ones.size_hint() == (0, Some(0)), "{name}");
-    assert!(rt; ones.next().is_none(), "{name}");
     for position in 0..count as usize {
-        let is_member = set.contains(PackageIx::new(position));
-        assert!(rt;
-            is_member == members.contains(&position),
-            "{name} at {position}"
-        );
+        if set.contains(PackageIx::new(position)) != members.contains(&position) {
+            return false;
+        }
     }
+    let is_at_end = ones.size_hint() == (0, Some(0)) && ones.next().is_none();
+    is_at_end && set.len() == members.len() && set.is_empty() == members.is_empty()
 }
 
 // A set made of a list of positions below a count.
@@ -91,10 +86,10 @@ const MADE: &[Made] = &[
 fn sets_of_positions(rt: HostRuntime) {
     for made in MADE {
         let set = set_of(&rt, rt.alloc(), made.positions, made.count as usize);
-        has_members(&rt, made.name, &set, made.count, made.members);
+        assert_of(&rt, made.name, has_members(&set, made.count, made.members));
     }
     let empty = IxSet::empty(rt.alloc(), 130).expect(&rt, "an_empty_set");
-    has_members(&rt, "an_empty_set", &empty, 130, &[]);
+    assert_of(&rt, "an_empty_set", has_members(&empty, 130, &[]));
 }
 
 // Each operation changes what the one before it left.
@@ -104,16 +99,23 @@ fn operations_over_words(rt: HostRuntime) {
     let second = set_of(&rt, rt.alloc(), &[64, 65, 199], 200);
     let first = set.clone().expect(&rt, "copy");
     set.union_with(&second);
-    has_members(&rt, "union", &set, 200, &[0, 64, 65, 130, 199]);
+    assert_of(&rt, "union", has_members(&set, 200, &[0, 64, 65, 130, 199]));
     set.intersect_with(&second);
-    has_members(&rt, "intersection", &set, 200, &[64, 65, 199]);
+    assert_of(&rt, "intersection", has_members(&set, 200, &[64, 65, 199]));
     set.symmetric_difference_with(&first);
-    has_members(&rt, "symmetric difference", &set, 200, &[0, 65, 130, 199]);
+    assert_of(
+        &rt,
+        "symmetric difference",
+        has_members(&set, 200, &[0, 65, 130, 199]),
+    );
     let rest = set.difference(&second).expect(&rt, "difference");
-    has_members(&rt, "difference", &rest, 200, &[0, 130]);
-    assert!(rt; set.insert(PackageIx::new(100)));
-    assert!(rt; !set.insert(PackageIx::new(100)));
-    has_members(&rt, "insert", &set, 200, &[0, 65, 100, 130, 199]);
+    assert_of(&rt, "difference", has_members(&rest, 200, &[0, 130]));
+    let is_new = set.insert(PackageIx::new(100)) && !set.insert(PackageIx::new(100));
+    assert_of(
+        &rt,
+        "insert",
+        is_new && has_members(&set, 200, &[0, 65, 100, 130, 199]),
+    );
 }
 
 #[test]
@@ -131,57 +133,85 @@ fn directions(rt: HostRuntime) {
         to: 8,
         edge: 'a',
     };
-    let (forward, reverse) = (DependencyDirection::Forward, DependencyDirection::Reverse);
-    assert!(rt; forward.opposite() == reverse);
-    assert!(rt; reverse.opposite() == forward);
-    assert!(rt; (link.near_end(forward), link.far_end(forward)) == (3, 8));
-    assert!(rt; (link.near_end(reverse), link.far_end(reverse)) == (8, 3));
+    assert!(rt; FORWARD.opposite() == REVERSE && REVERSE.opposite() == FORWARD);
+    assert!(rt; link.near_end(FORWARD) == 3 && link.far_end(FORWARD) == 8);
+    assert!(rt; link.near_end(REVERSE) == 8 && link.far_end(REVERSE) == 3);
 }
 
-/// The graph of the numbers and of the links by from, to and letter.
+// The graph of the numbers and of the links by from, to and letter.
 fn graph_of(
     rt: &impl Abort,
     alloc: Global,
     nodes: &[u16],
-    links: &[(usize, usize, char)],
-) -> Result<Graph<Letters>, GraphFault>
-    ensures nodes { IfOk result (λ graph. graph.nodes ≡ nodes.now) }
-    ensures links { IfOk result (λ graph. length graph.links ≡ length links.now) }
-{
-    let nodes = nodes.iter().copied().collect(alloc).expect(rt, "nodes");
-    let links = links.iter().map(|(from, to, edge)| Link {
-        from: *from,
-        to: *to,
-        edge: *edge,
-    });
-    Graph::from_parts(nodes, links.collect(alloc).expect(rt, "links"))
+    ends: &[(usize, usize, char)],
+) -> Result<Graph<Letters>, GraphFault> {
+    let nodes = nodes.to_vec(alloc).expect(rt, "nodes");
+    let mut links = Vec::new(alloc);
+    for (from, to, letter) in ends {
+        let link = Link {
+            from: *from,
+            to: *to,
+            edge: *letter,
+        };
+        links.push(link).expect(rt, "links");
+    }
+    Graph::from_parts(nodes, links)
 }
 
-fn small_graph_holds(rt: &impl Abort, graph: &Graph<Letters>)
-    requires nodes { length graph.now.nodes ≡ 3 }
-    requires links { length graph.now.links ≡ 4 }
-{
-    let (first, last) = (PackageIx::new(0), PackageIx::new(2));
-    let (forward, reverse) = (DependencyDirection::Forward, DependencyDirection::Reverse);
-    assert!(rt; graph.node_count() == 3);
-    assert!(rt; graph.link_count() == 4);
-    assert!(rt; *graph.node(last) == 300);
-    assert!(rt; graph.nodes() == [100, 200, 300].as_slice());
-    assert!(rt; *graph.link(2).edge == 'c');
-    assert!(rt; graph.links_of(first, forward) == [0, 2].as_slice());
-    assert!(rt; graph.links_of(last, forward) == [3].as_slice());
-    assert!(rt; graph.links_of(last, reverse) == [1, 2, 3].as_slice());
-    assert!(rt; graph.find_link(first, last) == Some(2));
-    assert!(rt; graph.find_link(last, last) == Some(3));
-    assert!(rt; graph.find_link(last, first).is_none());
-    assert!(rt; Vec::<u8>::new(graph.alloc()).is_empty());
+// Whether the links of each position, in the direction, are these.
+fn has_links(graph: &Graph<Letters>, wanted: &[(usize, DependencyDirection, &[usize])]) -> bool {
+    let count = graph.node_count().min(4_294_967_295);
+    for (position, direction, links) in wanted {
+        if *position >= count {
+            return false;
+        }
+        if graph.links_of(PackageIx::new(*position), *direction) != *links {
+            return false;
+        }
+    }
+    true
+}
+
+// Whether these links, or none, lead from the one position to the other.
+fn finds(graph: &Graph<Letters>, wanted: &[(usize, usize, Option<usize>)]) -> bool {
+    let count = graph.node_count().min(4_294_967_295);
+    for (from, to, link) in wanted {
+        if *from >= count || *to >= count {
+            return false;
+        }
+        if graph.find_link(PackageIx::new(*from), PackageIx::new(*to)) != *link {
+            return false;
+        }
+    }
+    true
+}
+
+const FORWARD: DependencyDirection = DependencyDirection::Forward;
+
+const REVERSE: DependencyDirection = DependencyDirection::Reverse;
+
+fn small_graph_holds(graph: &Graph<Letters>) -> bool {
+    let none = Vec::<u8>::new(graph.alloc());
+    none.is_empty()
+        && graph.node_count() == 3
+        && graph.link_count() == 4
+        && *graph.node(PackageIx::new(2)) == 300
+        && graph.nodes() == [100, 200, 300].as_slice()
+        && *graph.link(2).edge == 'c'
 }
 
 #[test]
 fn a_small_graph(rt: HostRuntime) {
     let links = [(0, 1, 'a'), (1, 2, 'b'), (0, 2, 'c'), (2, 2, 'd')];
-    let graph = graph_of(&rt, rt.alloc(), &[100, 200, 300], &links);
-    small_graph_holds(&rt, &graph.expect(&rt, "a_small_graph"));
+    let graph = graph_of(&rt, rt.alloc(), &[100, 200, 300], &links).expect(&rt, "a_small_graph");
+    assert!(rt; small_graph_holds(&graph));
+    let links: [(usize, DependencyDirection, &[usize]); 3] = [
+        (0, FORWARD, &[0, 2]),
+        (2, FORWARD, &[3]),
+        (2, REVERSE, &[1, 2, 3]),
+    ];
+    assert!(rt; has_links(&graph, &links));
+    assert!(rt; finds(&graph, &[(0, 2, Some(2)), (2, 2, Some(3)), (2, 0, None)]));
 }
 
 #[test]
@@ -197,41 +227,25 @@ fn repeated_link(rt: HostRuntime) {
 #[test]
 fn a_wide_star(rt: HostRuntime) {
     let count = 200_000;
-    let mut nodes = Vec::new(rt.alloc());
+    let nodes = vec![in rt.alloc(); 0; count].expect(&rt, "nodes");
     let mut links = Vec::new(rt.alloc());
     for to in 0..count {
-        nodes.push(0).expect(&rt, "nodes");
-        let link = Link {
-            from: 0,
-            to,
-            edge: 'a',
-        };
-        links.push(link).expect(&rt, "links");
+        links.push((0, to, 'a')).expect(&rt, "links");
     }
-    let again = Link {
-        from: 0,
-        to: 7,
-        edge: 'b',
-    };
-    links.push(again).expect(&rt, "links");
-    let fault = Graph::<Letters>::from_parts(nodes, links).err();
+    links.push((0, 7, 'b')).expect(&rt, "links");
+    let fault = graph_of(&rt, rt.alloc(), nodes.as_slice(), links.as_slice()).err();
     assert!(rt; fault == Some(GraphFault::RepeatedLink(count)));
 }
 
-fn thousand_by_sevens_holds(rt: &impl Abort, graph: &Graph<Letters>)
-    requires nodes { length graph.now.nodes ≡ 1000 }
-{
-    let (first, far) = (PackageIx::new(0), PackageIx::new(571));
-    let (forward, reverse) = (DependencyDirection::Forward, DependencyDirection::Reverse);
-    for position in 0..1000 {
+// Whether two links leave and two lead to each of a thousand positions.
+fn has_two_each(graph: &Graph<Letters>) -> bool {
+    for position in 0..graph.node_count().min(1000) {
         let ix = PackageIx::new(position);
-        assert!(rt; graph.links_of(ix, forward).len() == 2, "{position}");
-        assert!(rt; graph.links_of(ix, reverse).len() == 2, "{position}");
+        if graph.links_of(ix, FORWARD).len() != 2 || graph.links_of(ix, REVERSE).len() != 2 {
+            return false;
+        }
     }
-    assert!(rt; graph.links_of(first, forward) == [0, 1].as_slice());
-    assert!(rt; graph.links_of(first, reverse) == [1091, 1142].as_slice());
-    assert!(rt; graph.find_link(far, first) == Some(1142));
-    assert!(rt; graph.find_link(first, first).is_none());
+    graph.node_count() == 1000
 }
 
 // From each i, links to 7 i + 3 and to 11 i + 5, in a ring of a thousand.
@@ -239,13 +253,16 @@ fn thousand_by_sevens_holds(rt: &impl Abort, graph: &Graph<Letters>)
 fn thousand_by_sevens(rt: HostRuntime) {
     let mut links = Vec::new(rt.alloc());
     for i in 0..1000 {
-        links
-            .push((i, (7 * i + 3) % 1000, 'a'))
-            .expect(&rt, "links");
-        links
-            .push((i, (11 * i + 5) % 1000, 'b'))
-            .expect(&rt, "links");
+        let ends = [(i, (7 * i + 3) % 1000, 'a'), (i, (11 * i + 5) % 1000, 'b')];
+        links.extend_from_slice(&ends).expect(&rt, "links");
     }
     let graph = graph_of(&rt, rt.alloc(), &[0; 1000], links.as_slice());
-    thousand_by_sevens_holds(&rt, &graph.expect(&rt, "thousand_by_sevens"));
+    let graph = graph.expect(&rt, "thousand_by_sevens");
+    assert!(rt; has_two_each(&graph));
+    let links: [(usize, DependencyDirection, &[usize]); 2] = [
+        (0, FORWARD, &[0, 1]),
+        (0, REVERSE, &[1091, 1142]),
+    ];
+    assert!(rt; has_links(&graph, &links));
+    assert!(rt; finds(&graph, &[(571, 0, Some(1142)), (0, 0, None)]));
 }

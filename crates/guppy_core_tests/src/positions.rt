@@ -1,9 +1,15 @@
 //! Positions as numbers: sets made of a list of them, and compared with one.
-ghost use Rattle.std.specs.Prelude.{◌≡◌, length};
+ghost use Rattle.std.specs.Prelude.{◌≡◌, ◌<◌, length, All};
 
 use guppy_core::graph_core::Graph;
 use guppy_core::ix::{GraphSpec, IndexType, IxSet, PackageIx};
+use std::alloc::{AllocError, Global};
 use std::process::Abort;
+
+/// Ends the test where what is asserted of the case doesn't hold.
+pub(crate) fn assert_of(rt: &impl Abort, case: &str, holds: bool) {
+    assert!(rt; holds, "{case}");
+}
 
 /// The set of those of the positions that the graph has.
 pub(crate) fn set_of<G: GraphSpec>(
@@ -22,14 +28,42 @@ pub(crate) fn set_of<G: GraphSpec>(
     set
 }
 
+/// The indexes of those of the positions that are below the count, in their order and with repeats.
+pub(crate) fn ixs_of(
+    rt: &impl Abort,
+    alloc: Global,
+    positions: &[usize],
+    count: usize,
+) -> Vec<PackageIx>
+    ensures { All (λ ix. ix.0 < count) result.items }
+{
+    let mut ixs = Vec::new(alloc);
+    for position in positions {
+        if *position < count && *position < 4_294_967_295 {
+            ixs.push(PackageIx::new(*position)).expect(rt, "indexes");
+        }
+    }
+    ixs
+}
+
 /// Whether the set's positions are these.
 pub(crate) fn has_positions<G: GraphSpec>(set: &IxSet<G>, wanted: &[usize]) -> bool {
-    for (place, ix) in set.ones().enumerate() {
-        if wanted.get(place) != Some(&ix.index()) {
-            return false;
+    let mut ones = set.ones();
+    for position in wanted {
+        match ones.next() {
+            Some(ix) if ix.index() == *position => {}
+            _ => return false,
         }
     }
     set.len() == wanted.len()
+}
+
+/// Whether a search found these positions, and memory.
+pub(crate) fn found<G: GraphSpec>(set: Result<IxSet<G>, AllocError>, wanted: &[usize]) -> bool {
+    match set {
+        Ok(set) => has_positions(&set, wanted),
+        Err(_) => false,
+    }
 }
 
 /// Whether the indexes are those of these positions.

@@ -1,7 +1,7 @@
 //! Sets of small graphs.
 ghost use Rattle.std.specs.Prelude.{◌≡◌, ◌<◌, length, All, IfOk};
 
-use crate::positions::{has_positions, set_of};
+use crate::positions::{assert_of, has_positions, ixs_of, set_of};
 use crate::scc::{DevLinks, graph_of};
 use guppy_core::graph_core::Graph;
 use guppy_core::ix::{DependencyDirection, IndexType, PackageIx};
@@ -79,19 +79,6 @@ const MADE: &[Made] = &[
     },
 ];
 
-// The indexes of the positions that the graph has, in their order and with repeats.
-fn ixs_of(rt: &impl Abort, graph: &Graph<DevLinks>, positions: &[usize]) -> Vec<PackageIx>
-    ensures { All (λ ix. ix.0 < length graph.now.nodes) result.items }
-{
-    let mut ixs = Vec::new(graph.alloc());
-    for position in positions {
-        if *position < graph.node_count() && *position < 4_294_967_295 {
-            ixs.push(PackageIx::new(*position)).expect(rt, "indexes");
-        }
-    }
-    ixs
-}
-
 fn of_ixs(graph: &Graph<DevLinks>, ixs: &[PackageIx]) -> Result<ResolveCore<DevLinks>, AllocError>
     requires { All (λ ix. ix.0 < length graph.now.nodes) ixs.now }
     ensures { IfOk result (λ set. length set ≡ length graph.now.nodes) }
@@ -112,33 +99,25 @@ fn made_by(rt: &impl Abort, graph: &Graph<DevLinks>, maker: Maker) -> ResolveCor
         Maker::Empty => ResolveCore::empty(graph.alloc(), graph.node_count()),
         Maker::Included(positions) => Ok(ResolveCore::from_included(set_of(rt, graph, positions))),
         Maker::Ixs(positions) => {
-            let ixs = ixs_of(rt, graph, positions);
+            let ixs = ixs_of(rt, graph.alloc(), positions, graph.node_count());
             of_ixs(graph, ixs.as_slice())
         }
     };
     made.expect(rt, "a set")
 }
 
-// Exactly these are in the set, by each call that tells.
-fn includes(
-    rt: &impl Abort,
-    name: &str,
-    graph: &Graph<DevLinks>,
-    set: &ResolveCore<DevLinks>,
-    wanted: &[usize],
-)
+// Whether exactly these are in the set, by each call that tells.
+fn includes(graph: &Graph<DevLinks>, set: &ResolveCore<DevLinks>, wanted: &[usize]) -> bool
     requires { length set.now ≡ length graph.now.nodes }
 {
-    assert!(rt; set.len() == wanted.len(), "{name}");
-    assert!(rt; set.is_empty() == wanted.is_empty(), "{name}");
     for position in 0..graph.node_count().min(256) {
-        let is_member = set.contains(PackageIx::new(position));
-        assert!(rt;
-            is_member == wanted.contains(&position),
-            "{name} at {position}"
-        );
+        if set.contains(PackageIx::new(position)) != wanted.contains(&position) {
+            return false;
+        }
     }
-    assert!(rt; has_positions(set.included(), wanted), "{name}");
+    set.len() == wanted.len()
+        && set.is_empty() == wanted.is_empty()
+        && has_positions(set.included(), wanted)
 }
 
 #[test]
@@ -146,9 +125,9 @@ fn sets(rt: HostRuntime) {
     for made in MADE {
         let graph = graph_of(&rt, rt.alloc(), made.node_count, made.links);
         let set = made_by(&rt, &graph, made.maker);
-        includes(&rt, made.name, &graph, &set, made.included);
+        assert_of(&rt, made.name, includes(&graph, &set, made.included));
         let copy = set.clone().expect(&rt, made.name);
-        includes(&rt, made.name, &graph, &copy, made.included);
+        assert_of(&rt, made.name, includes(&graph, &copy, made.included));
     }
 }
 
@@ -171,19 +150,34 @@ const SET_OPERATIONS: &[(&str, Operation, &[usize])] = &[
     ),
 ];
 
+fn combined(
+    rt: &impl Abort,
+    first: &ResolveCore<DevLinks>,
+    second: &ResolveCore<DevLinks>,
+    operation: Operation,
+) -> ResolveCore<DevLinks>
+    requires { length first.now ≡ length second.now }
+    ensures { length result ≡ length first.now }
+{
+    if let Operation::Difference = operation {
+        return first.difference(second).expect(rt, "a set");
+    }
+    let mut set = first.clone().expect(rt, "a set");
+    match operation {
+        Operation::Union => set.union_with(second),
+        Operation::Intersection => set.intersect_with(second),
+        _ => set.symmetric_difference_with(second),
+    }
+    set
+}
+
 #[test]
 fn set_operations(rt: HostRuntime) {
     let graph = graph_of(&rt, rt.alloc(), 3, &[(0, 1)]);
     let first = made_by(&rt, &graph, Maker::Ixs(&[0, 1]));
     let second = made_by(&rt, &graph, Maker::Ixs(&[1, 2]));
     for (name, operation, wanted) in SET_OPERATIONS {
-        let mut set = first.clone().expect(&rt, name);
-        match operation {
-            Operation::Union => set.union_with(&second),
-            Operation::Intersection => set.intersect_with(&second),
-            Operation::Difference => set = first.difference(&second).expect(&rt, name),
-            Operation::SymmetricDifference => set.symmetric_difference_with(&second),
-        }
-        includes(&rt, name, &graph, &set, wanted);
+        let set = combined(&rt, &first, &second, *operation);
+        assert_of(&rt, name, includes(&graph, &set, wanted));
     }
 }

@@ -1,5 +1,0 @@
-use Rattle.std.proofs.Common.{◌<◌, All, length}
-use Rattle.guppy_core_tests.proofs.resolve_core.ixs_of.Given as goal
-
-abbrev pub invariant-loop-position : goal.invariant-loop-position
-invariant-loop-position g l = All (λ ix. ix.0 < length l.graph.nodes) l.ixs.items
