@@ -1,13 +1,13 @@
 //! Searches of small graphs with filters that hand links back.
-ghost use Rattle.std.specs.Prelude.{◌≡◌, ◌<◌, Some, None, All, IfOk, OnErr, filter, nat_lt};
+ghost use Rattle.std.specs.Prelude.{◌≡◌, ◌<◌, Some, None, All, IfOk, OnErr, filter, length, nat_lt};
 ghost use Rattle.guppy_core_tests.specs.Noting.{Says};
 
-use crate::positions::{has_positions, set_of};
+use crate::positions::{assert_of, found, has_positions, set_of};
 use guppy_core::dfs::{
     BufferedEdgeFilter, SimpleEdgeFilterFn, reachable_buffered, reachable_buffered_mut,
 };
 use guppy_core::graph_core::{Graph, Link};
-use guppy_core::ix::{DependencyDirection, GraphSpec, IndexType};
+use guppy_core::ix::{DependencyDirection, GraphSpec, IndexType, IxSet};
 use guppy_core::resolve_core::ResolveCore;
 use std::alloc::{AllocError, Global};
 use std::process::Abort;
@@ -205,57 +205,81 @@ const SEARCHES: &[Search] = &[
     },
 ];
 
+// What the filter lets a search from the position include.
+fn searched(
+    rt: &impl Abort,
+    graph: &Graph<Stages>,
+    start: usize,
+    direction: DependencyDirection,
+    filter: &mut Recording<'_>,
+) -> Result<IxSet<Stages>, AllocError> {
+    let start = set_of(rt, graph, &[start]);
+    reachable_buffered_mut(graph, &start, direction, filter)
+}
+
+fn search_of(rt: &impl Abort, alloc: Global, search: &Search) {
+    let graph = graph_of(rt, alloc, search.node_count, search.ends);
+    let mut filter = recording_at(alloc, search.at, search.handed);
+    let set = searched(rt, &graph, search.start, search.direction, &mut filter);
+    assert_of(rt, search.name, found(set, search.included));
+    assert_of(rt, search.name, filter.asked.as_slice() == search.asked);
+}
+
 #[test]
 fn searches(rt: HostRuntime) {
     for search in SEARCHES {
-        let graph = graph_of(&rt, rt.alloc(), search.node_count, search.ends);
-        let mut filter = recording_at(rt.alloc(), search.at, search.handed);
-        let start = set_of(&rt, &graph, &[search.start]);
-        let set = reachable_buffered_mut(&graph, &start, search.direction, &mut filter);
-        let set = set.expect(&rt, search.name);
-        assert!(rt; has_positions(&set, search.included), "{}", search.name);
-        assert!(rt; filter.asked.as_slice() == search.asked, "{}", search.name);
+        search_of(&rt, rt.alloc(), search);
     }
 }
 
 const RING: &[(usize, usize)] = &[(0, 1), (1, 2), (2, 3), (3, 0)];
 
-// The filter hands back these links at the ring's first position, and so all of its links. Each of
-// the eight questions is asked once.
-fn ring_is_asked_once(rt: &impl Abort, graph: &Graph<Stages>, links: &[usize]) {
-    let name = "hands_back_everything";
-    let mut filter = recording_at(graph.alloc(), Asked::Discover(0), links);
-    let start = set_of(rt, graph, &[0]);
-    let set = reachable_buffered_mut(graph, &start, FORWARD, &mut filter).expect(rt, name);
-    assert!(rt; has_positions(&set, &[0, 1, 2, 3]));
-    assert!(rt; filter.asked.len() == 8);
+// Whether each of a ring's eight questions was asked once.
+fn is_each_once(asked: &[Asked]) -> bool {
     for number in 0..4 {
-        assert!(rt; filter.asked.contains(&Asked::Discover(number)));
-        assert!(rt; filter.asked.contains(&Asked::Filter(number)));
+        if !asked.contains(&Asked::Discover(number)) || !asked.contains(&Asked::Filter(number)) {
+            return false;
+        }
     }
+    asked.len() == 8
+}
+
+// The filter hands back these links at the ring's first position, and so all of its links.
+fn ring_is_asked_once(rt: &impl Abort, graph: &Graph<Stages>, links: &[usize]) {
+    let mut filter = recording_at(graph.alloc(), Asked::Discover(0), links);
+    let set = searched(rt, graph, 0, FORWARD, &mut filter);
+    assert!(rt; found(set, &[0, 1, 2, 3]));
+    assert!(rt; is_each_once(filter.asked.as_slice()));
+}
+
+// The links of the ring, a thousand times.
+fn many_links(rt: &impl Abort, alloc: Global) -> Vec<usize> {
+    let mut many = Vec::new(alloc);
+    for number in 0..4000 {
+        many.push(number % 4).expect(rt, "links");
+    }
+    many
 }
 
 #[test]
 fn hands_back_everything(rt: HostRuntime) {
     let graph = graph_of(&rt, rt.alloc(), 4, RING);
     ring_is_asked_once(&rt, &graph, &[0, 1, 2, 3]);
-    let mut many = Vec::new(rt.alloc());
-    for number in 0..4000 {
-        many.push(number % 4).expect(&rt, "hands_back_everything");
-    }
-    ring_is_asked_once(&rt, &graph, many.as_slice());
+    ring_is_asked_once(&rt, &graph, many_links(&rt, rt.alloc()).as_slice());
+}
+
+fn ends_after(rt: &impl Abort, graph: &Graph<Stages>, count: usize) {
+    let mut filter = recording_at(graph.alloc(), Asked::Discover(0), &[0, 1, 2, 3]);
+    filter.fails_after = count;
+    let set = searched(rt, graph, 0, FORWARD, &mut filter);
+    assert!(rt; set.is_err() && filter.asked.len() == count.saturating_add(1));
 }
 
 #[test]
 fn an_error_ends_the_search(rt: HostRuntime) {
     let graph = graph_of(&rt, rt.alloc(), 4, RING);
-    let start = set_of(&rt, &graph, &[0]);
     for count in 0..8 {
-        let mut filter = recording_at(rt.alloc(), Asked::Discover(0), &[0, 1, 2, 3]);
-        filter.fails_after = count;
-        let set = reachable_buffered_mut(&graph, &start, FORWARD, &mut filter);
-        assert!(rt; set.is_err());
-        assert!(rt; filter.asked.len() == count + 1);
+        ends_after(&rt, &graph, count);
     }
 }
 
@@ -268,35 +292,48 @@ fn simple_filters(rt: HostRuntime) {
         calls = calls.wrapping_add(1);
         link % 2 == 1
     });
-    let set = reachable_buffered(&graph, &start, FORWARD, is_odd).expect(&rt, "simple_filters");
-    assert!(rt; has_positions(&set, &[0, 2, 3]));
-    assert!(rt; calls == 3);
+    let set = reachable_buffered(&graph, &start, FORWARD, is_odd);
+    assert!(rt; found(set, &[0, 2, 3]) && calls == 3);
 }
 
-#[test]
-fn resolves_with_filters(rt: HostRuntime) {
-    let name = "resolves_with_filters";
-    let graph = graph_of(&rt, rt.alloc(), 4, RING);
-    let start = set_of(&rt, &graph, &[2]);
-    let mut filter = recording_at(rt.alloc(), Asked::Filter(2), &[2, 0]);
-    let set = ResolveCore::with_buffered_edge_filter(&graph, &start, FORWARD, &mut filter);
-    assert!(rt; has_positions(set.expect(&rt, name).included(), &[1, 2, 3]));
-    assert!(rt; filter.asked.len() == 6);
-    let set = ResolveCore::with_buffered_edge_filter_mut(&graph, &start, FORWARD, &mut filter);
-    assert!(rt; has_positions(set.expect(&rt, name).included(), &[1, 2, 3]));
-    assert!(rt; filter.asked.len() == 12);
+fn resolved(set: Result<ResolveCore<Stages>, AllocError>, wanted: &[usize]) -> bool {
+    match set {
+        Ok(set) => has_positions(set.included(), wanted),
+        Err(_) => false,
+    }
+}
+
+fn resolve_with_recording(rt: &impl Abort, graph: &Graph<Stages>, start: &IxSet<Stages>)
+    requires { length start.now ≡ length graph.now.nodes }
+{
+    let mut filter = recording_at(graph.alloc(), Asked::Filter(2), &[2, 0]);
+    let set = ResolveCore::with_buffered_edge_filter(graph, start, FORWARD, &mut filter);
+    assert!(rt; resolved(set, &[1, 2, 3]) && filter.asked.len() == 6);
+    let set = ResolveCore::with_buffered_edge_filter_mut(graph, start, FORWARD, &mut filter);
+    assert!(rt; resolved(set, &[1, 2, 3]) && filter.asked.len() == 12);
+}
+
+fn resolve_with_closures(rt: &impl Abort, graph: &Graph<Stages>, start: &IxSet<Stages>)
+    requires { length start.now ≡ length graph.now.nodes }
+{
     let mut calls = 0_usize;
-    let set = ResolveCore::with_edge_filter(&graph, &start, FORWARD, |link| {
+    let set = ResolveCore::with_edge_filter(graph, start, FORWARD, |link| {
         calls = calls.wrapping_add(1);
         link != 0
     });
-    assert!(rt; has_positions(set.expect(&rt, name).included(), &[0, 2, 3]));
-    assert!(rt; calls == 3);
+    assert!(rt; resolved(set, &[0, 2, 3]) && calls == 3);
     let mut counting = |link| {
         calls = calls.wrapping_add(1);
         link != 0
     };
-    let set = ResolveCore::with_edge_filter_mut(&graph, &start, FORWARD, &mut counting);
-    assert!(rt; has_positions(set.expect(&rt, name).included(), &[0, 2, 3]));
-    assert!(rt; calls == 6);
+    let set = ResolveCore::with_edge_filter_mut(graph, start, FORWARD, &mut counting);
+    assert!(rt; resolved(set, &[0, 2, 3]) && calls == 6);
+}
+
+#[test]
+fn resolves_with_filters(rt: HostRuntime) {
+    let graph = graph_of(&rt, rt.alloc(), 4, RING);
+    let start = set_of(&rt, &graph, &[2]);
+    resolve_with_recording(&rt, &graph, &start);
+    resolve_with_closures(&rt, &graph, &start);
 }

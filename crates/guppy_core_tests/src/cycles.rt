@@ -1,5 +1,5 @@
 //! Cycles over the links that are kept.
-use crate::positions::are_positions;
+use crate::positions::{are_positions, assert_of};
 use crate::scc::DevLinks;
 use guppy_core::find_cycle;
 use guppy_core::graph_core::{CountedGraph, Graph, Link};
@@ -42,20 +42,18 @@ const CYCLIC: &[Cyclic] = &[
     },
 ];
 
-fn graph_of(
-    rt: &impl Abort,
-    alloc: Global,
-    ends: &[(usize, usize, bool)],
-) -> Result<Graph<DevLinks>, AllocError> {
+fn graph_of(rt: &impl Abort, alloc: Global, ends: &[(usize, usize, bool)]) -> Graph<DevLinks> {
     let mut links = Vec::new(alloc);
     for (from, to, edge) in ends {
-        links.push(Link {
+        let link = Link {
             from: *from,
             to: *to,
             edge: *edge,
-        })?;
+        };
+        links.push(link).expect(rt, "links");
     }
-    Ok(Graph::from_parts(vec![in alloc; (); 3]?, links).expect(rt, "a graph"))
+    let nodes = vec![in alloc; (); 3].expect(rt, "nodes");
+    Graph::from_parts(nodes, links).expect(rt, "a graph")
 }
 
 // A cycle, and how many links were looked at.
@@ -74,18 +72,19 @@ fn is_turn(cycle: &[PackageIx], turns: &[&[usize]]) -> bool {
     false
 }
 
+fn cycle_of(rt: &impl Abort, alloc: Global, cyclic: &Cyclic) {
+    let graph = graph_of(rt, alloc, cyclic.links);
+    let (found, looks) = found_in(&graph).expect(rt, cyclic.name);
+    let holds = match &found {
+        Some(cycle) => is_turn(cycle.as_slice(), cyclic.turns),
+        None => cyclic.turns.is_empty(),
+    };
+    assert_of(rt, cyclic.name, holds && looks <= cyclic.links.len() as u64);
+}
+
 #[test]
-fn cycles(rt: HostRuntime) -> Result<(), AllocError> {
+fn cycles(rt: HostRuntime) {
     for cyclic in CYCLIC {
-        let name = cyclic.name;
-        let graph = graph_of(&rt, rt.alloc(), cyclic.links)?;
-        let (found, looks) = found_in(&graph)?;
-        assert!(rt; looks <= cyclic.links.len() as u64, "{name}");
-        let holds = match &found {
-            Some(cycle) => is_turn(cycle.as_slice(), cyclic.turns),
-            None => cyclic.turns.is_empty(),
-        };
-        assert!(rt; holds, "{name}");
+        cycle_of(&rt, rt.alloc(), cyclic);
     }
-    Ok(())
 }

@@ -1,13 +1,13 @@
 //! Searches of small graphs.
-ghost use Rattle.std.specs.Prelude.{◌≡◌, ◌||◌, not, nat_lt};
+ghost use Rattle.std.specs.Prelude.{◌≡◌, ◌||◌, not, nat_lt, length};
 
-use crate::positions::{found, has_positions, set_of};
+use crate::positions::{assert_of, found, has_positions, set_of};
 use crate::scc::{DevLinks, graph_of};
 use crate::tables::by_table;
 use guppy_core::dfs::{LinkVisitor, reachable, reachable_recorded, reachable_with_fn};
 use guppy_core::graph_core::Graph;
 use guppy_core::ix::{DependencyDirection, IxSet};
-use std::alloc::AllocError;
+use std::alloc::{AllocError, Global};
 use std::process::Abort;
 
 // From a link number on, it refuses the first link that it is shown. It accepts every other.
@@ -87,12 +87,33 @@ fn reached(
     }
 }
 
+fn search_of(rt: &impl Abort, alloc: Global, search: &Search) {
+    let graph = graph_of(rt, alloc, 4, search.links);
+    let set = reached(rt, &graph, search);
+    assert_of(rt, search.name, found(set, search.included));
+}
+
 #[test]
 fn searches(rt: HostRuntime) {
     for search in SEARCHES {
-        let graph = graph_of(&rt, rt.alloc(), 4, search.links);
-        let set = reached(&rt, &graph, search);
-        assert!(rt; found(set, search.included), "{}", search.name);
+        search_of(&rt, rt.alloc(), search);
+    }
+}
+
+// Whether the second link is shown, and refused.
+fn refuses_second(graph: &Graph<DevLinks>, start: &IxSet<DevLinks>) -> bool
+    requires { length start.now ≡ length graph.now.nodes }
+{
+    let visitor = RefusesOnce {
+        from: 1,
+        has_refused: false,
+    };
+    match reachable_recorded(graph, start, FORWARD, visitor) {
+        Ok((set, recorder)) => {
+            let shown = [(0, true), (1, false)];
+            has_positions(&set, &[0, 1]) && recorder.entries.as_slice() == shown.as_slice()
+        }
+        Err(_) => false,
     }
 }
 
@@ -100,30 +121,27 @@ fn searches(rt: HostRuntime) {
 fn second_link_refused(rt: HostRuntime) {
     let graph = graph_of(&rt, rt.alloc(), 3, &[(0, 1), (1, 2)]);
     let start = set_of(&rt, &graph, &[0]);
-    let visitor = RefusesOnce {
-        from: 1,
-        has_refused: false,
-    };
-    let found = reachable_recorded(&graph, &start, FORWARD, visitor);
-    let (set, recorder) = found.expect(&rt, "second_link_refused");
-    assert!(rt; has_positions(&set, &[0, 1]));
-    assert!(rt; recorder.entries.as_slice() == [(0, true), (1, false)].as_slice());
+    assert!(rt; refuses_second(&graph, &start));
 }
 
-// Two searches against the links share a visitor, which accepts every second link that it is
-// shown.
-#[test]
-fn counting_visitor_is_lent(rt: HostRuntime) {
-    let graph = graph_of(&rt, rt.alloc(), 4, &CHAIN);
-    let start = set_of(&rt, &graph, &[3]);
+// Two searches share a visitor, which accepts every second link that it is shown.
+fn shares_a_visitor(graph: &Graph<DevLinks>, start: &IxSet<DevLinks>) -> bool
+    requires { length start.now ≡ length graph.now.nodes }
+{
     let mut calls = 0u32;
     let mut is_odd = |_link: usize| {
         calls = calls.wrapping_add(1);
         calls % 2 == 1
     };
-    for name in ["first search", "second search"] {
-        let set = reachable_with_fn(&graph, &start, REVERSE, &mut is_odd);
-        assert!(rt; found(set, &[2, 3]), "{name}");
-    }
-    assert!(rt; calls == 4);
+    let first = reachable_with_fn(graph, start, REVERSE, &mut is_odd);
+    let second = reachable_with_fn(graph, start, REVERSE, &mut is_odd);
+    found(first, &[2, 3]) && found(second, &[2, 3]) && calls == 4
+}
+
+// The searches go against the links.
+#[test]
+fn counting_visitor_is_lent(rt: HostRuntime) {
+    let graph = graph_of(&rt, rt.alloc(), 4, &CHAIN);
+    let start = set_of(&rt, &graph, &[3]);
+    assert!(rt; shares_a_visitor(&graph, &start));
 }

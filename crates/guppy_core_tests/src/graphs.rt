@@ -82,40 +82,46 @@ const MADE: &[Made] = &[
     },
 ];
 
+fn set_made(rt: &impl Abort, alloc: Global, made: &Made) {
+    let set = set_of(rt, alloc, made.positions, made.count as usize);
+    assert_of(rt, made.name, has_members(&set, made.count, made.members));
+}
+
 #[test]
 fn sets_of_positions(rt: HostRuntime) {
     for made in MADE {
-        let set = set_of(&rt, rt.alloc(), made.positions, made.count as usize);
-        assert_of(&rt, made.name, has_members(&set, made.count, made.members));
+        set_made(&rt, rt.alloc(), made);
     }
     let empty = IxSet::empty(rt.alloc(), 130).expect(&rt, "an_empty_set");
-    assert_of(&rt, "an_empty_set", has_members(&empty, 130, &[]));
+    assert!(rt; has_members(&empty, 130, &[]));
 }
 
 // Each operation changes what the one before it left.
+fn combine(rt: &impl Abort, set: &mut IxSet<Letters>, second: &IxSet<Letters>)
+    requires set { length set.old ≡ 200 }
+    requires second { length second.now ≡ 200 }
+    ensures { length set.new ≡ 200 }
+{
+    let first = set.clone().expect(rt, "copy");
+    set.union_with(second);
+    assert_of(rt, "union", has_members(set, 200, &[0, 64, 65, 130, 199]));
+    set.intersect_with(second);
+    assert_of(rt, "intersection", has_members(set, 200, &[64, 65, 199]));
+    set.symmetric_difference_with(&first);
+    let is_right = has_members(set, 200, &[0, 65, 130, 199]);
+    assert_of(rt, "symmetric difference", is_right);
+}
+
 #[test]
 fn operations_over_words(rt: HostRuntime) {
     let mut set = set_of(&rt, rt.alloc(), &[0, 64, 130], 200);
     let second = set_of(&rt, rt.alloc(), &[64, 65, 199], 200);
-    let first = set.clone().expect(&rt, "copy");
-    set.union_with(&second);
-    assert_of(&rt, "union", has_members(&set, 200, &[0, 64, 65, 130, 199]));
-    set.intersect_with(&second);
-    assert_of(&rt, "intersection", has_members(&set, 200, &[64, 65, 199]));
-    set.symmetric_difference_with(&first);
-    assert_of(
-        &rt,
-        "symmetric difference",
-        has_members(&set, 200, &[0, 65, 130, 199]),
-    );
+    combine(&rt, &mut set, &second);
     let rest = set.difference(&second).expect(&rt, "difference");
     assert_of(&rt, "difference", has_members(&rest, 200, &[0, 130]));
     let is_new = set.insert(PackageIx::new(100)) && !set.insert(PackageIx::new(100));
-    assert_of(
-        &rt,
-        "insert",
-        is_new && has_members(&set, 200, &[0, 65, 100, 130, 199]),
-    );
+    let is_inserted = has_members(&set, 200, &[0, 65, 100, 130, 199]);
+    assert_of(&rt, "insert", is_new && is_inserted);
 }
 
 #[test]
@@ -198,6 +204,15 @@ fn small_graph_holds(graph: &Graph<Letters>) -> bool {
         && *graph.node(PackageIx::new(2)) == 300
         && graph.nodes() == [100, 200, 300].as_slice()
         && *graph.link(2).edge == 'c'
+        && has_links(
+            graph,
+            &[
+                (0, FORWARD, &[0, 2]),
+                (2, FORWARD, &[3]),
+                (2, REVERSE, &[1, 2, 3]),
+            ],
+        )
+        && finds(graph, &[(0, 2, Some(2)), (2, 2, Some(3)), (2, 0, None)])
 }
 
 #[test]
@@ -205,13 +220,6 @@ fn a_small_graph(rt: HostRuntime) {
     let links = [(0, 1, 'a'), (1, 2, 'b'), (0, 2, 'c'), (2, 2, 'd')];
     let graph = graph_of(&rt, rt.alloc(), &[100, 200, 300], &links).expect(&rt, "a_small_graph");
     assert!(rt; small_graph_holds(&graph));
-    let links: [(usize, DependencyDirection, &[usize]); 3] = [
-        (0, FORWARD, &[0, 2]),
-        (2, FORWARD, &[3]),
-        (2, REVERSE, &[1, 2, 3]),
-    ];
-    assert!(rt; has_links(&graph, &links));
-    assert!(rt; finds(&graph, &[(0, 2, Some(2)), (2, 2, Some(3)), (2, 0, None)]));
 }
 
 #[test]
@@ -248,21 +256,27 @@ fn has_two_each(graph: &Graph<Letters>) -> bool {
     graph.node_count() == 1000
 }
 
+fn thousand_by_sevens_holds(graph: &Graph<Letters>) -> bool {
+    has_two_each(graph)
+        && has_links(graph, &[(0, FORWARD, &[0, 1]), (0, REVERSE, &[1091, 1142])])
+        && finds(graph, &[(571, 0, Some(1142)), (0, 0, None)])
+}
+
 // From each i, links to 7 i + 3 and to 11 i + 5, in a ring of a thousand.
+fn sevens(rt: &impl Abort, alloc: Global) -> Vec<(usize, usize, char)> {
+    let mut links = Vec::new(alloc);
+    for i in 0..1000 {
+        links.push((i, (7 * i + 3) % 1000, 'a')).expect(rt, "links");
+        links
+            .push((i, (11 * i + 5) % 1000, 'b'))
+            .expect(rt, "links");
+    }
+    links
+}
+
 #[test]
 fn thousand_by_sevens(rt: HostRuntime) {
-    let mut links = Vec::new(rt.alloc());
-    for i in 0..1000 {
-        let ends = [(i, (7 * i + 3) % 1000, 'a'), (i, (11 * i + 5) % 1000, 'b')];
-        links.extend_from_slice(&ends).expect(&rt, "links");
-    }
+    let links = sevens(&rt, rt.alloc());
     let graph = graph_of(&rt, rt.alloc(), &[0; 1000], links.as_slice());
-    let graph = graph.expect(&rt, "thousand_by_sevens");
-    assert!(rt; has_two_each(&graph));
-    let links: [(usize, DependencyDirection, &[usize]); 2] = [
-        (0, FORWARD, &[0, 1]),
-        (0, REVERSE, &[1091, 1142]),
-    ];
-    assert!(rt; has_links(&graph, &links));
-    assert!(rt; finds(&graph, &[(571, 0, Some(1142)), (0, 0, None)]));
+    assert!(rt; thousand_by_sevens_holds(&graph.expect(&rt, "thousand_by_sevens")));
 }

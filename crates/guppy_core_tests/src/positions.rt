@@ -55,7 +55,7 @@ pub(crate) fn has_positions<G: GraphSpec>(set: &IxSet<G>, wanted: &[usize]) -> b
             _ => return false,
         }
     }
-    set.len() == wanted.len()
+    ones.next().is_none() && set.len() == wanted.len()
 }
 
 /// Whether a search found these positions, and memory.
@@ -74,4 +74,12 @@ pub(crate) fn are_positions(ixs: &[PackageIx], wanted: &[usize]) -> bool {
         }
     }
     ixs.len() == wanted.len()
+}
+
+/// Whether the indexes that were found are those of these positions.
+pub(crate) fn are_found(ixs: Result<Vec<PackageIx>, AllocError>, wanted: &[usize]) -> bool {
+    match ixs {
+        Ok(ixs) => are_positions(ixs.as_slice(), wanted),
+        Err(_) => false,
+    }
 }

@@ -6,7 +6,7 @@ use crate::scc::{DevLinks, graph_of};
 use guppy_core::graph_core::Graph;
 use guppy_core::ix::{DependencyDirection, IndexType, PackageIx};
 use guppy_core::resolve_core::ResolveCore;
-use std::alloc::AllocError;
+use std::alloc::{AllocError, Global};
 use std::process::Abort;
 
 const FORWARD: DependencyDirection = DependencyDirection::Forward;
@@ -120,14 +120,26 @@ fn includes(graph: &Graph<DevLinks>, set: &ResolveCore<DevLinks>, wanted: &[usiz
         && has_positions(set.included(), wanted)
 }
 
+fn has_copy(graph: &Graph<DevLinks>, set: &ResolveCore<DevLinks>, wanted: &[usize]) -> bool
+    requires { length set.now ≡ length graph.now.nodes }
+{
+    match set.clone() {
+        Ok(copy) => includes(graph, &copy, wanted),
+        Err(_) => false,
+    }
+}
+
+fn set_made(rt: &impl Abort, alloc: Global, made: &Made) {
+    let graph = graph_of(rt, alloc, made.node_count, made.links);
+    let set = made_by(rt, &graph, made.maker);
+    assert_of(rt, made.name, includes(&graph, &set, made.included));
+    assert_of(rt, made.name, has_copy(&graph, &set, made.included));
+}
+
 #[test]
 fn sets(rt: HostRuntime) {
     for made in MADE {
-        let graph = graph_of(&rt, rt.alloc(), made.node_count, made.links);
-        let set = made_by(&rt, &graph, made.maker);
-        assert_of(&rt, made.name, includes(&graph, &set, made.included));
-        let copy = set.clone().expect(&rt, made.name);
-        assert_of(&rt, made.name, includes(&graph, &copy, made.included));
+        set_made(&rt, rt.alloc(), made);
     }
 }
 
@@ -151,33 +163,51 @@ const SET_OPERATIONS: &[(&str, Operation, &[usize])] = &[
 ];
 
 fn combined(
-    rt: &impl Abort,
     first: &ResolveCore<DevLinks>,
     second: &ResolveCore<DevLinks>,
     operation: Operation,
-) -> ResolveCore<DevLinks>
+) -> Result<ResolveCore<DevLinks>, AllocError>
     requires { length first.now ≡ length second.now }
-    ensures { length result ≡ length first.now }
+    ensures { IfOk result (λ set. length set ≡ length first.now) }
 {
     if let Operation::Difference = operation {
-        return first.difference(second).expect(rt, "a set");
+        return first.difference(second);
     }
-    let mut set = first.clone().expect(rt, "a set");
+    let mut set = first.clone()?;
     match operation {
         Operation::Union => set.union_with(second),
         Operation::Intersection => set.intersect_with(second),
         _ => set.symmetric_difference_with(second),
     }
-    set
+    Ok(set)
+}
+
+fn operation_holds(
+    rt: &impl Abort,
+    graph: &Graph<DevLinks>,
+    first: &ResolveCore<DevLinks>,
+    second: &ResolveCore<DevLinks>,
+    case: &(&str, Operation, &[usize]),
+)
+    requires sets { length first.now ≡ length second.now }
+    requires graph { length first.now ≡ length graph.now.nodes }
+{
+    let (name, operation, wanted) = case;
+    let set = combined(first, second, *operation).expect(rt, name);
+    assert_of(rt, name, includes(graph, &set, wanted));
+}
+
+// What the operations make of the sets of the first two and of the last two positions.
+fn operations_hold(rt: &impl Abort, graph: &Graph<DevLinks>) {
+    let first = made_by(rt, graph, Maker::Ixs(&[0, 1]));
+    let second = made_by(rt, graph, Maker::Ixs(&[1, 2]));
+    for case in SET_OPERATIONS {
+        operation_holds(rt, graph, &first, &second, case);
+    }
 }
 
 #[test]
 fn set_operations(rt: HostRuntime) {
     let graph = graph_of(&rt, rt.alloc(), 3, &[(0, 1)]);
-    let first = made_by(&rt, &graph, Maker::Ixs(&[0, 1]));
-    let second = made_by(&rt, &graph, Maker::Ixs(&[1, 2]));
-    for (name, operation, wanted) in SET_OPERATIONS {
-        let set = combined(&rt, &first, &second, *operation);
-        assert_of(&rt, name, includes(&graph, &set, wanted));
-    }
+    operations_hold(&rt, &graph);
 }

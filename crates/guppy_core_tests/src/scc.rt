@@ -2,7 +2,8 @@
 ghost use Rattle.std.specs.Prelude.{◌≡◌, length, IfOk};
 ghost use Rattle.std.specs.List.{concat};
 
-use crate::positions::{are_positions, set_of};
+use crate::positions::{are_found, are_positions, assert_of, set_of};
+use crate::walk::links_inside;
 use guppy_core::graph_core::{CountedGraph, Graph, Link};
 use guppy_core::ix::{DependencyDirection, GraphSpec, IndexType, PackageIx};
 use guppy_core::resolve_core::ResolveCore;
@@ -115,19 +116,37 @@ const INDEXED: &[Indexed] = &[
     },
 ];
 
+// Whether all nodes, sorted, are those of the positions.
+fn sorts(
+    rt: &impl Abort,
+    graph: &Graph<DevLinks>,
+    topo: &TopoWithCycles<PackageIx>,
+    by_index: &[usize],
+) -> bool
+    requires { length topo.now ≡ length graph.now.nodes }
+{
+    let set = set_of(rt, graph, &[0, 1, 2]);
+    let mut ixs = set
+        .ones()
+        .collect::<Vec<_>>(graph.alloc())
+        .expect(rt, "nodes");
+    topo.sort_nodes(ixs.as_mut_slice());
+    are_positions(ixs.as_slice(), by_index)
+}
+
+fn indexes_of(rt: &impl Abort, alloc: Global, indexed: &Indexed) {
+    let graph = graph_of(rt, alloc, indexed.node_count, indexed.links);
+    let ordered = make_ordered(&graph).expect(rt, indexed.name);
+    assert_of(rt, indexed.name, ordered.looks <= 8);
+    let holds = has_indexes(&graph, &ordered.topo, indexed.by_index)
+        && sorts(rt, &graph, &ordered.topo, indexed.by_index);
+    assert_of(rt, indexed.name, holds);
+}
+
 #[test]
 fn indexes(rt: HostRuntime) {
     for indexed in INDEXED {
-        let graph = graph_of(&rt, rt.alloc(), indexed.node_count, indexed.links);
-        let ordered = make_ordered(&graph).expect(&rt, indexed.name);
-        let name = indexed.name;
-        assert!(rt; ordered.looks <= 8, "{name}");
-        let is_indexed = has_indexes(&graph, &ordered.topo, indexed.by_index);
-        assert!(rt; is_indexed, "{name}");
-        let set = set_of(&rt, &graph, &[0, 1, 2]);
-        let mut ixs = set.ones().collect::<Vec<_>>(rt.alloc()).expect(&rt, name);
-        ordered.topo.sort_nodes(ixs.as_mut_slice());
-        assert!(rt; are_positions(ixs.as_slice(), indexed.by_index), "{name}");
+        indexes_of(&rt, rt.alloc(), indexed);
     }
 }
 
@@ -170,97 +189,114 @@ const ROOTED: &[Rooted] = &[
     },
 ];
 
-fn rooted_holds(rt: &impl Abort, graph: &Graph<DevLinks>, sccs: &Sccs<PackageIx>, rooted: &Rooted)
+// Whether the roots are these, by each call that tells.
+fn has_roots(
+    rt: &impl Abort,
+    graph: &Graph<DevLinks>,
+    sccs: &Sccs<PackageIx>,
+    rooted: &Rooted,
+) -> bool
     requires { length (concat sccs.now) ≡ length graph.now.nodes }
 {
-    let (name, direction) = (rooted.name, rooted.direction);
     let set = ResolveCore::from_included(set_of(rt, graph, &[0, 1, 2]));
-    let found = sccs.externals(graph, set.included(), direction);
-    let found = found.expect(rt, name);
-    assert!(rt; are_positions(found.as_slice(), rooted.roots), "{name}");
-    let found = set.roots(graph, sccs, direction).expect(rt, name);
-    assert!(rt; are_positions(found.as_slice(), rooted.roots), "{name}");
+    let externals = sccs.externals(graph, set.included(), rooted.direction);
+    let roots = set.roots(graph, sccs, rooted.direction);
+    are_found(externals, rooted.roots) && are_found(roots, rooted.roots)
+}
+
+fn roots_of(rt: &impl Abort, alloc: Global, rooted: &Rooted) {
+    let graph = graph_of(rt, alloc, 3, rooted.links);
+    let ordered = make_ordered(&graph).expect(rt, rooted.name);
+    assert_of(
+        rt,
+        rooted.name,
+        has_roots(rt, &graph, &ordered.sccs, rooted),
+    );
 }
 
 #[test]
 fn roots(rt: HostRuntime) {
     for rooted in ROOTED {
-        let graph = graph_of(&rt, rt.alloc(), 3, rooted.links);
-        let ordered = make_ordered(&graph).expect(&rt, rooted.name);
-        rooted_holds(&rt, &graph, &ordered.sccs, rooted);
+        roots_of(&rt, rt.alloc(), rooted);
     }
 }
 
-fn components_hold(rt: &impl Abort, sccs: &Sccs<PackageIx>)
+// Whether two of the three components are the last one's node and the ring before it.
+fn ends_with_a_ring(sccs: &Sccs<PackageIx>) -> bool {
+    let mut components = sccs.all_sccs();
+    let count = components.len();
+    match (components.next_back(), components.next_back()) {
+        (Some(last), Some(ring)) => {
+            count == 3 && last.len() == 1 && ring.len() == 2 && components.len() == 1
+        }
+        _ => false,
+    }
+}
+
+fn components_hold(sccs: &Sccs<PackageIx>) -> bool
     requires { length (concat sccs.now) ≡ 4 }
 {
     let (first, second, last) = (PackageIx::new(1), PackageIx::new(2), PackageIx::new(3));
-    assert!(rt; sccs.is_same_scc(first, second));
-    assert!(rt; !sccs.is_same_scc(first, last));
-    assert!(rt; sccs.in_multi_scc(second));
-    assert!(rt; !sccs.in_multi_scc(last));
-    let mut components = sccs.all_sccs();
-    assert!(rt; components.len() == 3);
-    for length in [1, 2] {
-        let component = components.next_back();
-        assert!(rt; component.expect(rt, "a component").len() == length);
-    }
-    assert!(rt; components.len() == 1);
     let nodes = sccs.node_iter(DependencyDirection::Reverse);
-    assert!(rt; nodes.direction() == DependencyDirection::Reverse);
+    sccs.is_same_scc(first, second)
+        && !sccs.is_same_scc(first, last)
+        && sccs.in_multi_scc(second)
+        && !sccs.in_multi_scc(last)
+        && nodes.direction() == DependencyDirection::Reverse
+        && ends_with_a_ring(sccs)
 }
 
 #[test]
 fn components_of_a_chain_with_a_ring(rt: HostRuntime) {
     let graph = graph_of(&rt, rt.alloc(), 4, &[(0, 1), (1, 2), (2, 3), (2, 1)]);
     let ordered = make_ordered(&graph).expect(&rt, "components_of_a_chain_with_a_ring");
-    components_hold(&rt, &ordered.sccs);
+    assert!(rt; components_hold(&ordered.sccs));
 }
 
-// The nodes of the ring are one component, in their order.
-fn ring_is_a_component(
-    rt: &impl Abort,
-    graph: &Graph<DevLinks>,
-    ordered: &Ordered,
-    positions: &[usize],
-)
+// Whether there is one component, of so many nodes.
+fn is_one_component(sccs: &Sccs<PackageIx>, length: usize) -> bool {
+    let mut components = sccs.all_sccs();
+    let count = components.len();
+    match components.next() {
+        Some(component) => count == 1 && component.len() == length,
+        None => false,
+    }
+}
+
+// Whether the nodes of the ring are one component, in their order.
+fn is_ring(graph: &Graph<DevLinks>, ordered: &Ordered, positions: &[usize]) -> bool
     requires { length ordered.now.topo ≡ length graph.now.nodes }
 {
-    assert!(rt; has_indexes(graph, &ordered.topo, positions));
     let nodes = ordered.sccs.node_iter(DependencyDirection::Forward);
-    let nodes = nodes.collect::<Vec<_>>(graph.alloc()).expect(rt, "nodes");
-    assert!(rt; are_positions(nodes.as_slice(), positions));
-    let mut components = ordered.sccs.all_sccs();
-    assert!(rt; components.len() == 1);
-    assert!(rt; components.next().expect(rt, "a component").len() == 1000);
+    has_indexes(graph, &ordered.topo, positions)
+        && are_found(nodes.collect(graph.alloc()), positions)
+        && is_one_component(&ordered.sccs, positions.len())
 }
 
-// How many links a walk over these nodes follows.
-fn walked(
-    rt: &impl Abort,
-    graph: &Graph<DevLinks>,
-    sccs: &Sccs<PackageIx>,
-    positions: &[usize],
-) -> usize
-    requires { length (concat sccs.now) ≡ length graph.now.nodes }
-{
-    let core = ResolveCore::from_included(set_of(rt, graph, positions));
-    let links = core.links(graph, sccs, DependencyDirection::Forward);
-    links.expect(rt, "links").count()
+fn ring_holds(rt: &impl Abort, graph: &Graph<DevLinks>, positions: &[usize]) {
+    let ordered = make_ordered(graph).expect(rt, "ring_1000");
+    assert!(rt; is_ring(graph, &ordered, positions));
+    let forward = DependencyDirection::Forward;
+    let all = links_inside(rt, graph, &ordered.sccs, positions, forward);
+    assert!(rt; all.len() == 1000);
+    let none = links_inside(rt, graph, &ordered.sccs, &[0, 2], forward);
+    assert!(rt; none.is_empty());
+}
+
+// The ends of the links of a ring, and its positions.
+fn ring_of(rt: &impl Abort, alloc: Global, count: usize) -> (Vec<(usize, usize)>, Vec<usize>) {
+    let mut ends = Vec::new(alloc);
+    let mut positions = Vec::new(alloc);
+    for from in 0..count {
+        ends.push((from, (from + 1) % count)).expect(rt, "links");
+        positions.push(from).expect(rt, "positions");
+    }
+    (ends, positions)
 }
 
 #[test]
 fn ring_1000(rt: HostRuntime) {
-    let name = "ring_1000";
-    let mut positions = Vec::new(rt.alloc());
-    let mut ends = Vec::new(rt.alloc());
-    for from in 0..1000 {
-        positions.push(from).expect(&rt, name);
-        ends.push((from, (from + 1) % 1000)).expect(&rt, name);
-    }
+    let (ends, positions) = ring_of(&rt, rt.alloc(), 1000);
     let graph = graph_of(&rt, rt.alloc(), 1000, ends.as_slice());
-    let ordered = make_ordered(&graph).expect(&rt, name);
-    ring_is_a_component(&rt, &graph, &ordered, positions.as_slice());
-    assert!(rt; walked(&rt, &graph, &ordered.sccs, positions.as_slice()) == 1000);
-    assert!(rt; walked(&rt, &graph, &ordered.sccs, &[0, 2]) == 0);
+    ring_holds(&rt, &graph, positions.as_slice());
 }

@@ -1,11 +1,15 @@
 //! Walks over the links of small sets.
+ghost use Rattle.std.specs.Prelude.{◌≡◌, length};
+ghost use Rattle.std.specs.List.{concat};
 
-use crate::positions::set_of;
+use crate::positions::{assert_of, set_of};
 use crate::scc::{DevLinks, graph_of, make_ordered};
 use guppy_core::graph_core::Graph;
-use guppy_core::ix::{DependencyDirection, IndexType};
+use guppy_core::ix::{DependencyDirection, IndexType, PackageIx};
 use guppy_core::resolve_core::ResolveCore;
+use guppy_core::scc::Sccs;
 use guppy_core::walk::EdgeDfs;
+use std::alloc::Global;
 use std::process::Abort;
 
 const FORWARD: DependencyDirection = DependencyDirection::Forward;
@@ -59,33 +63,65 @@ const WALKS: &[Walk] = &[
     },
 ];
 
-fn links_on(rt: &impl Abort, graph: &Graph<DevLinks>, walk: &Walk) -> Vec<(usize, usize, usize)> {
+type Links = Vec<(PackageIx, PackageIx, usize)>;
+
+/// The links inside the set of these positions, from its roots.
+pub(crate) fn links_inside(
+    rt: &impl Abort,
+    graph: &Graph<DevLinks>,
+    sccs: &Sccs<PackageIx>,
+    positions: &[usize],
+    direction: DependencyDirection,
+) -> Links
+    requires { length (concat sccs.now) ≡ length graph.now.nodes }
+{
+    let set = ResolveCore::from_included(set_of(rt, graph, positions));
+    let links = set.links(graph, sccs, direction).expect(rt, "links");
+    links.collect(graph.alloc()).expect(rt, "links")
+}
+
+fn links_from_roots(
+    rt: &impl Abort,
+    graph: &Graph<DevLinks>,
+    direction: DependencyDirection,
+) -> Links {
+    let ordered = make_ordered(graph).expect(rt, "components");
+    links_inside(rt, graph, &ordered.sccs, &[0, 1, 2], direction)
+}
+
+fn links_from(
+    rt: &impl Abort,
+    graph: &Graph<DevLinks>,
+    starts: &[usize],
+    direction: DependencyDirection,
+) -> Links {
     let set = set_of(rt, graph, &[0, 1, 2]);
-    let mut found = Vec::new(graph.alloc());
-    if let Some(starts) = walk.starts {
-        let starts = set_of(rt, graph, starts);
-        let links = EdgeDfs::new(graph, &set, walk.direction, &starts);
-        for (from, to, number) in links.expect(rt, walk.name) {
-            let link = (from.index(), to.index(), number);
-            found.push(link).expect(rt, walk.name);
-        }
-    } else {
-        let ordered = make_ordered(graph).expect(rt, walk.name);
-        let set = ResolveCore::from_included(set);
-        let links = set.links(graph, &ordered.sccs, walk.direction);
-        for (from, to, number) in links.expect(rt, walk.name) {
-            let link = (from.index(), to.index(), number);
-            found.push(link).expect(rt, walk.name);
+    let starts = set_of(rt, graph, starts);
+    let links = EdgeDfs::new(graph, &set, direction, &starts).expect(rt, "links");
+    links.collect(graph.alloc()).expect(rt, "links")
+}
+
+fn are_links(found: &[(PackageIx, PackageIx, usize)], wanted: &[(usize, usize, usize)]) -> bool {
+    for (place, (from, to, number)) in found.iter().enumerate() {
+        if wanted.get(place) != Some(&(from.index(), to.index(), *number)) {
+            return false;
         }
     }
-    found
+    found.len() == wanted.len()
+}
+
+fn walk_on(rt: &impl Abort, alloc: Global, walk: &Walk) {
+    let graph = graph_of(rt, alloc, walk.node_count, walk.ends);
+    let links = match walk.starts {
+        Some(starts) => links_from(rt, &graph, starts, walk.direction),
+        None => links_from_roots(rt, &graph, walk.direction),
+    };
+    assert_of(rt, walk.name, are_links(links.as_slice(), walk.links));
 }
 
 #[test]
 fn walks(rt: HostRuntime) {
     for walk in WALKS {
-        let graph = graph_of(&rt, rt.alloc(), walk.node_count, walk.ends);
-        let links = links_on(&rt, &graph, walk);
-        assert!(rt; links.as_slice() == walk.links, "{}", walk.name);
+        walk_on(&rt, rt.alloc(), walk);
     }
 }
