@@ -103,41 +103,27 @@ pub(super) fn members_of(rt: &impl Abort, case: Case<'_>, set: &PackageSet<'_>) 
     members
 }
 
-/// Judges a resolve that showed these links, each with the answer, and included this set.
-pub(super) fn judge(
-    rt: &impl Abort,
-    case: Case<'_>,
-    shown: &[(usize, bool)],
-    set: &PackageSet<'_>,
-) {
+// Judges a resolve that showed these links, each with the answer, and included this set.
+fn judge(rt: &impl Abort, case: Case<'_>, shown: &[(usize, bool)], set: &PackageSet<'_>) {
     let members = members_of(rt, case, set);
     let broken = case.given.broken_rule(shown, members.as_slice());
     assert!(rt; broken.is_none(), "{broken:?}");
 }
 
-/// What the query includes with the visitor.
-pub(super) fn resolved<'a, V: PackageLinkVisitor + Drop>(
-    rt: &impl Abort,
-    query: PackageQuery<'a>,
-    visitor: V,
-) -> PackageSet<'a>
-    requires { (n : ℕ) → n < length query.graph.links → MayVisitAt V.can_visit query visitor n }
-{
-    query.resolve_with(visitor).expect(rt, "a resolve")
-}
-
-fn judge_resolve<V: PackageLinkVisitor + Drop>(
+/// Judges a resolve with the visitor, and tells how many links it was shown.
+pub(super) fn judge_resolve<V: PackageLinkVisitor + Drop>(
     rt: &impl Abort,
     case: Case<'_>,
     query: PackageQuery<'_>,
     visitor: V,
-)
+) -> usize
     requires { (n : ℕ) → n < length query.graph.links → MayVisitAt V.can_visit query visitor n }
 {
     let links = case.given.links.len();
     let mut recorder = Recorder::new(case.graph.alloc(), visitor, links).expect(rt, "a recorder");
-    let set = resolved(rt, query, &mut recorder);
+    let set = query.resolve_with(&mut recorder).expect(rt, "a resolve");
     judge(rt, case, recorder.entries.as_slice(), &set);
+    recorder.entries.len()
 }
 
 fn judge_starts(rt: &impl Abort, case: Case<'_>) {

@@ -18,8 +18,8 @@ fn put_walks(graph: &PackageGraph, out: &mut Answer) {
     out.put_number(graph.workspace().member_count());
 }
 
-// All IDs and names in the order of texts, and how many are left of each after one was taken.
-fn put_each(graph: &PackageGraph, out: &mut Answer) {
+// All IDs and names.
+fn texts_of<'g>(graph: &'g PackageGraph, out: &mut Answer) -> Vec<&'g str> {
     let mut texts = Vec::new(graph.alloc());
     for id in graph.package_ids() {
         out.note(texts.push(id.repr()).is_err());
@@ -27,6 +27,12 @@ fn put_each(graph: &PackageGraph, out: &mut Answer) {
     for package in graph.packages() {
         out.note(texts.push(package.name()).is_err());
     }
+    texts
+}
+
+// All IDs and names in the order of texts, and how many are left of each after one was taken.
+fn put_each(graph: &PackageGraph, out: &mut Answer) {
+    let mut texts = texts_of(graph, out);
     texts.sort_unstable();
     for text in &texts {
         out.put(text);
@@ -105,12 +111,32 @@ fn put_witness(graph: &PackageGraph, listed: &[PackageId], out: &mut Answer) -> 
     Ok(())
 }
 
-fn tell_graph(graph: &PackageGraph, words: &[&str], out: &mut Answer) {
+// Whether the question is one that has no error, and then its answer.
+fn tells_graph(graph: &PackageGraph, words: &[&str], out: &mut Answer) -> bool {
     match words {
         ["counts"] => put_counts(graph, out),
         ["each"] => put_each(graph, out),
         ["cycles"] => put_cycles(graph, false, out),
-        _ => put_cycles(graph, true, out),
+        ["cycles", "from-back"] => put_cycles(graph, true, out),
+        _ => return false,
+    }
+    true
+}
+
+// Answers a question about the whole graph, or else about a set.
+fn ask_whole(
+    graph: &PackageGraph,
+    words: &[&str],
+    ids: &[PackageId],
+    out: &mut Answer,
+) -> Result<(), Error> {
+    match words {
+        ["verify"] => put_verified(graph, out),
+        ["cycle"] => put_refused(graph, out),
+        ["publish"] => put_publish_order(graph, out),
+        ["affected", paths @ ..] => put_affected(graph, paths, &[], out),
+        ["affected-but", ignored, paths @ ..] => put_affected(graph, paths, &[*ignored], out),
+        _ => ask_set(graph, words, ids, out),
     }
 }
 
@@ -121,24 +147,16 @@ pub(super) fn ask_graph(
     ids: &[PackageId],
     out: &mut Answer,
 ) -> Result<(), Error> {
+    if tells_graph(graph, words, out) {
+        return Ok(());
+    }
     match (words, ids) {
-        (["counts"] | ["each"] | ["cycles"] | ["cycles", "from-back"], _) => {
-            tell_graph(graph, words, out);
-            Ok(())
-        }
         ([relation @ ("depends" | "direct" | "cyclic"), ..], [_, from, to]) => {
             put_relation(graph, relation, from, to, out)
         }
         (["cache", ..], [_, asked @ ..]) => ask_cache(graph, asked, out),
-        (["verify"], _) => put_verified(graph, out),
-        (["cycle"], _) => put_refused(graph, out),
         (["witness", ..], [_, listed @ ..]) => put_witness(graph, listed, out),
-        (["publish"], _) => put_publish_order(graph, out),
-        (["affected", paths @ ..], _) => put_affected(graph, paths, &[], out),
-        (["affected-but", ignored, paths @ ..], _) => {
-            put_affected(graph, paths, &[*ignored], out)
-        }
-        _ => ask_set(graph, words, ids, out),
+        _ => ask_whole(graph, words, ids, out),
     }
 }
 

@@ -4,6 +4,7 @@
 //! of positions a list of truth values. Each rule of a resolve and of a buffered search is looked for in the
 //! trace by itself, and the first that is broken is told.
 use guppy::graph::DependencyDirection;
+use std::process::Abort;
 
 /// No position.
 pub(super) const NOWHERE: usize = usize::MAX;
@@ -343,16 +344,22 @@ const BUFFERED: &[Trial<Event>] = &[
     },
 ];
 
+fn assert_broken<T>(rt: &impl Abort, trial: &Trial<T>, broken: Option<&'static str>) {
+    assert!(rt; broken == trial.broken, "{}: {broken:?}", trial.name);
+}
+
 #[test]
 fn judges_are_tried(rt: HostRuntime) {
     let starts = &[true, false, false, false];
     let given = Given::new(&LINKS, DependencyDirection::Forward, starts);
     for trial in RESOLVES {
-        let broken = given.broken_rule(trial.trace, &trial.set);
-        assert!(rt; broken == trial.broken, "{}: {broken:?}", trial.name);
+        assert_broken(&rt, trial, given.broken_rule(trial.trace, &trial.set));
     }
     for trial in BUFFERED {
-        let broken = given.broken_buffered_rule(trial.trace, &trial.set);
-        assert!(rt; broken == trial.broken, "{}: {broken:?}", trial.name);
+        assert_broken(
+            &rt,
+            trial,
+            given.broken_buffered_rule(trial.trace, &trial.set),
+        );
     }
 }

@@ -2,7 +2,17 @@
 ghost use Rattle.std.specs.Iterator.{IsFinite};
 
 use crate::examples::Answer;
-use guppy::{Error, PackageGraph, Utf8Path};
+use guppy::{Error, PackageGraph, PackageQuery, PackageSet, Utf8Path};
+
+/// How many packages the set has.
+pub(super) fn len_of(set: Result<PackageSet<'_>, Error>) -> Result<usize, Error> {
+    Ok(set?.len())
+}
+
+/// How many packages the query includes.
+pub(super) fn resolved_len(query: PackageQuery<'_>) -> Result<usize, Error> {
+    len_of(query.resolve())
+}
 
 // How many members the names name, how many the set of them has, or how many a resolve of them.
 fn count_named<'n, I: Iterator<Item = &'n str> + Drop>(
@@ -15,8 +25,8 @@ fn count_named<'n, I: Iterator<Item = &'n str> + Drop>(
 {
     match question {
         "named" => Ok(graph.workspace().members_by_names(names)?.len()),
-        "set-named" => Ok(graph.resolve_workspace_names(names)?.len()),
-        _ => Ok(graph.query_workspace_names(names)?.resolve()?.len()),
+        "set-named" => len_of(graph.resolve_workspace_names(names)),
+        _ => resolved_len(graph.query_workspace_names(names)?),
     }
 }
 
@@ -31,8 +41,8 @@ fn count_at_paths<'p, I: Iterator<Item = Utf8Path<'p>> + Drop>(
 {
     match question {
         "named" => Ok(graph.workspace().members_by_paths(paths)?.len()),
-        "set-named" => Ok(graph.resolve_workspace_paths(paths)?.len()),
-        _ => Ok(graph.query_workspace_paths(paths)?.resolve()?.len()),
+        "set-named" => len_of(graph.resolve_workspace_paths(paths)),
+        _ => resolved_len(graph.query_workspace_paths(paths)?),
     }
 }
 
@@ -50,9 +60,11 @@ pub(super) fn put_named(
 
 pub(super) fn put_at_paths(
     graph: &PackageGraph,
-    paths: [Utf8Path<'_>; 2],
+    paths: [&str; 2],
     out: &mut Answer,
 ) -> Result<(), Error> {
+    let [a, b] = paths;
+    let paths = [Utf8Path::new(a), Utf8Path::new(b)];
     for question in COUNTS {
         out.put_number(count_at_paths(graph, question, paths.into_iter())?);
     }

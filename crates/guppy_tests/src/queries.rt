@@ -143,6 +143,47 @@ fn ask_odd_closure(
     Ok(())
 }
 
+// How many calls the visitor accepts, if it accepts its first ones.
+fn first_accepted(visitor: &str) -> Option<usize> {
+    match visitor {
+        "none" => Some(0),
+        "first" => Some(1),
+        "all" => Some(usize::MAX),
+        _ => None,
+    }
+}
+
+// Answers what a resolve gives that accepts its odd calls, by the way in which it counts them.
+fn ask_odd(
+    graph: &PackageGraph,
+    query: PackageQuery<'_>,
+    visitor: &str,
+    out: &mut Answer,
+) -> Result<(), Error> {
+    match visitor {
+        "odd-lent" => ask_odd_lent(graph, query, out),
+        "odd-moved" => ask_odd_moved(graph, query, out),
+        "odd-behind-dyn" => ask_odd_behind_dyn(graph, query, out),
+        "odd-closure" => ask_odd_closure(graph, query, out),
+        "odd-calls" => {
+            out.put_number(odd_calls(query)?);
+            Ok(())
+        }
+        _ => {
+            out.put("unknown visitor");
+            Ok(())
+        }
+    }
+}
+
+fn ask_even_links(
+    graph: &PackageGraph,
+    query: PackageQuery<'_>,
+    out: &mut Answer,
+) -> Result<(), Error> {
+    put_letters(graph, &over_even_links(query)?, out)
+}
+
 /// Answers what a resolve with a visitor gives.
 pub(super) fn ask_query(
     graph: &PackageGraph,
@@ -154,26 +195,14 @@ pub(super) fn ask_query(
         out.put("unknown question");
         return Ok(());
     };
+    let accepted = first_accepted(visitor);
     let query = graph.query_directed(starts.iter(), direction_of(direction))?;
-    match *visitor {
-        "none" => ask_first(graph, query, 0, out),
-        "first" => ask_first(graph, query, 1, out),
-        "all" => ask_first(graph, query, usize::MAX, out),
-        "refuses-once" => ask_refuses_once(graph, query, out),
-        "odd-lent" => ask_odd_lent(graph, query, out),
-        "odd-moved" => ask_odd_moved(graph, query, out),
-        "odd-behind-dyn" => ask_odd_behind_dyn(graph, query, out),
-        "odd-calls" => {
-            out.put_number(odd_calls(query)?);
-            Ok(())
-        }
-        "odd-closure" => ask_odd_closure(graph, query, out),
-        "even-links" => put_letters(graph, &over_even_links(query)?, out),
-        "from-initials" => ask_visitor(graph, query, FromInitials, out),
-        _ => {
-            out.put("unknown visitor");
-            Ok(())
-        }
+    match (accepted, *visitor) {
+        (Some(accepted), _) => ask_first(graph, query, accepted, out),
+        (_, "refuses-once") => ask_refuses_once(graph, query, out),
+        (_, "even-links") => ask_even_links(graph, query, out),
+        (_, "from-initials") => ask_visitor(graph, query, FromInitials, out),
+        (_, visitor) => ask_odd(graph, query, visitor, out),
     }
 }
 

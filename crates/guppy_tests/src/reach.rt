@@ -85,29 +85,41 @@ impl<'a> Reach<'a> {
         }
     }
 
+    // The first rule that is broken by a position behind those before it in the list.
+    fn broken_behind(&self, earlier: &[usize], later: usize) -> Option<&'static str> {
+        let mut is_other_between = false;
+        for earlier in earlier.iter().rev() {
+            let is_mutual = is_mutual(self.all, *earlier, later);
+            if *earlier == later {
+                return Some("not each once");
+            }
+            if is_mutual && is_other_between {
+                return Some("a component is torn");
+            }
+            if is_mutual && self.precedes(later, *earlier) {
+                return Some("not by the index");
+            }
+            if !is_mutual && leads(self.all, later, *earlier) {
+                return Some("a dependency first");
+            }
+            if !has_cycle(self.kept) && self.links.contains(&(later, *earlier, false)) {
+                return Some("a dependency first that is not for development");
+            }
+            is_other_between = is_other_between || !is_mutual;
+        }
+        None
+    }
+
     /// The first rule that is broken by a list of all positions, so many, dependents first; none where it
     /// is right.
     pub(super) fn broken_list_rule(&self, count: usize, list: &[usize]) -> Option<&'static str> {
         for (place, later) in list.iter().enumerate() {
-            let mut is_other_between = false;
-            for earlier in list[..place].iter().rev() {
-                let is_mutual = is_mutual(self.all, *earlier, *later);
-                if earlier == later || *later >= count {
-                    return Some("not each once");
-                }
-                if is_mutual && is_other_between {
-                    return Some("a component is torn");
-                }
-                if is_mutual && self.precedes(*later, *earlier) {
-                    return Some("not by the index");
-                }
-                if !is_mutual && leads(self.all, *later, *earlier) {
-                    return Some("a dependency first");
-                }
-                if !has_cycle(self.kept) && self.links.contains(&(*later, *earlier, false)) {
-                    return Some("a dependency first that is not for development");
-                }
-                is_other_between = is_other_between || !is_mutual;
+            if *later >= count {
+                return Some("not each once");
+            }
+            let broken = self.broken_behind(&list[..place], *later);
+            if broken.is_some() {
+                return broken;
             }
         }
         if list.len() != count {

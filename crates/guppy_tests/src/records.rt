@@ -217,6 +217,13 @@ fn ends_of(ends: &str) -> (&str, &str, [bool; 3]) {
     }
 }
 
+fn set_sections(alloc: Global, link: &mut LinkRecord, sections: [bool; 3]) {
+    let [normal, build, dev] = sections;
+    link.normal = section(alloc, normal);
+    link.build = section(alloc, build);
+    link.dev = section(alloc, dev);
+}
+
 fn add_link(
     rt: &impl Abort,
     alloc: Global,
@@ -224,15 +231,13 @@ fn add_link(
     ends: (&str, &str, [bool; 3]),
     version_req: VersionReq,
 ) {
-    let (from, to, [normal, build, dev]) = ends;
+    let (from, to, sections) = ends;
     let from_id = id(rt, alloc, from);
     let to_id = id(rt, alloc, to);
     let dep_name = String::new(alloc);
     let resolved_name = String::new(alloc);
     let mut link = LinkRecord::new(alloc, from_id, to_id, dep_name, resolved_name, version_req);
-    link.normal = section(alloc, normal);
-    link.build = section(alloc, build);
-    link.dev = section(alloc, dev);
+    set_sections(alloc, &mut link, sections);
     links.push(link).expect(rt, from);
 }
 
@@ -240,6 +245,24 @@ fn add_link_word(rt: &impl Abort, alloc: Global, links: &mut Vec<LinkRecord>, wo
     let (ends, requirement) = word.split_once('#').unwrap_or((word, "*"));
     let requirement = VersionReq::parse(alloc, requirement).expect(rt, requirement);
     add_link(rt, alloc, links, ends_of(ends), requirement);
+}
+
+// How many links the shape has between so many positions.
+fn link_count(shape: &str, count: usize) -> usize {
+    match shape {
+        "complete" => count.saturating_mul(count),
+        "ring" => count,
+        _ => count.saturating_sub(1),
+    }
+}
+
+// The ends of the shape's link with this number.
+fn link_of(shape: &str, count: usize, number: usize) -> (usize, usize) {
+    match shape {
+        "complete" => (number / count.max(1), number % count.max(1)),
+        "backwards" => (number.saturating_add(1), number),
+        _ => (number, number.saturating_add(1) % count.max(1)),
+    }
 }
 
 /// The links of this shape between so many positions: from, to, and whether it is dev-only. A chain that is
@@ -251,24 +274,9 @@ pub(super) fn shape_of(
     count: usize,
 ) -> Vec<(usize, usize, bool)> {
     let mut ends = Vec::new(alloc);
-    if shape == "complete" {
-        for from in 0..count {
-            for to in 0..count {
-                ends.push((from, to, false)).expect(rt, shape);
-            }
-        }
-    } else if shape == "backwards" {
-        for from in 1..count {
-            ends.push((from, from - 1, false)).expect(rt, shape);
-        }
-    } else {
-        for to in 1..count {
-            ends.push((to - 1, to, false)).expect(rt, shape);
-        }
-        if shape == "ring" {
-            ends.push((count.saturating_sub(1), 0, false))
-                .expect(rt, shape);
-        }
+    for number in 0..link_count(shape, count) {
+        let (from, to) = link_of(shape, count, number);
+        ends.push((from, to, false)).expect(rt, shape);
     }
     ends
 }

@@ -5,7 +5,9 @@
 //! makes its set or its query. What is asked of it stands before an `of`: its
 //! letters and how many they are, where nothing does. `make` makes a set of the first two packages and the
 //! next two.
+ghost use Rattle.guppy.specs.Ids.{ids_of};
 ghost use Rattle.std.specs.Iterator.{IsFinite};
+ghost use Rattle.std.specs.Prelude.{◌≡◌};
 
 use crate::examples::Answer;
 use guppy::graph::{DependencyDirection, IndexType};
@@ -36,8 +38,19 @@ fn resolved_again<'g>(set: &PackageSet<'g>) -> Result<PackageSet<'g>, Error> {
     copy.resolve()
 }
 
+// All packages, by a copy of a query.
+fn all_again(graph: &PackageGraph) -> Result<PackageSet<'_>, Error> {
+    resolved_again(&graph.resolve_all()?)
+}
+
+// The set of the package alone.
+fn only<'g>(graph: &'g PackageGraph, id: &PackageId) -> Result<PackageSet<'g>, Error> {
+    graph.metadata(id)?.to_package_set()
+}
+
 // What the package leads to, by a query that it makes.
-fn onwards<'g>(package: PackageMetadata<'g>) -> Result<PackageSet<'g>, Error> {
+fn onwards<'g>(graph: &'g PackageGraph, id: &PackageId) -> Result<PackageSet<'g>, Error> {
+    let package = graph.metadata(id)?;
     let query = package.to_package_query(DependencyDirection::Forward)?;
     query.resolve()
 }
@@ -70,10 +83,10 @@ fn set_of<'g>(
     match (words, ids) {
         (["all"], _) => graph.resolve_all(),
         (["none"], _) => graph.resolve_none(),
-        (["query"], _) => resolved_again(&graph.resolve_all()?),
+        (["query"], _) => all_again(graph),
         (["name", name], _) => graph.resolve_package_name(name),
-        (["only", _], [_, id]) => graph.metadata(id)?.to_package_set(),
-        (["onwards", _], [_, id]) => onwards(graph.metadata(id)?),
+        (["only", _], [_, id]) => only(graph, id),
+        (["onwards", _], [_, id]) => onwards(graph, id),
         ([question @ ("forward" | "reverse"), ..], [_, starts @ ..]) => {
             set_from(graph, question, starts.iter())
         }
@@ -81,25 +94,25 @@ fn set_of<'g>(
     }
 }
 
-fn id_of<'g>(graph: &'g PackageGraph, letter: &str) -> Option<&'g PackageId> {
+// Whether the package with the letter is in the set.
+fn has_letter(graph: &PackageGraph, set: &PackageSet<'_>, letter: &str) -> Result<bool, Error> {
     for id in graph.package_ids() {
         if id.repr() == letter {
-            return Some(id);
+            return set.contains(id);
         }
     }
-    None
+    Ok(false)
 }
 
-// Those of the graph's letters whose packages are in the set, and how many packages it has.
+// Those of the letters whose packages are in the set, and how many packages it has.
 pub(super) fn put_letters(
     graph: &PackageGraph,
     set: &PackageSet<'_>,
     out: &mut Answer,
 ) -> Result<(), Error> {
-    for letter in LETTERS.iter().take(graph.package_count()) {
-        match id_of(graph, letter) {
-            Some(id) if set.contains(id)? => out.put_mark(letter),
-            _ => {}
+    for letter in &LETTERS {
+        if has_letter(graph, set, letter)? {
+            out.put_mark(letter);
         }
     }
     out.put_number(set.len());
@@ -139,8 +152,8 @@ fn put_list(set: &PackageSet<'_>, direction: DependencyDirection, out: &mut Answ
     }
 }
 
-// The roots, how many IDs they have, the first of these, and how many are left then.
-fn put_roots(
+// The names of the roots.
+fn put_root_names(
     set: &PackageSet<'_>,
     direction: DependencyDirection,
     out: &mut Answer,
@@ -148,6 +161,15 @@ fn put_roots(
     for package in set.root_packages(direction)? {
         out.put(package.name());
     }
+    Ok(())
+}
+
+// How many IDs the roots have, the first of these, and how many are left then.
+fn put_root_ids(
+    set: &PackageSet<'_>,
+    direction: DependencyDirection,
+    out: &mut Answer,
+) -> Result<(), Error> {
     let mut ids = set.root_ids(direction)?;
     out.put_number(ids.len());
     if let Some(id) = ids.next() {
@@ -155,6 +177,15 @@ fn put_roots(
     }
     out.put_number(ids.len());
     Ok(())
+}
+
+fn put_roots(
+    set: &PackageSet<'_>,
+    direction: DependencyDirection,
+    out: &mut Answer,
+) -> Result<(), Error> {
+    put_root_names(set, direction, out)?;
+    put_root_ids(set, direction, out)
 }
 
 // The numbers of the walked links.
@@ -293,6 +324,29 @@ fn put_unread(graph: &PackageGraph, ids: &[PackageId], out: &mut Answer) {
     }
 }
 
+// Answers what becomes of IDs: how many of them are left unread, or what an operation makes of sets of them.
+fn ask_ids(
+    graph: &PackageGraph,
+    words: &[&str],
+    ids: &[PackageId],
+    out: &mut Answer,
+) -> Result<(), Error> {
+    match (words, ids) {
+        (["make", operation, ..], [_, _, a, b, c, d]) => combine(
+            graph,
+            operation,
+            [a, b],
+            [c, d],
+            out,
+        ),
+        (_, [_, ids @ ..]) => {
+            put_unread(graph, ids, out);
+            Ok(())
+        }
+        _ => Ok(()),
+    }
+}
+
 /// Answers a question about a set of the graph.
 pub(super) fn ask_set(
     graph: &PackageGraph,
@@ -301,17 +355,7 @@ pub(super) fn ask_set(
     out: &mut Answer,
 ) -> Result<(), Error> {
     match (words, ids) {
-        (["unread", ..], [_, ids @ ..]) => {
-            put_unread(graph, ids, out);
-            Ok(())
-        }
-        (["make", operation, ..], [_, _, a, b, c, d]) => combine(
-            graph,
-            operation,
-            [a, b],
-            [c, d],
-            out,
-        ),
+        (["unread" | "make", ..], _) => ask_ids(graph, words, ids, out),
         ([question, "of", words @ ..], [id, _, ids @ ..]) => {
             ask(graph, (question, "", id), words, ids, out)
         }
@@ -319,6 +363,21 @@ pub(super) fn ask_set(
             ask(graph, (question, argument, id), words, ids, out)
         }
         _ => ask_letters(graph, words, ids, out),
+    }
+}
+
+fn combined<'g>(
+    operation: &str,
+    x: &PackageSet<'g>,
+    y: &PackageSet<'g>,
+) -> Result<PackageSet<'g>, Error>
+    requires { ids_of x.now.graph.packages ≡ ids_of y.now.graph.packages }
+{
+    match operation {
+        "union" => x.union(y),
+        "intersection" => x.intersection(y),
+        "difference" => x.difference(y),
+        _ => x.symmetric_difference(y),
     }
 }
 
@@ -334,13 +393,7 @@ fn put_combined(
         out.put("other packages");
         return Ok(());
     }
-    let set = match operation {
-        "union" => x.union(y)?,
-        "intersection" => x.intersection(y)?,
-        "difference" => x.difference(y)?,
-        _ => x.symmetric_difference(y)?,
-    };
-    put_letters(graph, &set, out)
+    put_letters(graph, &combined(operation, x, y)?, out)
 }
 
 fn combine(
@@ -423,21 +476,6 @@ fn put_union(x: &PackageSet<'_>, y: &PackageSet<'_>, out: &mut Answer) -> Result
     Ok(())
 }
 
-// Whether the sets of a are equal, and then the union of the one graph's a and the other's b, from either
-// side.
-fn put_sets(
-    one: &PackageSet<'_>,
-    sets: (&PackageSet<'_>, &PackageSet<'_>),
-    out: &mut Answer,
-) -> Result<(), Error> {
-    out.put_truth(*one == *sets.0);
-    if one.same_packages(sets.0) {
-        put_union(one, sets.1, out)?;
-        put_union(sets.1, one, out)?;
-    }
-    Ok(())
-}
-
 /// The graph that `beside` compares with.
 pub(super) fn other_graph(name: &str) -> &'static str {
     match name {
@@ -450,8 +488,36 @@ fn one_package<'g>(graph: &'g PackageGraph, id: &PackageId) -> Result<PackageSet
     graph.resolve_ids([id].into_iter())
 }
 
+// The union of the one graph's set and the other's b, from either side.
+fn put_unions(
+    one: &PackageSet<'_>,
+    other: &PackageGraph,
+    b: &PackageId,
+    out: &mut Answer,
+) -> Result<(), Error> {
+    let far = one_package(other, b)?;
+    put_union(one, &far, out)?;
+    put_union(&far, one, out)
+}
+
+// Whether the other graph's set of a is equal, and then the unions.
+fn put_sets(
+    one: &PackageSet<'_>,
+    other: &PackageGraph,
+    a: &PackageId,
+    b: &PackageId,
+    out: &mut Answer,
+) -> Result<(), Error> {
+    let there = one_package(other, a)?;
+    out.put_truth(*one == there);
+    if one.same_packages(&there) {
+        put_unions(one, other, b, out)?;
+    }
+    Ok(())
+}
+
 /// Whether the graphs have the same packages, whether the packages and the sets of a are equal, and what
-/// their unions are.
+/// the unions of the one graph's a and the other's b are.
 pub(super) fn beside(
     one: &PackageGraph,
     other: &PackageGraph,
@@ -462,9 +528,7 @@ pub(super) fn beside(
     out.put_truth(one.same_packages(other));
     out.put_truth(one.metadata(a)? == other.metadata(a)?);
     let here = one_package(one, a)?;
-    let there = one_package(other, a)?;
-    let far = one_package(other, b)?;
-    put_sets(&here, (&there, &far), out)
+    put_sets(&here, other, a, b, out)
 }
 
 // The same packages with the link turned round, and then in the other order.

@@ -1,6 +1,6 @@
 //! What is read out of a graph: fields, links, build targets, members and default members.
 use crate::examples::Answer;
-use crate::members::{put_at_paths, put_named, put_unread};
+use crate::members::{len_of, put_at_paths, put_named, put_unread, resolved_len};
 use crate::sets::direction_of;
 use guppy::graph::BuildTargetId;
 use guppy::{
@@ -298,8 +298,8 @@ fn put_order(graph: &PackageGraph, out: &mut Answer) {
 fn put_members(graph: &PackageGraph, out: &mut Answer) -> Result<(), Error> {
     out.put_number(graph.workspace().member_count());
     out.put_number(graph.workspace().iter().len());
-    out.put_number(graph.resolve_workspace()?.len());
-    out.put_number(graph.query_workspace()?.resolve()?.len());
+    out.put_number(len_of(graph.resolve_workspace())?);
+    out.put_number(resolved_len(graph.query_workspace()?)?);
     Ok(())
 }
 
@@ -363,11 +363,11 @@ pub(super) fn ask_workspace(
 ) -> Result<(), Error> {
     match words {
         ["members"] => put_members(graph, out),
+        ["member", path, name] => put_member(graph, path, name, out),
+        ["at-paths", a, b] => put_at_paths(graph, [a, b], out),
         [question @ ("named" | "set-named" | "query-named"), a, b, c] => {
             put_named(graph, question, [a, b, c], out)
         }
-        ["at-paths", a, b] => put_at_paths(graph, [Utf8Path::new(a), Utf8Path::new(b)], out),
-        ["member", path, name] => put_member(graph, path, name, out),
         _ => {
             tell_workspace(graph, words, out);
             Ok(())

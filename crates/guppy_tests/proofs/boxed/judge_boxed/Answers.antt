@@ -1,10 +1,10 @@
 -- What is in the box is of one type, whose visitor may be shown any link.
 use Rattle.std.proofs.Common.{sym, subst}
 use Rattle.guppy.specs.Visitors.{query_link}
-use Rattle.guppy_tests.proofs.boxed.resolved_in_a_box.OwnLists.{own-1}
-use Rattle.guppy_tests.proofs.boxed.resolved_in_a_box.Goals as goal
+use Rattle.guppy_tests.proofs.boxed.judge_boxed.OwnLists.{own-1}
+use Rattle.guppy_tests.proofs.boxed.judge_boxed.Goals as goal
 
-pub resolved-requires : goal.resolved-requires
-resolved-requires g c = λ n few.
+pub judge_resolve-requires : goal.judge_resolve-requires
+judge_resolve-requires g c = λ n few.
     subst (λ (k : own-1.I). (v : (own-1.entry k).0.Denot) → (own-1.entry k).1.can_visit v c.args.query (query_link c.args.query n))
     (sym c.into_dyn_box-visitor.ensures.0) (λ v. tt) c.into_dyn_box-visitor.result.value
