@@ -9,8 +9,14 @@ use guppy::{PackageLinkVisitor, PackageQuery};
 use std::alloc::Global;
 use std::process::Abort;
 
-// Judges a resolve with a box of a visitor that accepts its odd calls, and tells how many links were shown.
-fn judge_boxed(rt: &impl Abort, alloc: Global, case: Case<'_>, query: PackageQuery<'_>) -> usize {
+// Resolves with a box of a visitor that accepts its odd calls, judges that, and tells how many links were
+// shown.
+fn resolved_in_a_box(
+    rt: &impl Abort,
+    alloc: Global,
+    case: Case<'_>,
+    query: PackageQuery<'_>,
+) -> usize {
     let odd = Box::new(alloc, Odd { calls: 0 });
     let visitor: Box<dyn PackageLinkVisitor + Drop> = odd.expect(rt, "a box");
     judge_resolve(rt, case, query, visitor)
@@ -23,7 +29,7 @@ fn judge_boxed_on(rt: &impl Abort, alloc: Global, links: &[(usize, usize, bool)]
     let starts = &[true, false, false, false];
     let given = Given::new(links, DependencyDirection::Forward, starts);
     let case = Case::new(&graph, ids.as_slice(), given);
-    judge_boxed(rt, alloc, case, query_of(rt, case))
+    resolved_in_a_box(rt, alloc, case, query_of(rt, case))
 }
 
 const CHAIN: [(usize, usize, bool); 3] = [(0, 1, false), (1, 2, false), (2, 3, false)];

@@ -1,8 +1,8 @@
 -- What is in the box is of one type, whose visitor may be shown any link.
 use Rattle.std.proofs.Common.{sym, subst}
 use Rattle.guppy.specs.Visitors.{query_link}
-use Rattle.guppy_tests.proofs.boxed.judge_boxed.OwnLists.{own-1}
-use Rattle.guppy_tests.proofs.boxed.judge_boxed.Goals as goal
+use Rattle.guppy_tests.proofs.boxed.resolved_in_a_box.OwnLists.{own-1}
+use Rattle.guppy_tests.proofs.boxed.resolved_in_a_box.Goals as goal
 
 pub judge_resolve-requires : goal.judge_resolve-requires
 judge_resolve-requires g c = λ n few.
