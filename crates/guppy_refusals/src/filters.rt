@@ -3,12 +3,11 @@ use crate::told::{begin, tell_calls, tell_set};
 use crate::world::World;
 use guppy::graph::DependencyDirection;
 use guppy::{Error, PackageMetadata, PackageSet};
-use guppy_program::RunFault;
 
 const FORWARD: DependencyDirection = DependencyDirection::Forward;
 
 // Keeps every second package.
-fn ask_filter(rt: &impl Print, set: &PackageSet<'_>, is_lent: bool) -> Result<(), Error> {
+fn ask_filter(rt: &HostRuntime, set: &PackageSet<'_>, is_lent: bool) -> Result<(), Error> {
     let mut calls = 0_usize;
     tell_calls(rt, calls);
     begin(rt);
@@ -22,21 +21,17 @@ fn ask_filter(rt: &impl Print, set: &PackageSet<'_>, is_lent: bool) -> Result<()
         set.filter(FORWARD, callback)
     };
     tell_calls(rt, calls);
-    tell_set(rt, &kept?);
+    let kept = kept?;
+    tell_set(rt, &kept);
     Ok(())
 }
 
-fn tell_halves(
-    rt: &impl Print,
-    halves: Result<(PackageSet<'_>, PackageSet<'_>), Error>,
-) -> Result<(), Error> {
-    let (first, second) = halves?;
-    tell_set(rt, &first);
-    tell_set(rt, &second);
-    Ok(())
+fn tell_halves(rt: &HostRuntime, halves: &(PackageSet<'_>, PackageSet<'_>)) {
+    tell_set(rt, &halves.0);
+    tell_set(rt, &halves.1);
 }
 
-fn ask_partition(rt: &impl Print, set: &PackageSet<'_>, is_lent: bool) -> Result<(), Error> {
+fn ask_partition(rt: &HostRuntime, set: &PackageSet<'_>, is_lent: bool) -> Result<(), Error> {
     let mut calls = 0_usize;
     tell_calls(rt, calls);
     begin(rt);
@@ -50,11 +45,17 @@ fn ask_partition(rt: &impl Print, set: &PackageSet<'_>, is_lent: bool) -> Result
         set.partition(FORWARD, callback)
     };
     tell_calls(rt, calls);
-    tell_halves(rt, halves)
+    let halves = halves?;
+    tell_halves(rt, &halves);
+    Ok(())
 }
 
 // Leaves out the first package.
-fn ask_filter_partition(rt: &impl Print, set: &PackageSet<'_>, is_lent: bool) -> Result<(), Error> {
+fn ask_filter_partition(
+    rt: &HostRuntime,
+    set: &PackageSet<'_>,
+    is_lent: bool,
+) -> Result<(), Error> {
     let mut calls = 0_usize;
     tell_calls(rt, calls);
     begin(rt);
@@ -72,18 +73,18 @@ fn ask_filter_partition(rt: &impl Print, set: &PackageSet<'_>, is_lent: bool) ->
         set.filter_partition(FORWARD, callback)
     };
     tell_calls(rt, calls);
-    tell_halves(rt, halves)
+    let halves = halves?;
+    tell_halves(rt, &halves);
+    Ok(())
 }
 
-pub(crate) fn ask(rt: &impl Print, world: &World<'_>, call: &str) -> Result<(), RunFault> {
-    let all = world.graph.resolve_all()?;
-    let asked = match call {
-        "filter" => ask_filter(rt, &all, false),
-        "filter_mut" => ask_filter(rt, &all, true),
-        "partition" => ask_partition(rt, &all, false),
-        "partition_mut" => ask_partition(rt, &all, true),
-        "filter_partition" => ask_filter_partition(rt, &all, false),
-        _ => ask_filter_partition(rt, &all, true),
-    };
-    Ok(asked?)
+pub(crate) fn ask(rt: &HostRuntime, world: &World<'_>, call: &str) -> Result<(), Error> {
+    match call {
+        "filter" => ask_filter(rt, &world.all, false),
+        "filter_mut" => ask_filter(rt, &world.all, true),
+        "partition" => ask_partition(rt, &world.all, false),
+        "partition_mut" => ask_partition(rt, &world.all, true),
+        "filter_partition" => ask_filter_partition(rt, &world.all, false),
+        _ => ask_filter_partition(rt, &world.all, true),
+    }
 }

@@ -5,7 +5,6 @@ use crate::positions::{DevLinks, graph_of, tell_list, tell_positions};
 use crate::told::{begin, tell_line};
 use guppy::graph::{IndexType, PackageIx};
 use guppy::positions::{CountedGraph, Graph, IxSet, ResolveCore, find_cycle};
-use guppy_program::RunFault;
 use std::alloc::{AllocError, Global};
 
 // Those of the positions that the graph has.
@@ -48,27 +47,51 @@ fn firm_cycle(graph: &Graph<DevLinks>) -> Result<Option<Vec<PackageIx>>, AllocEr
     find_cycle(&mut counted, |is_dev_only: &bool| !*is_dev_only)
 }
 
-fn tell_cycle(rt: &impl Print, cycle: Option<Vec<PackageIx>>) {
+fn tell_cycle(rt: &HostRuntime, cycle: Option<Vec<PackageIx>>) {
     match cycle {
         Some(cycle) => tell_list(rt, cycle.as_slice()),
         None => tell_line(rt, &"no cycle"),
     }
 }
 
-fn ask_graph(rt: &impl Print, graph: &Graph<DevLinks>, call: &str) -> Result<(), AllocError> {
-    let ixs = ixs_of(graph, &[2, 0, 2])?;
+fn ask_cycle(rt: &HostRuntime, graph: &Graph<DevLinks>, call: &str) -> Result<(), AllocError> {
     begin(rt);
-    match call {
-        "from_ixs" => tell_positions(rt, &made(graph, ixs.as_slice())?),
-        "core_from_ixs" => tell_positions(rt, made_core(graph, ixs.as_slice())?.included()),
-        "find_cycle" => tell_cycle(rt, any_cycle(graph)?),
-        _ => tell_cycle(rt, firm_cycle(graph)?),
-    }
+    let cycle = if call == "find_cycle" {
+        any_cycle(graph)
+    } else {
+        firm_cycle(graph)
+    };
+    tell_cycle(rt, cycle?);
     Ok(())
 }
 
-pub(crate) fn ask(rt: &impl Print, alloc: Global, call: &str) -> Result<(), RunFault> {
+fn ask_set(
+    rt: &HostRuntime,
+    graph: &Graph<DevLinks>,
+    ixs: &[PackageIx],
+    call: &str,
+) -> Result<(), AllocError>
+    requires { All (λ ix. ix.0 < length graph.now.nodes) ixs.now }
+{
+    begin(rt);
+    let set = if call == "from_ixs" {
+        ResolveCore::from_included(made(graph, ixs)?)
+    } else {
+        made_core(graph, ixs)?
+    };
+    tell_positions(rt, set.included());
+    Ok(())
+}
+
+fn ask_graph(rt: &HostRuntime, graph: &Graph<DevLinks>, call: &str) -> Result<(), AllocError> {
+    if let "find_cycle" | "find_no_cycle" = call {
+        return ask_cycle(rt, graph, call);
+    }
+    let ixs = ixs_of(graph, &[2, 0, 2])?;
+    ask_set(rt, graph, ixs.as_slice(), call)
+}
+
+pub(crate) fn ask(rt: &HostRuntime, alloc: Global, call: &str) -> Result<(), AllocError> {
     let graph = graph_of(alloc)?;
-    let asked = ask_graph(rt, &graph, call);
-    Ok(asked?)
+    ask_graph(rt, &graph, call)
 }

@@ -3,45 +3,63 @@
 use crate::told::{begin, tell_line};
 use crate::world::World;
 use guppy::graph::DependencyDirection;
-use guppy::{DependsCache, Error, PackageId, Utf8Path};
-use guppy_program::RunFault;
-use guppy_program::lines::records::id_of;
-use std::alloc::Global;
+use guppy::{DependsCache, Error, PackageId, PackageMetadata, Utf8Path};
 
-// Whether c depends on a, and a on c.
-fn tell_cache(
-    rt: &impl Print,
-    world: &World<'_>,
+/// Whether the first package depends on the second one. Takes no memory.
+pub(crate) fn tell_depends(
+    rt: &HostRuntime,
     cache: &mut DependsCache<'_>,
-) -> Result<(), Error> {
-    tell_line(rt, &cache.depends_on(world.c, world.a)?);
-    tell_line(rt, &cache.depends_on(world.a, world.c)?);
-    Ok(())
+    first: &PackageId,
+    second: &PackageId,
+) {
+    match cache.depends_on(first, second) {
+        Ok(depends) => tell_line(rt, &depends),
+        Err(error) => tell_line(rt, &error),
+    }
 }
 
-fn ask_new_cache(rt: &impl Print, world: &World<'_>, call: &str) -> Result<(), Error> {
-    begin(rt);
-    let cache = if call == "new_depends_cache" {
+// Whether c depends on a, and a on c.
+fn tell_cache(rt: &HostRuntime, world: &World<'_>, cache: &mut DependsCache<'_>) {
+    tell_depends(rt, cache, world.c, world.a);
+    tell_depends(rt, cache, world.a, world.c);
+}
+
+fn new_cache<'g>(world: &World<'g>, call: &str) -> Result<DependsCache<'g>, Error> {
+    if call == "new_depends_cache" {
         world.graph.new_depends_cache()
     } else {
         DependsCache::new(world.graph)
-    };
-    tell_cache(rt, world, &mut cache?)
+    }
+}
+
+fn ask_new_cache(rt: &HostRuntime, world: &World<'_>, call: &str) -> Result<(), Error> {
+    begin(rt);
+    let mut cache = new_cache(world, call)?;
+    tell_cache(rt, world, &mut cache);
+    Ok(())
 }
 
 // Asks a cache of an unknown package, and tells what it answers before and after that.
-fn ask_cache(rt: &impl Print, world: &World<'_>, unknown: &PackageId) -> Result<(), Error> {
-    let mut cache = world.graph.new_depends_cache()?;
-    tell_cache(rt, world, &mut cache)?;
+fn ask_of_unknown(
+    rt: &HostRuntime,
+    world: &World<'_>,
+    cache: &mut DependsCache<'_>,
+) -> Result<(), Error> {
+    tell_cache(rt, world, cache);
     begin(rt);
-    let asked = cache.depends_on(world.a, unknown);
-    tell_cache(rt, world, &mut cache)?;
+    let asked = cache.depends_on(world.a, &world.z);
+    tell_cache(rt, world, cache);
     tell_line(rt, &asked?);
     Ok(())
 }
 
+fn ask_cache(rt: &HostRuntime, world: &World<'_>) -> Result<(), Error> {
+    let mut cache = world.graph.new_depends_cache()?;
+    ask_of_unknown(rt, world, &mut cache)
+}
+
 fn ask_of_two(
-    rt: &impl Print,
+    rt: &HostRuntime,
     world: &World<'_>,
     call: &str,
     from: &PackageId,
@@ -50,63 +68,66 @@ fn ask_of_two(
     let graph = world.graph;
     begin(rt);
     let holds = match call {
-        "directly_depends_on" => graph.directly_depends_on(from, to),
-        "is_cyclic" => graph.cycles().is_cyclic(from, to),
-        "contains" => world.x.contains(to),
-        _ => graph.depends_on(from, to),
+        "directly_depends_on" => graph.directly_depends_on(from, to)?,
+        "is_cyclic" => graph.cycles().is_cyclic(from, to)?,
+        "contains" => world.x.contains(to)?,
+        _ => graph.depends_on(from, to)?,
     };
-    tell_line(rt, &holds?);
+    tell_line(rt, &holds);
     Ok(())
 }
 
-// Looks for what isn't there.
-fn ask_for_unknown(
-    rt: &impl Print,
+// A package that isn't there.
+fn unknown<'g>(world: &World<'g>, call: &str) -> Result<PackageMetadata<'g>, Error> {
+    match call {
+        "member_by_path" => world.graph.workspace().member_by_path(Utf8Path::new("z")),
+        "member_by_name" => world.graph.workspace().member_by_name("z"),
+        _ => world.graph.metadata(&world.z),
+    }
+}
+
+fn ask_for_unknown(rt: &HostRuntime, world: &World<'_>, call: &str) -> Result<(), Error> {
+    begin(rt);
+    let package = unknown(world, call)?;
+    tell_line(rt, &package.name());
+    Ok(())
+}
+
+fn ask_link(rt: &HostRuntime, world: &World<'_>) -> Result<(), Error> {
+    let package = world.graph.metadata(world.a)?;
+    begin(rt);
+    let link = package.link_between(&world.z, DependencyDirection::Forward)?;
+    tell_line(rt, &link.is_some());
+    Ok(())
+}
+
+// A set or a query of packages, of which one isn't there.
+fn ask_of_list(
+    rt: &HostRuntime,
     world: &World<'_>,
     call: &str,
     unknown: &PackageId,
 ) -> Result<(), Error> {
-    let package = world.graph.metadata(world.a)?;
+    let ids = [world.a, unknown].into_iter();
     begin(rt);
-    match call {
-        "member_by_path" => {
-            world.graph.workspace().member_by_path(Utf8Path::new("z"))?;
-        }
-        "member_by_name" => {
-            world.graph.workspace().member_by_name("z")?;
-        }
-        "link_between" => {
-            package.link_between(unknown, DependencyDirection::Forward)?;
-        }
-        "query_forward" => {
-            world.graph.query_forward([world.a, unknown].into_iter())?;
-        }
-        "resolve_ids" => {
-            world.graph.resolve_ids([world.a, unknown].into_iter())?;
-        }
-        _ => {
-            world.graph.metadata(unknown)?;
-        }
+    if call == "query_forward" {
+        world.graph.query_forward(ids)?;
+    } else {
+        world.graph.resolve_ids(ids)?;
     }
-    tell_line(rt, &"found");
     Ok(())
 }
 
-pub(crate) fn ask(
-    rt: &impl Print,
-    alloc: Global,
-    world: &World<'_>,
-    call: &str,
-) -> Result<(), RunFault> {
-    let unknown = id_of(alloc, "z")?;
-    let asked = match call {
+pub(crate) fn ask(rt: &HostRuntime, world: &World<'_>, call: &str) -> Result<(), Error> {
+    match call {
         "depends_on" => ask_of_two(rt, world, call, world.a, world.c),
         "new" | "new_depends_cache" => ask_new_cache(rt, world, call),
-        "cache" => ask_cache(rt, world, &unknown),
+        "cache" => ask_cache(rt, world),
         "depends_on_unknown" | "directly_depends_on" | "is_cyclic" | "contains" => {
-            ask_of_two(rt, world, call, world.a, &unknown)
+            ask_of_two(rt, world, call, world.a, &world.z)
         }
-        _ => ask_for_unknown(rt, world, call, &unknown),
-    };
-    Ok(asked?)
+        "link_between" => ask_link(rt, world),
+        "query_forward" | "resolve_ids" => ask_of_list(rt, world, call, &world.z),
+        _ => ask_for_unknown(rt, world, call),
+    }
 }

@@ -14,6 +14,7 @@ mod look_ups;
 mod positions;
 mod queries;
 mod quiet;
+mod records;
 mod resolves;
 mod searches;
 mod sets;
@@ -21,81 +22,107 @@ mod told;
 mod verifying;
 mod world;
 
-use crate::world::{World, graph_of_lines, tell_world};
-use guppy::{Error, IntoGraph, PackageGraph};
-use guppy_program::{RunFault, records_of};
-use std::alloc::Global;
+use crate::records::{Ends, records_of};
+use crate::world::{World, graph_of, tell_world};
+use guppy::{DependencyKind, Error, IntoGraph, PackageGraph};
+use std::alloc::{AllocError, Global};
 use std::process::ExitCode;
-use std::rt::Env;
 use std::{env, io};
 
-const INPUT: &[u8] = b"package a\npackage b\npackage c\npackage d\npackage e\n\
-    link a b normal\nlink b c build\nlink c b dev\nlink a d dev\nlink d d normal\nlink d c normal\n";
+const NAMES: [&str; 5] = ["a", "b", "c", "d", "e"];
+
+const ENDS: [Ends; 6] = [
+    ("a", "b", Some(DependencyKind::Normal)),
+    ("b", "c", Some(DependencyKind::Build)),
+    ("c", "b", Some(DependencyKind::Development)),
+    ("a", "d", Some(DependencyKind::Development)),
+    ("d", "d", Some(DependencyKind::Normal)),
+    ("d", "c", Some(DependencyKind::Normal)),
+];
 
 // Makes the graph once more, of records that are given up.
-fn ask_from_records(rt: &impl Print, alloc: Global) -> Result<(), RunFault> {
-    let records = records_of(alloc, INPUT)?;
+fn ask_from_records(rt: &HostRuntime, alloc: Global) -> Result<(), Error> {
+    let records = records_of(alloc, &NAMES, &ENDS)?;
     told::begin(rt);
     let graph = records.into_graph()?;
     world::tell_graph(rt, &graph);
     Ok(())
 }
 
-fn ask(rt: &impl Print, alloc: Global, world: &World<'_>, case: &str) -> Result<(), RunFault> {
-    match case.split_once('.') {
-        Some(("sets", call)) => sets::ask(rt, world, call),
-        Some(("queries", call)) => queries::ask(rt, world, call),
-        Some(("resolves", call)) => resolves::ask(rt, alloc, world, call),
-        Some(("filters", call)) => filters::ask(rt, world, call),
-        Some(("lists", call)) => lists::ask(rt, world, call),
-        Some(("look_ups", call)) => look_ups::ask(rt, alloc, world, call),
-        Some(("data", call)) => data::ask(rt, alloc, call),
-        Some(("positions", call)) => positions::ask(rt, alloc, call),
-        Some(("ixs", call)) => ixs::ask(rt, alloc, call),
-        Some(("searches", call)) => searches::ask(rt, alloc, call),
-        Some(("verifying", call)) => verifying::ask(rt, alloc, world, call),
-        Some(("quiet", call)) => quiet::ask(rt, alloc, world, call),
+// Cases that need nothing of the world.
+fn ask_apart(rt: &HostRuntime, alloc: Global, group: &str, call: &str) -> Result<(), AllocError> {
+    match group {
+        "data" => data::ask(rt, alloc, call),
+        "positions" => positions::ask(rt, alloc, call),
+        "ixs" => ixs::ask(rt, alloc, call),
+        _ => searches::ask(rt, alloc, call),
+    }
+}
+
+fn ask(
+    rt: &HostRuntime,
+    alloc: Global,
+    world: &World<'_>,
+    group: &str,
+    call: &str,
+) -> Result<(), Error> {
+    match group {
+        "sets" => sets::ask(rt, world, call),
+        "queries" => queries::ask(rt, world, call),
+        "resolves" => resolves::ask(rt, alloc, world, call),
+        "filters" => filters::ask(rt, world, call),
+        "lists" => lists::ask(rt, world, call),
+        "look_ups" => look_ups::ask(rt, world, call),
+        "verifying" => verifying::ask(rt, alloc, world, call),
+        "quiet" => quiet::ask(rt, alloc, world, call),
+        "data" | "positions" | "ixs" | "searches" => Ok(ask_apart(rt, alloc, group, call)?),
         _ => ask_from_records(rt, alloc),
     }
 }
 
-// Does the case, until it isn't refused, but twice at most.
-fn try_case(rt: &impl Print, alloc: Global, world: &World<'_>, case: &str) {
-    for _ in 0..2 {
-        tell_world(rt, world);
-        let asked = ask(rt, alloc, world, case);
-        told::end(rt);
-        if let Err(fault) = &asked {
-            told::tell_line(rt, fault);
+// Tells how a case ended, and whether memory was refused.
+fn tell_end(rt: &HostRuntime, asked: &Result<(), Error>) -> bool {
+    told::end(rt);
+    match asked {
+        Ok(()) => false,
+        Err(error) => {
+            told::tell_line(rt, error);
+            matches!(error, Error::OutOfMemory)
         }
-        if !matches!(asked, Err(RunFault::Library(Error::OutOfMemory))) {
-            break;
-        }
+    }
+}
+
+fn try_once(rt: &HostRuntime, alloc: Global, world: &World<'_>, case: &str) -> bool {
+    let (group, call) = case.split_once('.').unwrap_or((case, ""));
+    tell_world(rt, world);
+    let asked = ask(rt, alloc, world, group, call);
+    tell_end(rt, &asked)
+}
+
+// Does the case, and where it is refused once more.
+fn try_case(rt: &HostRuntime, alloc: Global, world: &World<'_>, case: &str) {
+    if try_once(rt, alloc, world, case) {
+        try_once(rt, alloc, world, case);
     }
     tell_world(rt, world);
 }
 
-fn try_in(
-    rt: &impl Print,
-    alloc: Global,
-    graph: &PackageGraph,
-    case: &str,
-) -> Result<(), RunFault> {
+fn try_in(rt: &HostRuntime, alloc: Global, graph: &PackageGraph, case: &str) -> Result<(), Error> {
     let world = World::new(graph)?;
     try_case(rt, alloc, &world, case);
     Ok(())
 }
 
-fn run_case(rt: &impl Print, alloc: Global, case: &str) -> Result<(), RunFault> {
-    let graph = graph_of_lines(alloc, INPUT)?;
+fn run_case(rt: &HostRuntime, alloc: Global, case: &str) -> Result<(), Error> {
+    let graph = graph_of(alloc, &NAMES, &ENDS)?;
     try_in(rt, alloc, &graph, case)
 }
 
-fn run_cases(rt: &(impl Print + Env + AllocGlobal)) -> io::Result<()> {
+fn run_cases(rt: &HostRuntime) -> io::Result<()> {
     for case in env::args(rt)?.skip(1) {
         told::tell_line(rt, &case);
-        if let Err(fault) = run_case(rt, rt.alloc(), case.as_str()) {
-            told::tell_line(rt, &fault);
+        if let Err(error) = run_case(rt, rt.alloc(), case.as_str()) {
+            told::tell_line(rt, &error);
         }
     }
     Ok(())

@@ -8,7 +8,6 @@ use guppy::positions::{
     CountedGraph, EdgeDfs, Graph, GraphSpec, IxSet, Link, ResolveCore, Sccs, TopoWithCycles,
     reachable,
 };
-use guppy_program::RunFault;
 use std::alloc::{AllocError, Global};
 
 /// A graph whose links say whether they are dev-only.
@@ -37,8 +36,7 @@ const ENDS: [(usize, usize, bool); 5] = [
 // times and five more.
 const MANY: usize = 1000;
 
-fn many_parts(alloc: Global) -> Result<(Vec<()>, Vec<Link<bool>>), AllocError> {
-    let nodes = vec![in alloc; (); MANY]?;
+fn many_links(alloc: Global) -> Result<Vec<Link<bool>>, AllocError> {
     let mut links = Vec::new(alloc);
     for from in 0..MANY {
         for to in [(7 * from + 3) % MANY, (11 * from + 5) % MANY] {
@@ -46,16 +44,15 @@ fn many_parts(alloc: Global) -> Result<(Vec<()>, Vec<Link<bool>>), AllocError> {
             links.push(Link { from, to, edge })?;
         }
     }
-    Ok((nodes, links))
+    Ok(links)
 }
 
-fn parts_of(alloc: Global) -> Result<(Vec<()>, Vec<Link<bool>>), AllocError> {
-    let nodes = vec![in alloc; (); 4]?;
+fn links_of(alloc: Global) -> Result<Vec<Link<bool>>, AllocError> {
     let mut links = Vec::new(alloc);
     for (from, to, edge) in ENDS {
         links.push(Link { from, to, edge })?;
     }
-    Ok((nodes, links))
+    Ok(links)
 }
 
 fn made_of(nodes: Vec<()>, links: Vec<Link<bool>>) -> Result<Graph<DevLinks>, AllocError> {
@@ -66,8 +63,8 @@ fn made_of(nodes: Vec<()>, links: Vec<Link<bool>>) -> Result<Graph<DevLinks>, Al
 }
 
 pub(crate) fn graph_of(alloc: Global) -> Result<Graph<DevLinks>, AllocError> {
-    let (nodes, links) = parts_of(alloc)?;
-    made_of(nodes, links)
+    let nodes = vec![in alloc; (); 4]?;
+    made_of(nodes, links_of(alloc)?)
 }
 
 /// The set of those of the positions that the graph has.
@@ -86,14 +83,14 @@ pub(crate) fn set_of(
     Ok(set)
 }
 
-pub(crate) fn tell_positions(rt: &impl Print, set: &IxSet<DevLinks>) {
+pub(crate) fn tell_positions(rt: &HostRuntime, set: &IxSet<DevLinks>) {
     for ix in set.ones() {
         tell(rt, ix);
     }
     tell_line(rt, &"positions");
 }
 
-pub(crate) fn tell_list(rt: &impl Print, positions: &[PackageIx]) {
+pub(crate) fn tell_list(rt: &HostRuntime, positions: &[PackageIx]) {
     for ix in positions {
         tell(rt, *ix);
     }
@@ -120,7 +117,7 @@ fn components_of(
 
 // The components. Their making, or that of the index, is the call where it is asked for.
 fn components(
-    rt: &impl Print,
+    rt: &HostRuntime,
     graph: &Graph<DevLinks>,
     call: &str,
 ) -> Result<Sccs<PackageIx>, AllocError>
@@ -136,8 +133,7 @@ fn components(
     components_of(graph, &topo)
 }
 
-fn made(
-    rt: &impl Print,
+fn made_set(
     graph: &Graph<DevLinks>,
     x: &IxSet<DevLinks>,
     y: &IxSet<DevLinks>,
@@ -146,7 +142,6 @@ fn made(
     requires x { length x.now ≡ length graph.now.nodes }
     requires y { length y.now ≡ length graph.now.nodes }
 {
-    begin(rt);
     match call {
         "difference" => x.difference(y),
         "clone" => x.clone(),
@@ -155,8 +150,7 @@ fn made(
     }
 }
 
-fn made_core(
-    rt: &impl Print,
+fn made(
     graph: &Graph<DevLinks>,
     x: &ResolveCore<DevLinks>,
     y: &ResolveCore<DevLinks>,
@@ -165,13 +159,16 @@ fn made_core(
     requires x { length x.now ≡ length graph.now.nodes }
     requires y { length y.now ≡ length graph.now.nodes }
 {
-    begin(rt);
     match call {
         "core_difference" => x.difference(y),
         "core_clone" => x.clone(),
         "core_new" => ResolveCore::new(graph, x.included(), FORWARD),
         "core_all_nodes" => ResolveCore::all_nodes(graph),
-        _ => ResolveCore::empty(graph.alloc(), graph.node_count()),
+        "core_empty" => ResolveCore::empty(graph.alloc(), graph.node_count()),
+        _ => {
+            let set = made_set(graph, x.included(), y.included(), call)?;
+            Ok(ResolveCore::from_included(set))
+        }
     }
 }
 
@@ -193,7 +190,7 @@ fn listed(
 }
 
 fn ask_core_links(
-    rt: &impl Print,
+    rt: &HostRuntime,
     graph: &Graph<DevLinks>,
     x: &ResolveCore<DevLinks>,
     sccs: &Sccs<PackageIx>,
@@ -209,7 +206,7 @@ fn ask_core_links(
 }
 
 fn ask_edge_dfs(
-    rt: &impl Print,
+    rt: &HostRuntime,
     graph: &Graph<DevLinks>,
     x: &IxSet<DevLinks>,
 ) -> Result<(), AllocError>
@@ -222,8 +219,8 @@ fn ask_edge_dfs(
     Ok(())
 }
 
-fn ask_listed(
-    rt: &impl Print,
+fn ask_of_components(
+    rt: &HostRuntime,
     graph: &Graph<DevLinks>,
     x: &ResolveCore<DevLinks>,
     sccs: &Sccs<PackageIx>,
@@ -232,13 +229,19 @@ fn ask_listed(
     requires x { length x.now ≡ length graph.now.nodes }
     requires sccs { length (concat sccs.now) ≡ length graph.now.nodes }
 {
-    let positions = listed(graph, x, sccs, call)?;
-    tell_list(rt, positions.as_slice());
+    if !matches!(call, "index" | "components") {
+        begin(rt);
+    }
+    match call {
+        "core_links" => ask_core_links(rt, graph, x, sccs)?,
+        "edge_dfs" => ask_edge_dfs(rt, graph, x.included())?,
+        _ => tell_list(rt, listed(graph, x, sccs, call)?.as_slice()),
+    }
     Ok(())
 }
 
 fn ask_lists(
-    rt: &impl Print,
+    rt: &HostRuntime,
     graph: &Graph<DevLinks>,
     x: &ResolveCore<DevLinks>,
     call: &str,
@@ -246,31 +249,28 @@ fn ask_lists(
     requires x { length x.now ≡ length graph.now.nodes }
 {
     let sccs = components(rt, graph, call)?;
-    if let "externals" | "core_roots" | "core_links" | "edge_dfs" = call {
-        begin(rt);
-    }
-    match call {
-        "core_links" => ask_core_links(rt, graph, x, &sccs),
-        "edge_dfs" => ask_edge_dfs(rt, graph, x.included()),
-        _ => ask_listed(rt, graph, x, &sccs, call),
-    }
+    ask_of_components(rt, graph, x, &sccs, call)
 }
 
-fn ask_graph(rt: &impl Print, alloc: Global, is_large: bool) -> Result<(), AllocError> {
-    let (nodes, links) = if is_large {
-        many_parts(alloc)?
-    } else {
-        parts_of(alloc)?
-    };
+fn ask_made(
+    rt: &HostRuntime,
+    graph: &Graph<DevLinks>,
+    x: &ResolveCore<DevLinks>,
+    y: &ResolveCore<DevLinks>,
+    call: &str,
+) -> Result<(), AllocError>
+    requires x { length x.now ≡ length graph.now.nodes }
+    requires y { length y.now ≡ length graph.now.nodes }
+{
     begin(rt);
-    let graph = made_of(nodes, links)?;
-    tell(rt, graph.node_count());
-    tell_line(rt, &graph.link_count());
+    let set = made(graph, x, y, call);
+    tell_positions(rt, x.included());
+    tell_positions(rt, set?.included());
     Ok(())
 }
 
-fn ask_of_cores(
-    rt: &impl Print,
+fn ask_of_sets(
+    rt: &HostRuntime,
     graph: &Graph<DevLinks>,
     x: &ResolveCore<DevLinks>,
     y: &ResolveCore<DevLinks>,
@@ -281,49 +281,44 @@ fn ask_of_cores(
 {
     tell_positions(rt, x.included());
     match call {
-        "core_difference" | "core_clone" | "core_new" | "core_all_nodes" | "core_empty" => {
-            let set = made_core(rt, graph, x, y, call);
-            tell_positions(rt, x.included());
-            tell_positions(rt, set?.included());
-            Ok(())
-        }
-        _ => {
+        "index" | "components" | "externals" | "edge_dfs" | "core_roots" | "core_links" => {
             let told = ask_lists(rt, graph, x, call);
             tell_positions(rt, x.included());
             told
         }
+        _ => ask_made(rt, graph, x, y, call),
     }
 }
 
-fn ask_core(rt: &impl Print, graph: &Graph<DevLinks>, call: &str) -> Result<(), AllocError> {
+fn ask_graph(rt: &HostRuntime, graph: &Graph<DevLinks>, call: &str) -> Result<(), AllocError> {
     let x = ResolveCore::from_included(set_of(graph, &[0, 1])?);
     let y = ResolveCore::from_included(set_of(graph, &[1, 2])?);
-    ask_of_cores(rt, graph, &x, &y, call)
+    ask_of_sets(rt, graph, &x, &y, call)
 }
 
-fn ask_set(rt: &impl Print, graph: &Graph<DevLinks>, call: &str) -> Result<(), AllocError> {
-    let x = set_of(graph, &[0, 1])?;
-    let y = set_of(graph, &[1, 2])?;
-    tell_positions(rt, &x);
-    let set = made(rt, graph, &x, &y, call);
-    tell_positions(rt, &x);
-    tell_positions(rt, &set?);
+fn ask_parts(
+    rt: &HostRuntime,
+    alloc: Global,
+    count: usize,
+    links: Vec<Link<bool>>,
+) -> Result<(), AllocError> {
+    let nodes = vec![in alloc; (); count]?;
+    begin(rt);
+    let graph = made_of(nodes, links)?;
+    tell(rt, graph.node_count());
+    tell_line(rt, &graph.link_count());
     Ok(())
 }
 
-fn ask_small(rt: &impl Print, alloc: Global, call: &str) -> Result<(), AllocError> {
+fn ask_small(rt: &HostRuntime, alloc: Global, call: &str) -> Result<(), AllocError> {
     let graph = graph_of(alloc)?;
-    match call {
-        "difference" | "clone" | "reachable" | "empty" => ask_set(rt, &graph, call),
-        _ => ask_core(rt, &graph, call),
-    }
+    ask_graph(rt, &graph, call)
 }
 
-pub(crate) fn ask(rt: &impl Print, alloc: Global, call: &str) -> Result<(), RunFault> {
-    let asked = match call {
-        "from_parts" => ask_graph(rt, alloc, false),
-        "thousand_by_sevens" => ask_graph(rt, alloc, true),
+pub(crate) fn ask(rt: &HostRuntime, alloc: Global, call: &str) -> Result<(), AllocError> {
+    match call {
+        "from_parts" => ask_parts(rt, alloc, 4, links_of(alloc)?),
+        "thousand_by_sevens" => ask_parts(rt, alloc, MANY, many_links(alloc)?),
         _ => ask_small(rt, alloc, call),
-    };
-    Ok(asked?)
+    }
 }

@@ -1,36 +1,54 @@
 //! Queries.
 use crate::told::begin;
-use crate::world::{World, tell_query};
+use crate::world::{World, names_of, paths_of, tell_query};
 use guppy::graph::DependencyDirection;
-use guppy::{Error, PackageQuery, Utf8Path};
-use guppy_program::RunFault;
+use guppy::{Error, PackageQuery};
 
-fn made<'g>(rt: &impl Print, world: &World<'g>, call: &str) -> Result<PackageQuery<'g>, Error> {
-    let graph = world.graph;
-    let ids = [world.c, world.a];
-    let paths = [Utf8Path::new("c/."), Utf8Path::new("a")];
-    let package = graph.metadata(world.b)?;
-    begin(rt);
+const REVERSE: DependencyDirection = DependencyDirection::Reverse;
+
+fn copied<'g>(query: &PackageQuery<'g>) -> Result<PackageQuery<'g>, Error> {
+    Ok(query.clone()?)
+}
+
+fn made_of_ids<'g>(world: &World<'g>, call: &str) -> Result<PackageQuery<'g>, Error> {
+    let ids = [world.c, world.a].into_iter();
     match call {
-        "query_workspace" => graph.query_workspace(),
-        "query_workspace_paths" => graph.query_workspace_paths(paths.into_iter()),
-        "query_workspace_names" => graph.query_workspace_names(["c", "a"].into_iter()),
-        "query_directed" => graph.query_directed(ids.into_iter(), DependencyDirection::Reverse),
-        "query_reverse" => graph.query_reverse(ids.into_iter()),
-        "unknown_path" => graph.query_workspace_paths([Utf8Path::new("z")].into_iter()),
-        "unknown_name" => graph.query_workspace_names(["a", "z"].into_iter()),
-        "set_to_package_query" => world.x.to_package_query(DependencyDirection::Reverse),
-        "package_to_package_query" => package.to_package_query(DependencyDirection::Reverse),
-        "clone" => return Ok(world.query.clone()?),
-        _ => graph.query_forward(ids.into_iter()),
+        "query_directed" => world.graph.query_directed(ids, REVERSE),
+        "query_reverse" => world.graph.query_reverse(ids),
+        _ => world.graph.query_forward(ids),
     }
 }
 
-fn ask_made(rt: &impl Print, world: &World<'_>, call: &str) -> Result<(), Error> {
-    tell_query(rt, &made(rt, world, call)?);
-    Ok(())
+// Of members, or of packages that are listed by their IDs.
+fn made_of_list<'g>(world: &World<'g>, call: &str) -> Result<PackageQuery<'g>, Error> {
+    match call {
+        "query_workspace_paths" | "unknown_path" => {
+            world
+                .graph
+                .query_workspace_paths(paths_of(call).into_iter())
+        }
+        "query_workspace_names" | "unknown_name" => {
+            world
+                .graph
+                .query_workspace_names(names_of(call).into_iter())
+        }
+        _ => made_of_ids(world, call),
+    }
 }
 
-pub(crate) fn ask(rt: &impl Print, world: &World<'_>, call: &str) -> Result<(), RunFault> {
-    Ok(ask_made(rt, world, call)?)
+fn made<'g>(world: &World<'g>, call: &str) -> Result<PackageQuery<'g>, Error> {
+    match call {
+        "query_workspace" => world.graph.query_workspace(),
+        "set_to_package_query" => world.x.to_package_query(REVERSE),
+        "package_to_package_query" => world.graph.metadata(world.b)?.to_package_query(REVERSE),
+        "clone" => copied(&world.query),
+        _ => made_of_list(world, call),
+    }
+}
+
+pub(crate) fn ask(rt: &HostRuntime, world: &World<'_>, call: &str) -> Result<(), Error> {
+    begin(rt);
+    let query = made(world, call)?;
+    tell_query(rt, &query);
+    Ok(())
 }

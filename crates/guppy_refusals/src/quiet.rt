@@ -2,19 +2,20 @@
 ghost use Rattle.std.specs.Prelude.{◌≡◌, length};
 
 use crate::data::status_of;
-use crate::positions::{DevLinks, graph_of, index_of, set_of, tell_list, tell_positions};
+use crate::look_ups::tell_depends;
+use crate::positions::{DevLinks, index_of, set_of, tell_list, tell_positions};
 use crate::told::{begin, tell, tell_line, tell_set};
-use crate::world::{World, tell_graph};
-use guppy::graph::{
-    DependencyDirection, DependencyReqImpl, ExternalSource, IndexType, LinkRecord, PackageIx,
+use crate::world::{World, graph_of, tell_graph};
+use crate::{lists, positions};
+use guppy::graph::{DependencyDirection, ExternalSource, IndexType, PackageIx};
+use guppy::platform::{
+    EnabledTernary, PlatformSpec, PlatformStatus, PlatformStatusImpl, TargetEval, TargetSpec,
 };
-use guppy::platform::{EnabledTernary, PlatformSpec, PlatformStatus, TargetEval, TargetSpec};
-use guppy::positions::{IxSet, ResolveCore};
+use guppy::positions::{Graph, IxSet, ResolveCore};
 use guppy::{
-    CycleIds, DependsCache, Error, IntoGraph, PackageGraph, PackageMetadata, PackageSet, RootIds,
-    RootPackages, SortedSet, Utf8Path, WalkedLinks,
+    CycleIds, DependsCache, Error, PackageGraph, PackageId, PackageLink, PackageMetadata,
+    PackageSet, SortedSet, Utf8Path, Workspace,
 };
-use guppy_program::{RunFault, records_of};
 use std::alloc::{AllocError, Global};
 
 const FORWARD: DependencyDirection = DependencyDirection::Forward;
@@ -36,7 +37,18 @@ impl TargetEval for KnowsNothing {
     }
 }
 
-fn ask_look_ups(rt: &impl Print, world: &World<'_>) -> Result<(), Error> {
+fn tell_links(
+    rt: &HostRuntime,
+    package: PackageMetadata<'_>,
+    other: &PackageId,
+) -> Result<(), Error> {
+    tell(rt, package.link_between(other, FORWARD)?.is_some());
+    tell(rt, package.link_to(other)?.is_some());
+    tell_line(rt, &package.link_from(other)?.is_some());
+    Ok(())
+}
+
+fn ask_look_ups(rt: &HostRuntime, world: &World<'_>) -> Result<(), Error> {
     let graph = world.graph;
     begin(rt);
     let package = graph.metadata(world.a)?;
@@ -44,17 +56,10 @@ fn ask_look_ups(rt: &impl Print, world: &World<'_>) -> Result<(), Error> {
     tell(rt, graph.directly_depends_on(world.a, world.b)?);
     tell(rt, world.x.contains(world.c)?);
     tell(rt, graph.cycles().is_cyclic(world.b, world.c)?);
-    tell(rt, package.link_between(world.b, FORWARD)?.is_some());
-    tell(rt, package.link_to(world.b)?.is_some());
-    tell_line(rt, &package.link_from(world.b)?.is_some());
-    Ok(())
+    tell_links(rt, package, world.b)
 }
 
-fn ask_members(rt: &impl Print, world: &World<'_>) -> Result<(), Error> {
-    let workspace = world.graph.workspace();
-    begin(rt);
-    tell(rt, workspace.member_by_path(Utf8Path::new("b/."))?.name());
-    tell(rt, workspace.member_by_name("c")?.name());
+fn tell_members(rt: &HostRuntime, workspace: Workspace<'_>) {
     for (path, _) in workspace.iter_by_path() {
         tell(rt, path);
     }
@@ -63,11 +68,26 @@ fn ask_members(rt: &impl Print, world: &World<'_>) -> Result<(), Error> {
     }
     tell(rt, workspace.default_member_ids().len());
     tell_line(rt, &workspace.member_count());
+}
+
+fn ask_members(rt: &HostRuntime, world: &World<'_>) -> Result<(), Error> {
+    let workspace = world.graph.workspace();
+    begin(rt);
+    tell(rt, workspace.member_by_path(Utf8Path::new("b/."))?.name());
+    tell(rt, workspace.member_by_name("c")?.name());
+    tell_members(rt, workspace);
     Ok(())
 }
 
+fn tell_link(rt: &HostRuntime, link: PackageLink<'_>) {
+    let status = link.normal().status();
+    let value = status.required_on(&PlatformSpec::Always, &KnowsNothing);
+    tell(rt, link.dep_name());
+    tell(rt, value == EnabledTernary::Enabled);
+}
+
 // One of the fields that are texts, lists and statuses.
-fn tell_fields(rt: &impl Print, package: PackageMetadata<'_>) {
+fn tell_fields(rt: &HostRuntime, package: PackageMetadata<'_>) {
     tell(rt, package.id());
     tell(rt, package.in_workspace());
     tell(rt, package.edition());
@@ -76,58 +96,45 @@ fn tell_fields(rt: &impl Print, package: PackageMetadata<'_>) {
     tell(rt, package.reverse_direct_links().len());
     tell(rt, package.build_targets().len());
     for link in package.direct_links() {
-        let status = link.normal().status();
-        let value = status.required_on(&PlatformSpec::Always, &KnowsNothing);
-        tell(rt, link.dep_name());
-        tell(rt, value == EnabledTernary::Enabled);
+        tell_link(rt, link);
     }
     tell_line(rt, &"fields");
 }
 
-fn ask_fields(rt: &impl Print, world: &World<'_>) {
+fn ask_fields(rt: &HostRuntime, world: &World<'_>) {
     begin(rt);
     for package in world.graph.packages() {
         tell_fields(rt, package);
     }
 }
 
-fn leave_out_sections(alloc: Global, links: &mut [LinkRecord]) {
-    for link in links {
-        link.dev = DependencyReqImpl::never(alloc);
-    }
-}
-
-// A graph whose only link has no section.
-fn unasked_graph(alloc: Global) -> Result<PackageGraph, RunFault> {
-    let mut records = records_of(alloc, b"package a\npackage b\nlink a b dev\n")?;
-    leave_out_sections(alloc, records.links.as_mut_slice());
-    Ok(records.into_graph()?)
-}
-
-// No cycle is looked for.
-fn ask_verify(rt: &impl Print, alloc: Global) -> Result<(), RunFault> {
-    let graph = unasked_graph(alloc)?;
+// No cycle is looked for, since the only link has no section.
+fn ask_verify(rt: &HostRuntime, alloc: Global) -> Result<(), Error> {
+    let graph = graph_of(alloc, &["a", "b"], &[("a", "b", None)])?;
     begin(rt);
-    let verified = graph.verify();
-    Ok(verified?)
+    graph.verify()
 }
 
-fn tell_cycle(rt: &impl Print, cycle: CycleIds<'_>) {
+fn tell_cycle(rt: &HostRuntime, cycle: CycleIds<'_>) {
     for id in cycle {
-        tell(rt, id);
+        tell(rt, id.repr());
     }
     tell_line(rt, &"cycle");
 }
 
-fn ask_lists(rt: &impl Print, world: &World<'_>) {
+fn tell_cycles(rt: &HostRuntime, graph: &PackageGraph) {
+    for cycle in graph.cycles().all_cycles() {
+        tell_cycle(rt, cycle);
+    }
+    for cycle in graph.cycles().all_cycles().rev() {
+        tell_cycle(rt, cycle);
+    }
+}
+
+fn ask_lists(rt: &HostRuntime, world: &World<'_>) {
     begin(rt);
     tell_graph(rt, world.graph);
-    for cycle in world.graph.cycles().all_cycles() {
-        tell_cycle(rt, cycle);
-    }
-    for cycle in world.graph.cycles().all_cycles().rev() {
-        tell_cycle(rt, cycle);
-    }
+    tell_cycles(rt, world.graph);
     for package in world.x.packages(REVERSE) {
         tell(rt, package.name());
     }
@@ -136,44 +143,28 @@ fn ask_lists(rt: &impl Print, world: &World<'_>) {
     tell_set(rt, &world.x);
 }
 
-fn tell_iterators(
-    rt: &impl Print,
-    links: WalkedLinks<'_>,
-    ids: RootIds<'_>,
-    packages: RootPackages<'_>,
-) {
-    for link in links {
-        tell(rt, link.link_ix());
-    }
-    for id in ids {
-        tell(rt, id);
-    }
-    for package in packages {
-        tell(rt, package.name());
-    }
-    tell_line(rt, &"left");
-}
-
 // The iterators are made before.
-fn ask_iterators(rt: &impl Print, all: &PackageSet<'_>) -> Result<(), Error> {
+fn ask_iterators(rt: &HostRuntime, all: &PackageSet<'_>) -> Result<(), Error> {
     let links = all.links(FORWARD)?;
     let ids = all.root_ids(FORWARD)?;
     let packages = all.root_packages(REVERSE)?;
     begin(rt);
-    tell_iterators(rt, links, ids, packages);
+    lists::tell_links(rt, links);
+    lists::tell_ids(rt, ids);
+    lists::tell_packages(rt, packages);
     Ok(())
 }
 
-fn ask_cache(rt: &impl Print, world: &World<'_>) -> Result<(), Error> {
+fn ask_cache(rt: &HostRuntime, world: &World<'_>) -> Result<(), Error> {
     let mut cache = DependsCache::new(world.graph)?;
     begin(rt);
-    tell(rt, cache.depends_on(world.a, world.c)?);
-    tell(rt, cache.depends_on(world.c, world.a)?);
-    tell_line(rt, &cache.depends_on(world.c, world.b)?);
+    tell_depends(rt, &mut cache, world.a, world.c);
+    tell_depends(rt, &mut cache, world.c, world.a);
+    tell_depends(rt, &mut cache, world.c, world.b);
     Ok(())
 }
 
-fn tell_combined(rt: &impl Print, x: &mut IxSet<DevLinks>, y: &IxSet<DevLinks>)
+fn tell_combined(rt: &HostRuntime, x: &mut IxSet<DevLinks>, y: &IxSet<DevLinks>)
     requires { length x.old ≡ length y.now }
 {
     begin(rt);
@@ -185,16 +176,15 @@ fn tell_combined(rt: &impl Print, x: &mut IxSet<DevLinks>, y: &IxSet<DevLinks>)
     tell_positions(rt, x);
 }
 
-fn ask_positions(rt: &impl Print, alloc: Global) -> Result<(), AllocError> {
-    let graph = graph_of(alloc)?;
-    let mut x = set_of(&graph, &[0, 1])?;
-    let y = set_of(&graph, &[1, 2])?;
+fn ask_positions(rt: &HostRuntime, graph: &Graph<DevLinks>) -> Result<(), AllocError> {
+    let mut x = set_of(graph, &[0, 1])?;
+    let y = set_of(graph, &[1, 2])?;
     tell_combined(rt, &mut x, &y);
     Ok(())
 }
 
 // The same of the sets that resolves included.
-fn tell_cores(rt: &impl Print, x: &mut ResolveCore<DevLinks>, y: &ResolveCore<DevLinks>)
+fn tell_cores(rt: &HostRuntime, x: &mut ResolveCore<DevLinks>, y: &ResolveCore<DevLinks>)
     requires { length x.old ≡ length y.now }
 {
     begin(rt);
@@ -206,18 +196,16 @@ fn tell_cores(rt: &impl Print, x: &mut ResolveCore<DevLinks>, y: &ResolveCore<De
     tell_line(rt, &x.is_empty());
 }
 
-fn ask_cores(rt: &impl Print, alloc: Global) -> Result<(), AllocError> {
-    let graph = graph_of(alloc)?;
-    let mut x = ResolveCore::from_included(set_of(&graph, &[0, 1])?);
-    let y = ResolveCore::from_included(set_of(&graph, &[1, 2])?);
+fn ask_cores(rt: &HostRuntime, graph: &Graph<DevLinks>) -> Result<(), AllocError> {
+    let mut x = ResolveCore::from_included(set_of(graph, &[0, 1])?);
+    let y = ResolveCore::from_included(set_of(graph, &[1, 2])?);
     tell_cores(rt, &mut x, &y);
     Ok(())
 }
 
 // Positions are sorted by their places in an index.
-fn ask_index(rt: &impl Print, alloc: Global) -> Result<(), AllocError> {
-    let graph = graph_of(alloc)?;
-    let topo = index_of(&graph)?;
+fn ask_index(rt: &HostRuntime, graph: &Graph<DevLinks>) -> Result<(), AllocError> {
+    let topo = index_of(graph)?;
     let mut ixs = [PackageIx::new(2), PackageIx::new(0), PackageIx::new(1)];
     begin(rt);
     topo.sort_nodes(&mut ixs);
@@ -225,53 +213,70 @@ fn ask_index(rt: &impl Print, alloc: Global) -> Result<(), AllocError> {
     Ok(())
 }
 
+fn ask_graph(rt: &HostRuntime, graph: &Graph<DevLinks>, call: &str) -> Result<(), AllocError> {
+    match call {
+        "index" => ask_index(rt, graph),
+        "cores" => ask_cores(rt, graph),
+        _ => ask_positions(rt, graph),
+    }
+}
+
+fn ask_numbers(rt: &HostRuntime, alloc: Global, call: &str) -> Result<(), AllocError> {
+    let graph = positions::graph_of(alloc)?;
+    ask_graph(rt, &graph, call)
+}
+
 // Sorted sets, sources, paths and statuses.
-fn ask_data(rt: &impl Print, alloc: Global) -> Result<(), AllocError> {
-    let items = vec![in alloc; "b", "a", "b"]?;
-    let mut status = status_of(alloc, "x", "y")?;
-    let platform = PlatformSpec::one(alloc, ())?;
+fn tell_data(
+    rt: &HostRuntime,
+    items: Vec<&str>,
+    status: &mut PlatformStatusImpl,
+    platform: &PlatformSpec<()>,
+) -> Result<(), AllocError> {
     begin(rt);
     let set = SortedSet::new(items);
     tell(rt, set.contains(&"a"));
     tell(rt, ExternalSource::new("git+u?branch=b#r").is_some());
     tell(rt, Utf8Path::new("a/./b") == Utf8Path::new("a/b"));
-    let value = PlatformStatus::new(&status).enabled_on(&platform, &KnowsNothing);
+    let value = PlatformStatus::new(status).enabled_on(platform, &KnowsNothing);
     tell(rt, value == EnabledTernary::Unknown);
     status.add_spec(None)?;
     tell_line(rt, &status.is_never());
     Ok(())
 }
 
-fn ask_packages(rt: &impl Print, world: &World<'_>, call: &str) -> Result<(), Error> {
-    match call {
-        "look_ups" => ask_look_ups(rt, world)?,
-        "members" => ask_members(rt, world)?,
-        "iterators" => ask_iterators(rt, &world.graph.resolve_all()?)?,
-        "cache" => ask_cache(rt, world)?,
-        "fields" => ask_fields(rt, world),
-        _ => ask_lists(rt, world),
-    }
-    Ok(())
+fn ask_data(rt: &HostRuntime, alloc: Global) -> Result<(), AllocError> {
+    let mut status = status_of(alloc, "x", "y")?;
+    let platform = PlatformSpec::one(alloc, ())?;
+    let items = vec![in alloc; "b", "a", "b"]?;
+    tell_data(rt, items, &mut status, &platform)
 }
 
-fn ask_numbers(rt: &impl Print, alloc: Global, call: &str) -> Result<(), AllocError> {
-    match call {
-        "index" => ask_index(rt, alloc),
-        "data" => ask_data(rt, alloc),
-        "cores" => ask_cores(rt, alloc),
-        _ => ask_positions(rt, alloc),
+fn ask_views(rt: &HostRuntime, world: &World<'_>, call: &str) {
+    if call == "fields" {
+        ask_fields(rt, world);
+    } else {
+        ask_lists(rt, world);
     }
 }
 
 pub(crate) fn ask(
-    rt: &impl Print,
+    rt: &HostRuntime,
     alloc: Global,
     world: &World<'_>,
     call: &str,
-) -> Result<(), RunFault> {
+) -> Result<(), Error> {
     match call {
+        "look_ups" => ask_look_ups(rt, world),
+        "members" => ask_members(rt, world),
+        "iterators" => ask_iterators(rt, &world.all),
+        "cache" => ask_cache(rt, world),
         "verify" => ask_verify(rt, alloc),
-        "index" | "data" | "cores" | "positions" => Ok(ask_numbers(rt, alloc, call)?),
-        _ => Ok(ask_packages(rt, world, call)?),
+        "data" => Ok(ask_data(rt, alloc)?),
+        "index" | "cores" | "positions" => Ok(ask_numbers(rt, alloc, call)?),
+        _ => {
+            ask_views(rt, world, call);
+            Ok(())
+        }
     }
 }

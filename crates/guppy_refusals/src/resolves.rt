@@ -2,20 +2,24 @@
 ghost use Rattle.std.specs.Prelude.{◌≡◌, ◌==◌, ◌||◌, ℕ, ◌+◌, ◌%◌, ◌^◌, ◌<◌, true, length, not};
 ghost use Rattle.guppy.specs.Visitors.{MayVisitAt};
 
+use crate::records::Ends;
 use crate::told::{begin, tell, tell_calls, tell_line, tell_set};
-use crate::world::{World, graph_of_lines};
+use crate::world::{World, graph_of};
 use guppy::graph::DependencyDirection;
 use guppy::{
-    Error, PackageGraph, PackageLink, PackageLinkContext, PackageLinkVisitor, PackageQuery,
-    PackageSet,
+    DependencyKind, Error, PackageGraph, PackageLink, PackageLinkContext, PackageLinkVisitor,
+    PackageQuery, PackageSet,
 };
-use guppy_program::RunFault;
 use std::alloc::Global;
 
 const FORWARD: DependencyDirection = DependencyDirection::Forward;
 
-const DIAMOND: &[u8] = b"package a\npackage b\npackage c\npackage d\n\
-    link a b normal\nlink a c normal\nlink b d normal\nlink c d normal\n";
+const DIAMOND: [Ends; 4] = [
+    ("a", "b", Some(DependencyKind::Normal)),
+    ("a", "c", Some(DependencyKind::Normal)),
+    ("b", "d", Some(DependencyKind::Normal)),
+    ("c", "d", Some(DependencyKind::Normal)),
+];
 
 // Refuses its second call, and counts all.
 #[derive(Drop)]
@@ -43,7 +47,7 @@ fn resolved_with<'g, V: PackageLinkVisitor + Drop>(
 }
 
 // The visitor is lent, or handed over as a reference or behind a `dyn`.
-fn ask_counted(rt: &impl Print, query: PackageQuery<'_>, call: &str) -> Result<(), Error> {
+fn ask_counted(rt: &HostRuntime, query: PackageQuery<'_>, call: &str) -> Result<(), Error> {
     let mut counter = RefusesSecond { calls: 0 };
     tell_calls(rt, counter.calls);
     begin(rt);
@@ -60,7 +64,7 @@ fn ask_counted(rt: &impl Print, query: PackageQuery<'_>, call: &str) -> Result<(
     Ok(())
 }
 
-fn ask_closure(rt: &impl Print, query: PackageQuery<'_>, call: &str) -> Result<(), Error> {
+fn ask_closure(rt: &HostRuntime, query: PackageQuery<'_>, call: &str) -> Result<(), Error> {
     let mut calls = 0_usize;
     tell_calls(rt, calls);
     begin(rt);
@@ -78,7 +82,7 @@ fn ask_closure(rt: &impl Print, query: PackageQuery<'_>, call: &str) -> Result<(
     Ok(())
 }
 
-fn ask_recorded(rt: &impl Print, query: PackageQuery<'_>) -> Result<(), Error> {
+fn ask_recorded(rt: &HostRuntime, query: PackageQuery<'_>) -> Result<(), Error> {
     begin(rt);
     let (set, recorder) = query.resolve_recorded(RefusesSecond { calls: 0 })?;
     for (number, is_accepted) in &recorder.entries {
@@ -94,15 +98,20 @@ fn resolved_in_a_box<'g>(alloc: Global, query: PackageQuery<'g>) -> Result<Packa
     resolved_with(query, visitor)
 }
 
-fn ask_box(rt: &impl Print, alloc: Global, query: PackageQuery<'_>) -> Result<(), Error> {
+// What is told of no visitor.
+fn ask_set(
+    rt: &HostRuntime,
+    alloc: Global,
+    query: PackageQuery<'_>,
+    call: &str,
+) -> Result<(), Error> {
     begin(rt);
-    tell_set(rt, &resolved_in_a_box(alloc, query)?);
-    Ok(())
-}
-
-fn ask_plain(rt: &impl Print, query: PackageQuery<'_>) -> Result<(), Error> {
-    begin(rt);
-    tell_set(rt, &query.resolve()?);
+    let set = if call == "resolve" {
+        query.resolve()
+    } else {
+        resolved_in_a_box(alloc, query)
+    };
+    tell_set(rt, &set?);
     Ok(())
 }
 
@@ -128,10 +137,7 @@ impl PackageLinkVisitor for RefusesOnce {
     }
 }
 
-// Forward from the package a.
-fn ask_once(rt: &impl Print, graph: &PackageGraph) -> Result<(), Error> {
-    let first = graph.workspace().member_by_name("a")?;
-    let query = first.to_package_query(FORWARD)?;
+fn ask_once(rt: &HostRuntime, query: PackageQuery<'_>) -> Result<(), Error> {
     let mut visitor = RefusesOnce {
         calls: 0,
         has_refused: false,
@@ -144,14 +150,20 @@ fn ask_once(rt: &impl Print, graph: &PackageGraph) -> Result<(), Error> {
     Ok(())
 }
 
-fn ask_diamond(rt: &impl Print, alloc: Global) -> Result<(), RunFault> {
-    let graph = graph_of_lines(alloc, DIAMOND)?;
-    let asked = ask_once(rt, &graph);
-    Ok(asked?)
+// Forward from the package a.
+fn ask_graph(rt: &HostRuntime, graph: &PackageGraph) -> Result<(), Error> {
+    let first = graph.workspace().member_by_name("a")?;
+    let query = first.to_package_query(FORWARD)?;
+    ask_once(rt, query)
+}
+
+fn ask_diamond(rt: &HostRuntime, alloc: Global) -> Result<(), Error> {
+    let graph = graph_of(alloc, &["a", "b", "c", "d"], &DIAMOND)?;
+    ask_graph(rt, &graph)
 }
 
 // Copies the context at its first call, and keeps whether that was refused.
-fn ask_context(rt: &impl Print, query: PackageQuery<'_>) -> Result<(), Error> {
+fn ask_context(rt: &HostRuntime, query: PackageQuery<'_>) -> Result<(), Error> {
     let mut is_refused = false;
     let mut is_told = false;
     query.resolve_with_fn(|cx, link| {
@@ -171,12 +183,15 @@ fn ask_context(rt: &impl Print, query: PackageQuery<'_>) -> Result<(), Error> {
     Ok(())
 }
 
-fn ask_query(rt: &impl Print, alloc: Global, world: &World<'_>, call: &str) -> Result<(), Error> {
-    let query = world.query.clone()?;
+fn ask_query(
+    rt: &HostRuntime,
+    alloc: Global,
+    query: PackageQuery<'_>,
+    call: &str,
+) -> Result<(), Error> {
     match call {
-        "resolve" => ask_plain(rt, query),
+        "resolve" | "resolve_with_box" => ask_set(rt, alloc, query, call),
         "resolve_recorded" => ask_recorded(rt, query),
-        "resolve_with_box" => ask_box(rt, alloc, query),
         "resolve_with_fn" | "resolve_with_fn_mut" => ask_closure(rt, query, call),
         "context_clone" => ask_context(rt, query),
         _ => ask_counted(rt, query, call),
@@ -184,13 +199,14 @@ fn ask_query(rt: &impl Print, alloc: Global, world: &World<'_>, call: &str) -> R
 }
 
 pub(crate) fn ask(
-    rt: &impl Print,
+    rt: &HostRuntime,
     alloc: Global,
     world: &World<'_>,
     call: &str,
-) -> Result<(), RunFault> {
+) -> Result<(), Error> {
     if call == "diamond_under_refusals" {
         return ask_diamond(rt, alloc);
     }
-    Ok(ask_query(rt, alloc, world, call)?)
+    let query = world.query.clone()?;
+    ask_query(rt, alloc, query, call)
 }

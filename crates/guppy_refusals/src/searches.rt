@@ -11,7 +11,6 @@ use guppy::positions::{
     reachable_buffered, reachable_buffered_mut, reachable_filtered, reachable_recorded,
     reachable_with, reachable_with_fn,
 };
-use guppy_program::RunFault;
 use std::alloc::{AllocError, Global};
 
 const FORWARD: DependencyDirection = DependencyDirection::Forward;
@@ -78,7 +77,7 @@ fn with_filter(
 }
 
 fn ask_buffered(
-    rt: &impl Print,
+    rt: &HostRuntime,
     graph: &Graph<DevLinks>,
     start: &IxSet<DevLinks>,
     call: &str,
@@ -121,7 +120,7 @@ fn with_callback<F: FnMut(usize) -> bool>(
 }
 
 fn ask_closure(
-    rt: &impl Print,
+    rt: &HostRuntime,
     graph: &Graph<DevLinks>,
     start: &IxSet<DevLinks>,
     call: &str,
@@ -158,7 +157,7 @@ impl LinkVisitor for RefusesSecond {
     }
 }
 
-fn tell_entries(rt: &impl Print, entries: &[(usize, bool)]) {
+fn tell_entries(rt: &HostRuntime, entries: &[(usize, bool)]) {
     for (number, is_accepted) in entries {
         tell(rt, *number);
         tell(rt, *is_accepted);
@@ -168,7 +167,7 @@ fn tell_entries(rt: &impl Print, entries: &[(usize, bool)]) {
 
 // The recorder is made before, and lent.
 fn ask_lent(
-    rt: &impl Print,
+    rt: &HostRuntime,
     graph: &Graph<DevLinks>,
     start: &IxSet<DevLinks>,
 ) -> Result<(), AllocError>
@@ -199,7 +198,7 @@ fn recorded(
 }
 
 fn ask_recorded(
-    rt: &impl Print,
+    rt: &HostRuntime,
     graph: &Graph<DevLinks>,
     start: &IxSet<DevLinks>,
 ) -> Result<(), AllocError>
@@ -217,7 +216,7 @@ fn ask_recorded(
 }
 
 // Room for a search, and whether one leads from the first position to the last.
-fn ask_cache(rt: &impl Print, graph: &Graph<DevLinks>) -> Result<(), AllocError> {
+fn ask_cache(rt: &HostRuntime, graph: &Graph<DevLinks>) -> Result<(), AllocError> {
     begin(rt);
     let mut cache = ReachCache::new(graph)?;
     if graph.node_count() == 4 {
@@ -227,7 +226,7 @@ fn ask_cache(rt: &impl Print, graph: &Graph<DevLinks>) -> Result<(), AllocError>
     Ok(())
 }
 
-fn ask_graph(rt: &impl Print, graph: &Graph<DevLinks>, call: &str) -> Result<(), AllocError> {
+fn ask_graph(rt: &HostRuntime, graph: &Graph<DevLinks>, call: &str) -> Result<(), AllocError> {
     let start = set_of(graph, &[0])?;
     match call {
         "reachable_with_fn" | "reachable_filtered" | "with_edge_filter" | "with_edge_filter_mut" =>
@@ -239,8 +238,7 @@ fn ask_graph(rt: &impl Print, graph: &Graph<DevLinks>, call: &str) -> Result<(),
     }
 }
 
-pub(crate) fn ask(rt: &impl Print, alloc: Global, call: &str) -> Result<(), RunFault> {
+pub(crate) fn ask(rt: &HostRuntime, alloc: Global, call: &str) -> Result<(), AllocError> {
     let graph = graph_of(alloc)?;
-    let asked = ask_graph(rt, &graph, call);
-    Ok(asked?)
+    ask_graph(rt, &graph, call)
 }

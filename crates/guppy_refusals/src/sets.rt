@@ -2,30 +2,12 @@
 ghost use Rattle.std.specs.Prelude.{◌≡◌};
 ghost use Rattle.guppy.specs.Ids.{ids_of};
 
-use crate::told::{begin, tell_line, tell_set};
-use crate::world::World;
-use guppy::{Error, PackageSet, Utf8Path};
-use guppy_program::RunFault;
+use crate::told::{begin, tell_set};
+use crate::world::{World, names_of, paths_of};
+use guppy::{Error, PackageSet};
 
-// The set that a maker makes.
-fn made<'g>(rt: &impl Print, world: &World<'g>, call: &str) -> Result<PackageSet<'g>, Error> {
-    let graph = world.graph;
-    let paths = [Utf8Path::new("c/."), Utf8Path::new("a")];
-    let package = graph.metadata(world.b)?;
-    begin(rt);
-    match call {
-        "resolve_none" => graph.resolve_none(),
-        "resolve_workspace" => graph.resolve_workspace(),
-        "resolve_package_name" => graph.resolve_package_name("b"),
-        "resolve_ids" => graph.resolve_ids([world.c, world.a].into_iter()),
-        "resolve_workspace_paths" => graph.resolve_workspace_paths(paths.into_iter()),
-        "resolve_workspace_names" => graph.resolve_workspace_names(["c", "a"].into_iter()),
-        "unknown_path" => graph.resolve_workspace_paths([Utf8Path::new("z")].into_iter()),
-        "unknown_name" => graph.resolve_workspace_names(["a", "z"].into_iter()),
-        "to_package_set" => package.to_package_set(),
-        "clone" => return Ok(world.x.clone()?),
-        _ => graph.resolve_all(),
-    }
+fn copied<'g>(set: &PackageSet<'g>) -> Result<PackageSet<'g>, Error> {
+    Ok(set.clone()?)
 }
 
 fn combined<'g>(x: &PackageSet<'g>, y: &PackageSet<'_>, call: &str) -> Result<PackageSet<'g>, Error>
@@ -39,27 +21,45 @@ fn combined<'g>(x: &PackageSet<'g>, y: &PackageSet<'_>, call: &str) -> Result<Pa
     }
 }
 
-fn ask_combined(rt: &impl Print, world: &World<'_>, call: &str) -> Result<(), Error> {
-    if !world.x.same_packages(&world.y) {
-        tell_line(rt, &"sets of two graphs");
-        return Ok(());
+// Sets of two graphs aren't combined.
+fn made_of_sets<'g>(world: &World<'g>, call: &str) -> Result<PackageSet<'g>, Error> {
+    if world.x.same_packages(&world.y) {
+        combined(&world.x, &world.y, call)
+    } else {
+        world.graph.resolve_none()
     }
-    begin(rt);
-    tell_set(rt, &combined(&world.x, &world.y, call)?);
-    Ok(())
 }
 
-fn ask_made(rt: &impl Print, world: &World<'_>, call: &str) -> Result<(), Error> {
-    tell_set(rt, &made(rt, world, call)?);
-    Ok(())
-}
-
-pub(crate) fn ask(rt: &impl Print, world: &World<'_>, call: &str) -> Result<(), RunFault> {
-    let asked = match call {
-        "union" | "intersection" | "difference" | "symmetric_difference" => {
-            ask_combined(rt, world, call)
+// Of packages that are listed, or else of sets.
+fn made_of_list<'g>(world: &World<'g>, call: &str) -> Result<PackageSet<'g>, Error> {
+    let graph = world.graph;
+    match call {
+        "resolve_ids" => graph.resolve_ids([world.c, world.a].into_iter()),
+        "resolve_workspace_names" | "unknown_name" => {
+            graph.resolve_workspace_names(names_of(call).into_iter())
         }
-        _ => ask_made(rt, world, call),
-    };
-    Ok(asked?)
+        "resolve_workspace_paths" | "unknown_path" => {
+            graph.resolve_workspace_paths(paths_of(call).into_iter())
+        }
+        _ => made_of_sets(world, call),
+    }
+}
+
+fn made<'g>(world: &World<'g>, call: &str) -> Result<PackageSet<'g>, Error> {
+    match call {
+        "resolve_all" => world.graph.resolve_all(),
+        "resolve_none" => world.graph.resolve_none(),
+        "resolve_workspace" => world.graph.resolve_workspace(),
+        "resolve_package_name" => world.graph.resolve_package_name("b"),
+        "to_package_set" => world.graph.metadata(world.b)?.to_package_set(),
+        "clone" => copied(&world.x),
+        _ => made_of_list(world, call),
+    }
+}
+
+pub(crate) fn ask(rt: &HostRuntime, world: &World<'_>, call: &str) -> Result<(), Error> {
+    begin(rt);
+    let set = made(world, call)?;
+    tell_set(rt, &set);
+    Ok(())
 }

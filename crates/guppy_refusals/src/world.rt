@@ -1,13 +1,17 @@
 //! What stands before a case begins: a graph, sets and a query of it.
+use crate::records::{Ends, id_of, records_of};
 use crate::told::{tell, tell_line, tell_set};
 use guppy::graph::DependencyDirection;
-use guppy::{Error, IntoGraph, PackageGraph, PackageId, PackageQuery, PackageSet};
-use guppy_program::{RunFault, records_of};
+use guppy::{Error, IntoGraph, PackageGraph, PackageId, PackageQuery, PackageSet, Utf8Path};
 use std::alloc::Global;
 
-/// The graph of these lines.
-pub(crate) fn graph_of_lines(alloc: Global, lines: &[u8]) -> Result<PackageGraph, RunFault> {
-    Ok(records_of(alloc, lines)?.into_graph()?)
+/// The graph of packages with these names, and of links with these ends.
+pub(crate) fn graph_of(
+    alloc: Global,
+    names: &[&str],
+    ends: &[Ends],
+) -> Result<PackageGraph, Error> {
+    records_of(alloc, names, ends)?.into_graph()
 }
 
 /// A graph, and what was made of it.
@@ -17,57 +21,111 @@ pub(crate) struct World<'g> {
     pub(crate) a: &'g PackageId,
     pub(crate) b: &'g PackageId,
     pub(crate) c: &'g PackageId,
+    /// Of no package
+    pub(crate) z: PackageId,
     /// a and b
     pub(crate) x: PackageSet<'g>,
     /// b and c
     pub(crate) y: PackageSet<'g>,
+    /// All packages
+    pub(crate) all: PackageSet<'g>,
     /// Forward from a
     pub(crate) query: PackageQuery<'g>,
 }
 
+fn member<'g>(graph: &'g PackageGraph, name: &str) -> Result<&'g PackageId, Error> {
+    Ok(graph.workspace().member_by_name(name)?.id())
+}
+
+// The sets of a and b, and of b and c.
+fn pairs_of<'g>(
+    graph: &'g PackageGraph,
+    a: &'g PackageId,
+    b: &'g PackageId,
+    c: &'g PackageId,
+) -> Result<(PackageSet<'g>, PackageSet<'g>), Error> {
+    let x = graph.resolve_ids([a, b].into_iter())?;
+    let y = graph.resolve_ids([b, c].into_iter())?;
+    Ok((x, y))
+}
+
+// The set of all packages, and the query.
+fn start_of<'g>(
+    graph: &'g PackageGraph,
+    a: &PackageId,
+) -> Result<(PackageSet<'g>, PackageQuery<'g>), Error> {
+    let all = graph.resolve_all()?;
+    let query = graph.query_forward([a].into_iter())?;
+    Ok((all, query))
+}
+
 impl<'g> World<'g> {
-    pub(crate) fn new(graph: &'g PackageGraph) -> Result<Self, Error> {
-        let workspace = graph.workspace();
-        let a = workspace.member_by_name("a")?.id();
-        let b = workspace.member_by_name("b")?.id();
-        let c = workspace.member_by_name("c")?.id();
-        let query = graph.query_forward([a].into_iter())?;
-        let x = graph.resolve_ids([a, b].into_iter())?;
-        let y = graph.resolve_ids([b, c].into_iter())?;
+    fn of_members(
+        graph: &'g PackageGraph,
+        a: &'g PackageId,
+        b: &'g PackageId,
+        c: &'g PackageId,
+    ) -> Result<Self, Error> {
+        let (x, y) = pairs_of(graph, a, b, c)?;
+        let (all, query) = start_of(graph, a)?;
+        let z = id_of(graph.alloc(), "z");
         Ok(World {
             graph,
             a,
             b,
             c,
+            z,
             x,
             y,
+            all,
             query,
         })
+    }
+
+    pub(crate) fn new(graph: &'g PackageGraph) -> Result<Self, Error> {
+        let a = member(graph, "a")?;
+        let b = member(graph, "b")?;
+        let c = member(graph, "c")?;
+        World::of_members(graph, a, b, c)
+    }
+}
+
+/// The paths of the members c and a, or in the place of the first one that is no member's.
+pub(crate) fn paths_of(call: &str) -> [Utf8Path<'static>; 2] {
+    let first = if call == "unknown_path" { "z" } else { "c/." };
+    [Utf8Path::new(first), Utf8Path::new("a")]
+}
+
+/// The names of the members c and a, or in the place of the last one that is no member's.
+pub(crate) fn names_of(call: &str) -> [&'static str; 2] {
+    ["c", if call == "unknown_name" { "z" } else { "a" }]
+}
+
+fn tell_links(rt: &HostRuntime, graph: &PackageGraph, id: &PackageId) {
+    if let Ok(package) = graph.metadata(id) {
+        for link in package.direct_links() {
+            tell(rt, if link.dev_only() { "~" } else { ">" });
+            tell(rt, link.to().name());
+        }
     }
 }
 
 /// Each package, in the order of the workspace, with the links that leave it.
-pub(crate) fn tell_graph(rt: &impl Print, graph: &PackageGraph) {
+pub(crate) fn tell_graph(rt: &HostRuntime, graph: &PackageGraph) {
     for id in graph.workspace().member_ids() {
-        tell(rt, id);
-        if let Ok(package) = graph.metadata(id) {
-            for link in package.direct_links() {
-                let kind = if link.dev_only() { "~" } else { ">" };
-                tell(rt, kind);
-                tell(rt, link.to().id());
-            }
-        }
+        tell(rt, id.repr());
+        tell_links(rt, graph, id);
     }
     tell_line(rt, &graph.link_count());
 }
 
-pub(crate) fn tell_query(rt: &impl Print, query: &PackageQuery<'_>) {
+pub(crate) fn tell_query(rt: &HostRuntime, query: &PackageQuery<'_>) {
     let is_forward = query.direction() == DependencyDirection::Forward;
     tell(rt, if is_forward { "from" } else { "to" });
     tell_set(rt, query.initials());
 }
 
-pub(crate) fn tell_world(rt: &impl Print, world: &World<'_>) {
+pub(crate) fn tell_world(rt: &HostRuntime, world: &World<'_>) {
     tell_graph(rt, world.graph);
     tell_set(rt, &world.x);
     tell_set(rt, &world.y);
