@@ -336,7 +336,7 @@ const PACKAGES: &[(&str, &str)] = &[
         "packages[0].dependencies[0].optional: no truth value",
     ),
     (
-        "{\"id\": \"a\", \"dependencies\": [], \"manifest_path\": \"\", \"version\": \"\"}",
+        "{\"id\": \"a\", \"dependencies\": [], \"targets\": [], \"version\": \"\"}",
         "packages[0].version: no version: empty string, expected a semver version",
     ),
 ];
@@ -349,7 +349,10 @@ const FIELDS: &[(&str, &str)] = &[
         "\"targets\": [], \"keywords\": [\"\", 1]",
         "packages[0].keywords[1]: no text",
     ),
-    ("\"license\": []", "packages[0].license: no text"),
+    (
+        "\"targets\": [], \"license\": []",
+        "packages[0].license: no text",
+    ),
     ("\"targets\": 1", "packages[0].targets: no list"),
     (
         "\"targets\": [{\"name\": \"t\"}]",
