@@ -8,14 +8,19 @@ its must-fail edits, in processor seconds at one job.
     bench/gate.py --functions guppy_core    of its proof, the functions and the parts that take longest
     bench/gate.py --edits guppy_core    the edits alone, over what `rt check` kept in out/
     bench/gate.py --bugs guppy_core     the same, with each bug by itself of the lists in bugs/ and of shared edits
+    bench/gate.py --cuts [guppy_core]   each crate proved with nothing but what its edits set aside, over the libraries in out/
     bench/gate.py --apply    tries nothing: tells the bugs of the lists in bugs/ that no longer fit the sources
 
 It calls the functions of `rt` (which has to be on the path) that the gate calls, one after the other, so the
-sum is the gate's, but for the runs of the program and the tests. Without --edits and --bugs it proves everything
-from nothing, and works on a copy of the repository.
+sum is the gate's, but for the runs of the program and the tests. Without --edits, --bugs and --cuts it proves
+everything from nothing, and works on a copy of the repository.
 
 Of an edit that is shared, the gate asks that the whole is refused, and of a list in bugs/ nothing; --bugs asks it of each
 bug. A line `bug: NAME` begins a bug that takes all pairs up to the next blank line; any other pair is a bug alone.
+
+An edit that is the only one of its crate pays for the whole proof. So a line `# set aside` begins pairs, up to the next blank
+line, that take away what the edit's bugs don't stand on: an item behind #[cfg(test)] is read for the crate's tests alone. They
+are no bug: each of the edit's bugs is planted together with them, and --cuts asks that they by themselves are proved.
 """
 import glob
 import importlib.machinery
@@ -32,7 +37,8 @@ from pathlib import Path
 sys.dont_write_bytecode = True
 TOP = os.path.dirname(os.path.dirname(os.path.realpath(__file__)))
 ONE_JOB = ["--jobs", "1"]
-EDITS_ALONE = ("--edits", "--bugs")
+EDITS_ALONE = ("--edits", "--bugs", "--cuts")
+SET_ASIDE = "# set aside"
 
 
 def load_rt():
@@ -61,25 +67,28 @@ def tell(part, name, seconds, well, more=""):
 
 
 class Bug:
-    """A bug of a shared edit: its name, and its pairs as (path, old, new)."""
+    """A bug of a shared edit, or what it sets aside: its name, and its pairs as (path, old, new)."""
 
     def __init__(self, name):
         self.name, self.pairs = name, []
+
+    def is_cut(self):
+        return self.name.startswith(SET_ASIDE)
 
     def changes_nothing(self):
         """Holds of a pair that only moves spaces, so that a later pair's text is found once."""
         return all("".join(old.split()) == "".join(new.split()) for _, old, new in self.pairs)
 
 
-def bugs_of(text):
-    """Cuts a shared edit into its bugs."""
+def parts_of(text):
+    """Cuts an edit into what it sets aside and its bugs, in their order."""
     bugs, named, path, old = [], None, "", ""
     for line in text.split("\n"):
         word, _, rest = line.partition(" ")
         if not line:
             named = None
-        elif word == "bug:":
-            named = Bug(rest)
+        elif word == "bug:" or line.startswith(SET_ASIDE):
+            named = Bug(rest if word == "bug:" else line)
             bugs.append(named)
         elif word == "file:":
             path = rest.strip()
@@ -94,10 +103,16 @@ def bugs_of(text):
     return bugs
 
 
-def lines_with(folder, bugs, wanted):
-    """Returns the files' texts with one bug alone. A pair is found in what those before it made of the text, and its line changed."""
-    found, texts = {}, {}
-    for bug in bugs:
+def bugs_of(text):
+    """Cuts a shared edit into its bugs."""
+    return [part for part in parts_of(text) if not part.is_cut()]
+
+
+def lines_with(folder, parts, wanted=None):
+    """Returns the files' texts with what is set aside and one bug alone, or with none. A pair is found in what those before it made
+    of the text, and its line changed."""
+    found, texts, taken = {}, {}, set()
+    for bug in parts:
         for path, old, new in bug.pairs:
             if path not in found:
                 with open(f"{folder}/{path}", encoding="utf-8") as it:
@@ -105,20 +120,21 @@ def lines_with(folder, bugs, wanted):
                 texts[path] = found[path].split("\n")
             at = found[path][: found[path].index(old)].count("\n")
             found[path] = found[path].replace(old, new)
-            if bug is wanted:
+            if bug is wanted or bug.is_cut():
                 texts[path][at] = texts[path][at].replace(old, new, 1)
-    return {path: "\n".join(texts[path]) for path, _, _ in wanted.pairs}
+                taken.add(path)
+    return {path: "\n".join(texts[path]) for path in taken}
 
 
 def measure_bugs(rt, crate, edit, kept):
     """Tries each bug of an edit by itself, as the gate tries an edit."""
     with open(edit, encoding="utf-8") as it:
-        bugs = bugs_of(it.read())
+        parts = parts_of(it.read())
     read_edit, whole = rt.read_edit, 0.0
-    for bug in bugs:
-        if bug.changes_nothing():
+    for bug in parts:
+        if bug.is_cut() or bug.changes_nothing():
             continue
-        rt.read_edit = lambda _edit, folder: (lines_with(folder, bugs, bug), None)
+        rt.read_edit = lambda _edit, folder: (lines_with(folder, parts, bug), None)
         (refused, text), seconds = seconds_of(rt.must_fail, crate, bug.name, ONE_JOB, kept)
         whole += seconds
         tell("bug", f"{crate.name}: {bug.name}", seconds, refused, "" if refused else f": {text}")
@@ -126,10 +142,22 @@ def measure_bugs(rt, crate, edit, kept):
     return whole
 
 
-def is_shared(edit):
-    """Holds of an edit that plants several bugs."""
+def measure_cut(rt, crate, edit):
+    """Asks that the crate is proved with what an edit sets aside, where it sets anything aside."""
     with open(edit, encoding="utf-8") as it:
-        return it.read().startswith("bug: ")
+        parts = parts_of(it.read())
+    if not any(part.is_cut() for part in parts):
+        return 0.0
+    ran, seconds = seconds_of(rt.checked, crate, lines_with(crate.folder, parts), ONE_JOB, None)
+    said = next((line for line in ran.stdout.split("\n") if ": error" in line), "") if ran.returncode else ""
+    tell("cut", f"{crate.name}/{os.path.basename(edit)}", seconds, not ran.returncode, f": {said}" if said else "")
+    return seconds
+
+
+def is_shared(edit):
+    """Holds of an edit that plants named bugs."""
+    with open(edit, encoding="utf-8") as it:
+        return any(line.startswith("bug: ") for line in it)
 
 
 def lists_of(folder):
@@ -143,7 +171,7 @@ def bugs_that_miss():
     for edit in lists_of(f"{TOP}/crates/*"):
         folder = os.path.dirname(os.path.dirname(edit))
         with open(edit, encoding="utf-8") as it:
-            bugs = bugs_of(it.read())
+            bugs = parts_of(it.read())
         texts = {}
         for bug in bugs:
             for path, old, new in bug.pairs:
@@ -205,6 +233,8 @@ def measure_functions(rt, crate):
 def measure(rt, crate, parts):
     if parts == "--functions":
         return measure_functions(rt, crate)
+    if parts == "--cuts":
+        return sum(measure_cut(rt, crate, edit) for edit in rt.edits_of(crate)[0])
     if parts in EDITS_ALONE:
         kept = f"{crate.folder}/out/incremental"
         with tempfile.TemporaryDirectory() as room:
