@@ -9,7 +9,7 @@ its must-fail edits, in processor seconds at one job.
     bench/gate.py --edits guppy_core    the edits alone, over what `rt check` kept in out/
     bench/gate.py --bugs guppy_core     the same, with each bug by itself of the lists in bugs/ and of shared edits
     bench/gate.py --cuts [guppy_core]   each crate proved with nothing but what its edits set aside, over the libraries in out/
-    bench/gate.py --apply    tries nothing: tells the bugs of the lists in bugs/ that no longer fit the sources
+    bench/gate.py --apply    tries nothing: tells what of the edits and of the lists in bugs/ no longer fits the sources
 
 It calls the functions of `rt` (which has to be on the path) that the gate calls, one after the other, so the
 sum is the gate's, but for the runs of the program and the tests. Without --edits, --bugs and --cuts it proves
@@ -166,9 +166,10 @@ def lists_of(folder):
 
 
 def bugs_that_miss():
-    """Tells each bug of the lists whose text doesn't stand in the sources, and returns how many there are."""
-    missing = 0
-    for edit in lists_of(f"{TOP}/crates/*"):
+    """Tells each bug of the edits and lists whose text doesn't stand in the sources, and returns how many there are. (rt ci passes
+    over an edit that it can't apply.)"""
+    missing, lists = 0, lists_of(f"{TOP}/crates/*")
+    for edit in sorted(glob.glob(f"{TOP}/crates/*/must-fail/*.edit")) + lists:
         folder = os.path.dirname(os.path.dirname(edit))
         with open(edit, encoding="utf-8") as it:
             bugs = parts_of(it.read())
@@ -178,8 +179,9 @@ def bugs_that_miss():
                 if path not in texts:
                     with open(f"{folder}/{path}", encoding="utf-8") as it:
                         texts[path] = it.read()
-                if old not in texts[path]:
-                    print(f"{os.path.relpath(edit, TOP)}: {bug.name}: {path} has no {old.strip()}")
+                found = texts[path].count(old)
+                if found != 1 and not (found and edit in lists):
+                    print(f"{os.path.relpath(edit, TOP)}: {bug.name}: {path} has {found or 'no'} {old.strip()}")
                     missing += 1
                 texts[path] = texts[path].replace(old, new)
     return missing
