@@ -12,7 +12,7 @@ use Rattle.guppy_data.specs.declared.records.DepRequiredOrOptional.{DepRequiredO
 use Rattle.guppy_data.specs.declared.records.LinkRecord.{LinkRecord}
 use Rattle.guppy_data.specs.declared.texts.dependency_kind.DependencyKind.{DependencyKind}
 use Rattle.guppy_data.specs.declared.texts.dependency_kind.DependencyKind.TheVariants.{Normal, Development, Build}
-use Rattle.guppy_metadata.specs.declared.declared.Declared.{Declared}
+use Rattle.guppy_metadata.specs.declared.types.Declared.{Declared}
 use Rattle.guppy_metadata.specs.Dependency.{AreAsked, IsDeclared, manifest_name}
 use Rattle.guppy_metadata.specs.Gathered.{status_for, asked_too, asks_for, feature_status, targets_of, IsSide, IsSection, same_section, is_of_section, first_of, IsGathered, IsNamedAs, IsLinkOf}
 use Rattle.guppy_metadata.proofs.AlikeLists.{made_alike, flat_alike, picked_alike}

@@ -4,9 +4,9 @@ use Rattle.std.specs.Str.{bytes_eq}
 use Rattle.std.proofs.lemmas.Bool.{eqb-true, or_cases}
 use Rattle.std.proofs.lemmas.Slice.Eq.{bytes_eq-Decides}
 use Rattle.semver.proofs.Segments.{and-left, and-right}
-use Rattle.guppy_metadata.specs.declared.declared.Declared.{Declared}
-use Rattle.guppy_metadata.specs.declared.resolved.Resolved.{Resolved}
-use Rattle.guppy_metadata.specs.declared.package.Package.{Package}
+use Rattle.guppy_metadata.specs.declared.types.Declared.{Declared}
+use Rattle.guppy_metadata.specs.declared.types.Resolved.{Resolved}
+use Rattle.guppy_metadata.specs.declared.types.Package.{Package}
 use Rattle.guppy_metadata.specs.Fits.{stands_for, is_named, letter_in_code, in_code, used_name, has_name, takes, is_used, fits}
 
 letter_once : (letter code : ℕ) → stands_for letter code ≡ true → letter_in_code letter ≡ letter_in_code code

@@ -10,7 +10,7 @@ use Rattle.std.proofs.lemmas.List.Sums.{fold-append}
 use Rattle.indexmap.specs.IndexSet.{insert_key, insert_all}
 use Rattle.guppy_data.proofs.ListedNames.{list_any-map}
 use Rattle.guppy_metadata.specs.Dependency.{manifest_name, optional_name}
-use Rattle.guppy_metadata.specs.declared.declared.Declared.{Declared}
+use Rattle.guppy_metadata.specs.declared.types.Declared.{Declared}
 use Rattle.guppy_metadata.proofs.FittingLists.{take_with}
 
 -- what is read of texts after one is put among them

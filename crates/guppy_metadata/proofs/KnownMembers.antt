@@ -8,7 +8,7 @@ use Rattle.std.specs.Str.{bytes_eq}
 use Rattle.std.proofs.Math.Bool.{or-true, or-false}
 use Rattle.std.proofs.lemmas.Bool.Decides.{same_from_decides}
 use Rattle.std.proofs.lemmas.Slice.Eq.{bytes_eq-Decides}
-use Rattle.guppy_metadata.specs.declared.package.Package.{Package}
+use Rattle.guppy_metadata.specs.declared.types.Package.{Package}
 use Rattle.guppy_metadata.specs.Members.{is_among}
 use Rattle.guppy_metadata.specs.Package.{with_id}
 

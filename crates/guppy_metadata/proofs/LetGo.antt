@@ -11,7 +11,7 @@ use Rattle.indexmap.specs.IndexMap.{IndexMap}
 use Rattle.semver.specs.Identifiers.{parts_of}
 use Rattle.guppy_data.specs.declared.records.LinkRecord.{LinkRecord}
 use Rattle.guppy_data.specs.declared.records.PackageRecord.{PackageRecord}
-use Rattle.guppy_metadata.specs.declared.package.Package.{Package}
+use Rattle.guppy_metadata.specs.declared.types.Package.{Package}
 use Rattle.guppy_metadata.specs.Links.{AreLinksOf, AreLinksOfList, AreLinksWith}
 use Rattle.guppy_metadata.specs.Members.{IsListOf}
 use Rattle.guppy_metadata.specs.Package.{IsFrom, IsNamed, IsDetailed, IsTold, IsRecordOf, IsLetGo, AreLeft, ArePositions, last_position}

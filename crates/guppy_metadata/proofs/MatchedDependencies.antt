@@ -2,10 +2,10 @@
 use Rattle.std.proofs.Common.{◌≡◌, ◌∙◌, ℕ, Bool, true, false, ◌&&◌, cond, List, [], ◌∷◌, filter, Some, IfSome, slice_get, refl, sym, ap, subst}
 use Rattle.std.specs.List.{list_any}
 use Rattle.std.specs.Prelude.{unwrap_or}
-use Rattle.guppy_metadata.specs.declared.declared.Declared.{Declared}
-use Rattle.guppy_metadata.specs.declared.resolved.Resolved.{Resolved}
-use Rattle.guppy_metadata.specs.declared.resolved.Usage.{Usage}
-use Rattle.guppy_metadata.specs.declared.package.Package.{Package}
+use Rattle.guppy_metadata.specs.declared.types.Declared.{Declared}
+use Rattle.guppy_metadata.specs.declared.types.Resolved.{Resolved}
+use Rattle.guppy_metadata.specs.declared.types.Usage.{Usage}
+use Rattle.guppy_metadata.specs.declared.types.Package.{Package}
 use Rattle.guppy_metadata.specs.Fits.{fits, same_usage, is_matched, are_matched}
 
 module _ {A : Type 0} (p : A → Bool) where

@@ -10,7 +10,7 @@ use Rattle.json.specs.Value.{items_of}
 use Rattle.serde_json.specs.View.{view}
 use Rattle.guppy_data.specs.declared.records.LinkRecord.{LinkRecord}
 use Rattle.guppy_data.specs.declared.records.WorkspaceRecord.{WorkspaceRecord}
-use Rattle.guppy_metadata.specs.declared.package.Package.{Package}
+use Rattle.guppy_metadata.specs.declared.types.Package.{Package}
 use Rattle.guppy_metadata.specs.Links.{AreLinksWith, AreLinksOfList}
 use Rattle.guppy_metadata.specs.Members.{IsListOf, AreTexts, unless_null}
 use Rattle.guppy_metadata.specs.Package.{IsTold, AreTold}

@@ -6,7 +6,7 @@ use Rattle.std.specs.Prelude.{IsSomeAnd}
 use Rattle.json.specs.Json.{Json, string}
 use Rattle.json.specs.Find.{get}
 use Rattle.guppy_data.specs.declared.records.PackageRecord.{PackageRecord}
-use Rattle.guppy_metadata.specs.declared.package.Package.{Package}
+use Rattle.guppy_metadata.specs.declared.types.Package.{Package}
 use Rattle.guppy_metadata.specs.Dependency.{IsDeclared, NamesOptional}
 use Rattle.guppy_metadata.specs.Members.{is_among, are_among, list_of, IsListOf}
 use Rattle.guppy_metadata.specs.Package.{IsFrom, IsTold, AreTold, AreAskedTargets, IsRecordOf, IsPackage, ArePackagesWith, are_known}

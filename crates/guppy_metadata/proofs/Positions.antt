@@ -8,7 +8,7 @@ use Rattle.std.specs.Option.{option_copied, option_or}
 use Rattle.std.specs.Str.{bytes_eq}
 use Rattle.std.proofs.lemmas.Option.{slice_get_past, slice_get_read}
 use Rattle.indexmap.specs.IndexMap.{IndexMap, get_by_text}
-use Rattle.guppy_metadata.specs.declared.package.Package.{Package}
+use Rattle.guppy_metadata.specs.declared.types.Package.{Package}
 use Rattle.guppy_metadata.specs.Package.{last_position, with_id, ArePositions}
 
 -- the position where one more ID is behind the others

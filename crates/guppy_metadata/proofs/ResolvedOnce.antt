@@ -4,8 +4,8 @@ use Rattle.std.specs.List.{AllZip}
 use Rattle.std.specs.Option.{option_copied}
 use Rattle.json.specs.Json.{Json}
 use Rattle.json.specs.Find.{get}
-use Rattle.guppy_metadata.specs.declared.resolved.Resolved.{Resolved}
-use Rattle.guppy_metadata.specs.declared.resolved.Usage.{Usage}
+use Rattle.guppy_metadata.specs.declared.types.Resolved.{Resolved}
+use Rattle.guppy_metadata.specs.declared.types.Usage.{Usage}
 use Rattle.guppy_metadata.specs.Links.{IsUsage, IsResolved}
 use Rattle.guppy_metadata.proofs.AlikeLists.{lists_fit}
 use Rattle.guppy_metadata.proofs.OnceTold.{text_once, optional_text_once, section_once}

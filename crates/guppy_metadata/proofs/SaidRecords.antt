@@ -6,7 +6,7 @@ use Rattle.json.specs.Value.{items_of}
 use Rattle.guppy_data.specs.declared.records.LinkRecord.{LinkRecord}
 use Rattle.guppy_data.specs.declared.records.PackageRecord.{PackageRecord}
 use Rattle.guppy_data.specs.declared.records.WorkspaceRecord.{WorkspaceRecord}
-use Rattle.guppy_metadata.specs.declared.package.Package.{Package}
+use Rattle.guppy_metadata.specs.declared.types.Package.{Package}
 use Rattle.guppy_metadata.specs.Links.{AreLinksOfAll, AreLinksOfList, nodes_in}
 use Rattle.guppy_metadata.specs.Members.{are_among, is_among, list_of}
 use Rattle.guppy_metadata.specs.Package.{AreTold, are_known}

@@ -13,10 +13,10 @@ use Rattle.semver.specs.declared.VersionReq.{VersionReq}
 use Rattle.semver.proofs.EvalViews.{matches_all-views, matches_all-read}
 use Rattle.semver.proofs.Numerals.{ok-value}
 use Rattle.guppy_data.specs.declared.records.LinkRecord.{LinkRecord}
-use Rattle.guppy_metadata.specs.declared.declared.Declared.{Declared}
-use Rattle.guppy_metadata.specs.declared.resolved.Resolved.{Resolved}
-use Rattle.guppy_metadata.specs.declared.resolved.Usage.{Usage}
-use Rattle.guppy_metadata.specs.declared.package.Package.{Package}
+use Rattle.guppy_metadata.specs.declared.types.Declared.{Declared}
+use Rattle.guppy_metadata.specs.declared.types.Resolved.{Resolved}
+use Rattle.guppy_metadata.specs.declared.types.Usage.{Usage}
+use Rattle.guppy_metadata.specs.declared.types.Package.{Package}
 use Rattle.guppy_metadata.specs.Dependency.{IsDeclared}
 use Rattle.guppy_metadata.specs.Fits.{used_name, takes, same_usage, is_used, fits, is_matched, are_matched}
 use Rattle.guppy_metadata.specs.Gathered.{IsLinkOf}

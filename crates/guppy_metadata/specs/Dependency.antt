@@ -13,7 +13,7 @@ use Rattle.json.specs.Find.{get}
 use Rattle.indexmap.specs.IndexSet.{IndexSet, insert_all}
 use Rattle.guppy_data.specs.declared.texts.dependency_kind.DependencyKind.{DependencyKind}
 use Rattle.guppy_data.specs.declared.texts.dependency_kind.DependencyKind.TheVariants.{Normal, Development, Build}
-use Rattle.guppy_metadata.specs.declared.declared.Declared.{Declared}
+use Rattle.guppy_metadata.specs.declared.types.Declared.{Declared}
 use Rattle.guppy_metadata.specs.Members.{IsText, IsTruth, IsListOf, AreTexts}
 
 -- the section that the member `kind` names: the normal one where there is none

@@ -7,10 +7,10 @@ use Rattle.std.specs.Str.{bytes_eq}
 use Rattle.semver.specs.Eval.{matches_all}
 use Rattle.semver.specs.declared.Version.{Version}
 use Rattle.semver.specs.declared.VersionReq.{VersionReq}
-use Rattle.guppy_metadata.specs.declared.declared.Declared.{Declared}
-use Rattle.guppy_metadata.specs.declared.resolved.Resolved.{Resolved}
-use Rattle.guppy_metadata.specs.declared.resolved.Usage.{Usage}
-use Rattle.guppy_metadata.specs.declared.package.Package.{Package}
+use Rattle.guppy_metadata.specs.declared.types.Declared.{Declared}
+use Rattle.guppy_metadata.specs.declared.types.Resolved.{Resolved}
+use Rattle.guppy_metadata.specs.declared.types.Usage.{Usage}
+use Rattle.guppy_metadata.specs.declared.types.Package.{Package}
 use Rattle.guppy_metadata.specs.Gathered.{same_section}
 
 -- a letter of a name stands for itself in the code, and `-` for `_` too

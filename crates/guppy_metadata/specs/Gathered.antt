@@ -13,7 +13,7 @@ use Rattle.guppy_data.specs.declared.records.LinkRecord.{LinkRecord}
 use Rattle.guppy_data.specs.declared.texts.dependency_kind.DependencyKind.{DependencyKind}
 use Rattle.guppy_data.specs.declared.texts.dependency_kind.DependencyKind.TheVariants.{Normal, Development, Build}
 use Rattle.guppy_data.specs.Platform.{Status, Never, recorded_status, with_spec}
-use Rattle.guppy_metadata.specs.declared.declared.Declared.{Declared}
+use Rattle.guppy_metadata.specs.declared.types.Declared.{Declared}
 use Rattle.guppy_metadata.specs.Dependency.{manifest_name}
 
 -- the platforms of these dependencies

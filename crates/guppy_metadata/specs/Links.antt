@@ -6,10 +6,10 @@ use Rattle.json.specs.Json.{Json, string, array}
 use Rattle.json.specs.Find.{get}
 use Rattle.json.specs.Value.{items_of}
 use Rattle.guppy_data.specs.declared.records.LinkRecord.{LinkRecord}
-use Rattle.guppy_metadata.specs.declared.link.LinkTexts.{LinkTexts}
-use Rattle.guppy_metadata.specs.declared.resolved.Resolved.{Resolved}
-use Rattle.guppy_metadata.specs.declared.resolved.Usage.{Usage}
-use Rattle.guppy_metadata.specs.declared.package.Package.{Package}
+use Rattle.guppy_metadata.specs.declared.types.LinkTexts.{LinkTexts}
+use Rattle.guppy_metadata.specs.declared.types.Resolved.{Resolved}
+use Rattle.guppy_metadata.specs.declared.types.Usage.{Usage}
+use Rattle.guppy_metadata.specs.declared.types.Package.{Package}
 use Rattle.guppy_metadata.specs.Dependency.{NamesSection}
 use Rattle.guppy_metadata.specs.Fits.{fits, are_matched}
 use Rattle.guppy_metadata.specs.Gathered.{IsGathered, IsLinkOf}

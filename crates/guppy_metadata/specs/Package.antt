@@ -18,8 +18,8 @@ use Rattle.guppy_data.specs.declared.records.PackagePublishRecord.{PackagePublis
 use Rattle.guppy_data.specs.declared.records.PackagePublishRecord.TheVariants.{Unrestricted, Registries}
 use Rattle.guppy_data.specs.declared.records.PackageSourceRecord.{PackageSourceRecord}
 use Rattle.guppy_data.specs.declared.records.PackageSourceRecord.TheVariants.{Workspace, Path, External}
-use Rattle.guppy_metadata.specs.declared.declared.Declared.{Declared}
-use Rattle.guppy_metadata.specs.declared.package.Package.{Package}
+use Rattle.guppy_metadata.specs.declared.types.Declared.{Declared}
+use Rattle.guppy_metadata.specs.declared.types.Package.{Package}
 use Rattle.guppy_metadata.specs.Dependency.{IsDeclared, NamesOptional, AreOptional}
 use Rattle.guppy_metadata.specs.Feature.{AreFeatures}
 use Rattle.guppy_metadata.specs.Members.{present, IsText, IsListOf, list_of, AreTexts, is_among, are_among}

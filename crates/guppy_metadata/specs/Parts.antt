@@ -4,7 +4,7 @@ use Rattle.std.specs.Option.{option_copied}
 use Rattle.json.specs.Json.{Json, object}
 use Rattle.json.specs.Find.{get}
 use Rattle.json.specs.Value.{members_view}
-use Rattle.guppy_metadata.specs.declared.parts.Parts.{Parts}
+use Rattle.guppy_metadata.specs.declared.types.Parts.{Parts}
 use Rattle.guppy_metadata.specs.Package.{AreDeclared, IsLibrary, IsOwn}
 
 -- the object of the first members tells this

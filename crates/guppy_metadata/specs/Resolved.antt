@@ -2,7 +2,7 @@
 use Rattle.std.specs.Prelude.{◌≡◌, Some, IfSome, codes}
 use Rattle.json.specs.Json.{Json, string}
 use Rattle.json.specs.Find.{get}
-use Rattle.guppy_metadata.specs.declared.resolved.ResolvedParts.{ResolvedParts}
+use Rattle.guppy_metadata.specs.declared.types.ResolvedParts.{ResolvedParts}
 use Rattle.guppy_metadata.specs.Links.{AreUsages}
 
 -- the object of the first members tells this

@@ -4,7 +4,7 @@ use Rattle.std.specs.Str.{bytes_eq}
 use Rattle.json.specs.Json.{Json, object}
 use Rattle.json.specs.Find.{get}
 use Rattle.json.specs.Value.{members_view}
-use Rattle.guppy_metadata.specs.declared.told.Told.{Told}
+use Rattle.guppy_metadata.specs.declared.types.Told.{Told}
 use Rattle.guppy_metadata.specs.Links.{AreLinksWith}
 use Rattle.guppy_metadata.specs.Package.{AreLeft}
 

@@ -14,59 +14,11 @@ use crate::asked::{optional_text, read_asked, truth_or};
 use crate::fault::{Misfit, TextFault};
 use crate::object::{Object, requirement_of};
 use crate::read::read_object;
+use crate::types::Declared;
 use guppy_data::DependencyKind;
 use indexmap::IndexSet;
 use json::{MAX_DEPTH, Reader, Token, Value};
-use semver::{Version, VersionReq};
 use std::alloc::{AllocError, Global};
-
-/// A dependency as a package declares it, with borrowed texts.
-#[derive(Drop)]
-pub(crate) struct Declared<'a> {
-    /// The name of the package that is asked for.
-    pub(crate) name: &'a str,
-    /// The name that the dependency has instead.
-    pub(crate) rename: Option<&'a str>,
-    /// The versions that are asked for.
-    pub(crate) requirement: VersionReq,
-    /// The section that asks for it.
-    pub(crate) section: DependencyKind,
-    /// The platforms on which it is asked for, where not on all.
-    pub(crate) target: Option<&'a str>,
-    /// Whether it is there only where a feature switches it on.
-    pub(crate) optional: bool,
-    /// Whether its default features are asked for.
-    pub(crate) default_features: bool,
-    /// The features that are asked for, or none where details are left out.
-    pub(crate) features: Vec<&'a str>,
-    /// The registry that is asked for.
-    pub(crate) registry: Option<&'a str>,
-    /// The path that is asked for.
-    pub(crate) path: Option<&'a str>,
-}
-
-impl<'a> Declared<'a> {
-    ghost use Rattle.std.specs.Prelude.{◌≡◌, unwrap_or};
-    ghost use Rattle.std.specs.Option.{option_copied};
-    ghost use Rattle.guppy_metadata.specs.Fits.{takes};
-
-    /// The dependency's name in the manifest.
-    pub(crate) fn dep_name(&self) -> &'a str
-        ensures { result.now ≡ unwrap_or (option_copied self.now.rename) self.now.name.now }
-    {
-        match self.rename {
-            Some(rename) => rename,
-            None => self.name,
-        }
-    }
-
-    /// Whether the version may be taken; `*` takes each, a pre-release too.
-    pub(crate) fn takes(&self, version: &Version) -> bool
-        ensures { result ≡ takes self.now.requirement version.now }
-    {
-        self.requirement.comparators.is_empty() || self.requirement.matches(version)
-    }
-}
 
 /// The section of this name; the normal one where there is none.
 pub(crate) fn section_named(name: Option<&str>) -> Option<DependencyKind>

@@ -1,8 +1,8 @@
 //! Laws on what is read, each stated by the contract of a function.
 ghost use Rattle.std.specs.Prelude.{◌≡◌, ◌≢◌, ℕ, List, [], true};
-ghost use Rattle.guppy_metadata.specs.declared.declared.Declared.{Declared};
-ghost use Rattle.guppy_metadata.specs.declared.resolved.Resolved.{Resolved};
-ghost use Rattle.guppy_metadata.specs.declared.package.Package.{Package};
+ghost use Rattle.guppy_metadata.specs.declared.types.Declared.{Declared};
+ghost use Rattle.guppy_metadata.specs.declared.types.Resolved.{Resolved};
+ghost use Rattle.guppy_metadata.specs.declared.types.Package.{Package};
 ghost use Rattle.guppy_metadata.specs.Fits.{fits, in_code, used_name};
 
 /// Of two declared dependencies with different names in the code, at most one was resolved to another package that has

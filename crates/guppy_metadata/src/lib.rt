@@ -4,6 +4,7 @@
 //! The modules, from the bottom up:
 //!
 //! - `fault`: why there are no records, and where in the JSON;
+//! - `types`: what is read, before records are made of it;
 //! - `object`: the members of a JSON object;
 //! - `read`: objects that are read into memory that is used again;
 //! - `asked`: members of objects that are asked for by their names;
@@ -18,11 +19,14 @@
 //! - `link`: links, of what is declared and what is resolved;
 //! - `node`: the links of a node, read member by member;
 //! - `told`: the packages and the links, read item by item;
+//! - `by_item`: all records, of JSON that is read item by item;
+//! - `whole`: all records, so or of JSON that is read as a whole;
 //! - `records`: all records;
 //! - `laws`: what fits under one name.
 #![tactic(auto)]
 
 mod asked;
+mod by_item;
 mod declared;
 mod fault;
 mod feature;
@@ -39,6 +43,8 @@ mod resolved;
 mod table;
 mod target;
 mod told;
+mod types;
+mod whole;
 mod workspace;
 
 pub use fault::{Kind, MetadataFault, TextFault};

@@ -8,19 +8,19 @@ ghost use Rattle.guppy_data.specs.Platform.{recorded_status, with_spec};
 ghost use Rattle.semver.specs.Identifiers.{comparator_view};
 ghost use Rattle.json.specs.Json.{Json, value};
 ghost use Rattle.json.specs.Value.{value_view};
-ghost use Rattle.guppy_metadata.specs.declared.declared.Declared.{Declared};
-ghost use Rattle.guppy_metadata.specs.Fault.{NoneIs};
+ghost use Rattle.guppy_metadata.specs.declared.types.Declared.{Declared};
+ghost use Rattle.guppy_metadata.specs.Fault.{LacksMemory, NoneIs};
 ghost use Rattle.guppy_metadata.specs.Fits.{stands_for, is_named, has_name, same_usage, is_used, fits, is_matched, are_matched};
 ghost use Rattle.guppy_metadata.specs.Gathered.{status_at, asked_too, asks_for, IsSection, IsGathered, IsNamedAs, IsLinkOf};
 ghost use Rattle.guppy_metadata.specs.Links.{HasTexts, Joins, IsResolved, IsUnasked, IsLink, AreLinksFrom, AreLinksOf, AreLinksOfAll};
 ghost use Rattle.guppy_metadata.specs.Members.{data_of, IsListOf};
-ghost use Rattle.guppy_metadata.specs.Package.{with_id, ArePositions};
+ghost use Rattle.guppy_metadata.specs.Package.{with_id, are_known, ArePositions};
 
-use crate::declared::Declared;
 use crate::fault::{Misfit, TextFault};
 use crate::object::{Object, optional_copy};
-use crate::package::Package;
-use crate::resolved::{Resolved, Usage, read_resolved, resolved_of};
+use crate::package::positions_of;
+use crate::resolved::{read_resolved, resolved_of};
+use crate::types::{Declared, LinkTexts, Package, Resolved, Usage};
 use guppy_data::{
     DepRequiredOrOptional, DependencyKind, DependencyReqImpl, LinkRecord, PackageId,
     PlatformStatusImpl, TargetSpec, Utf8PathBuf,
@@ -322,15 +322,6 @@ fn add_declared(
     Ok(())
 }
 
-// The texts of a link.
-#[derive(Drop)]
-struct LinkTexts {
-    from: PackageId,
-    to: PackageId,
-    dep_name: String,
-    resolved_name: String,
-}
-
 // Copies of the texts of a link of this name.
 fn link_texts(
     alloc: Global,
@@ -625,4 +616,28 @@ pub(crate) fn links_of(
         add_node_at(&mut links, alloc, packages, index, item)?;
     }
     Ok(links)
+}
+
+/// Asks that each of these IDs is that of one of the packages.
+pub(crate) fn check_members(
+    alloc: Global,
+    packages: &[Package<'_>],
+    members: &[&str],
+) -> Result<(), Misfit>
+    ensures { MatchResult result
+        (λ _. are_known packages.now (map (λ id. id.now) members.now) ≡ true)
+        (λ misfit. ¬ LacksMemory misfit → are_known packages.now (map (λ id. id.now) members.now) ≡ false) }
+{
+    let positions = positions_of(alloc, packages)?;
+    let known = Packages {
+        packages,
+        positions: &positions,
+    };
+    for (index, id) in members.iter().enumerate() {
+        if known.with_id(id).is_none() {
+            let fault = Misfit::bad_text(alloc, "", TextFault::NoPackage);
+            return Err(fault.within_item(alloc, "workspace_members", index));
+        }
+    }
+    Ok(())
 }

@@ -6,66 +6,48 @@ ghost use Rattle.guppy_data.specs.declared.records.LinkRecord.{LinkRecord};
 ghost use Rattle.guppy_metadata.specs.Links.{AreLinksOf};
 ghost use Rattle.guppy_metadata.specs.Node.{TellsNode};
 ghost use Rattle.guppy_metadata.specs.Package.{IsLetGo, ArePositions};
+ghost use Rattle.guppy_metadata.specs.Told.{IsWith};
 
 use crate::link::{Packages, read_links};
-use crate::package::Package;
+use crate::types::{Node, Package};
 use guppy_data::LinkRecord;
 use indexmap::IndexMap;
 use json::{MAX_DEPTH, Reader, Token, Value};
 use std::alloc::Global;
 
-// What the members of a node's object tell that were read.
-#[derive(Drop)]
-struct Node<'a> {
-    // The ID of its package.
-    from: Option<&'a str>,
-    // Whether its links were added.
-    has_links: bool,
-}
-
-impl<'a> Node<'a> {
-    ghost use Rattle.std.specs.Prelude.{◌≡◌, ◌++◌, List, Some, OnSome};
-    ghost use Rattle.json.specs.Json.{Json, value};
-    ghost use Rattle.guppy_data.specs.declared.records.LinkRecord.{LinkRecord};
-    ghost use Rattle.guppy_metadata.specs.Node.{TellsNode};
-    ghost use Rattle.guppy_metadata.specs.Package.{ArePositions};
-    ghost use Rattle.guppy_metadata.specs.Told.{IsWith};
-
-    // Reads the member of this name, whose value comes next. The ID is to come before the links, and neither twice.
-    fn read_member(
-        &mut self,
-        links: &mut Vec<LinkRecord>,
-        reader: &mut Reader<'a>,
-        packages: Packages<'_, '_>,
-        name: &str,
-    ) -> Option<()>
-        requires { ArePositions packages.packages.now packages.positions.now }
-        ensures { OnSome result ((told : Json) × (value 124 reader.old ≡ Some (told, reader.new))
-            × ((d e : Json) (front row : List LinkRecord) → IsWith name.now told d e
-            → links.old.items ≡ front ++ row → TellsNode packages.entry.packages.now d self.old row
-            → (rows : List LinkRecord) × (links.new.items ≡ front ++ rows)
-            × TellsNode packages.entry.packages.now e self.new rows)) }
-    {
-        if name == "id" {
-            if self.has_links {
-                return None;
-            }
-            let Value::String(id) = Value::read(*links.allocator(), reader, MAX_DEPTH - 4).ok()?
-            else {
-                return None;
-            };
-            self.from = Some(id);
-        } else if name == "deps" {
-            if self.has_links {
-                return None;
-            }
-            read_links(links, reader, packages, self.from?)?;
-            self.has_links = true;
-        } else {
-            reader.skip_value(MAX_DEPTH - 4).ok()?;
+// Reads the member of this name, whose value comes next. The ID is to come before the links, and neither twice.
+fn read_member<'a>(
+    node: &mut Node<'a>,
+    links: &mut Vec<LinkRecord>,
+    reader: &mut Reader<'a>,
+    packages: Packages<'_, '_>,
+    name: &str,
+) -> Option<()>
+    requires { ArePositions packages.packages.now packages.positions.now }
+    ensures { OnSome result ((told : Json) × (value 124 reader.old ≡ Some (told, reader.new))
+        × ((d e : Json) (front row : List LinkRecord) → IsWith name.now told d e
+        → links.old.items ≡ front ++ row → TellsNode packages.entry.packages.now d node.old row
+        → (rows : List LinkRecord) × (links.new.items ≡ front ++ rows)
+        × TellsNode packages.entry.packages.now e node.new rows)) }
+{
+    if name == "id" {
+        if node.has_links {
+            return None;
         }
-        Some(())
+        let Value::String(id) = Value::read(*links.allocator(), reader, MAX_DEPTH - 4).ok()? else {
+            return None;
+        };
+        node.from = Some(id);
+    } else if name == "deps" {
+        if node.has_links {
+            return None;
+        }
+        read_links(links, reader, packages, node.from?)?;
+        node.has_links = true;
+    } else {
+        reader.skip_value(MAX_DEPTH - 4).ok()?;
     }
+    Some(())
 }
 
 // Reads the node that comes next, and adds its links.
@@ -87,7 +69,7 @@ fn read_members<'a>(
         has_links: false,
     };
     while let Some(name) = reader.next_key().ok()? {
-        node.read_member(links, reader, packages, name)?;
+        read_member(&mut node, links, reader, packages, name)?;
     }
     Some(node)
 }

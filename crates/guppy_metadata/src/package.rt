@@ -9,15 +9,16 @@ ghost use Rattle.guppy_data.specs.Utf8Path.{path_text};
 ghost use Rattle.guppy_metadata.specs.Dependency.{NamesOptional};
 ghost use Rattle.guppy_metadata.specs.Fault.{NoneIs, IsRead};
 ghost use Rattle.guppy_metadata.specs.Members.{data_of, is_among, is_in_set, IsText};
-ghost use Rattle.guppy_metadata.specs.declared.package.Package.{Package};
+ghost use Rattle.guppy_metadata.specs.declared.types.Package.{Package};
 ghost use Rattle.guppy_metadata.specs.Package.{IsFrom, IsNamed, IsKnown, IsShown, IsDescribed, IsFilled, IsPlain, IsDetailed, IsTold, IsRecordOf, IsPublishable, IsRustVersion, AreAskedTargets, IsLibrary, AreDeclared, AreTold, AreAlike, ArePositions, dots_in, zeros_behind, whole_version};
 
-use crate::declared::{Declared, declared_dependencies, optional_names};
+use crate::declared::{declared_dependencies, optional_names};
 use crate::fault::Misfit;
 use crate::feature::named_features;
 use crate::object::{Object, optional_copy, version_of};
 use crate::path::folder_from;
 use crate::target::{build_targets, first_library};
+use crate::types::{Declared, Package};
 use crate::workspace::set_of;
 use guppy_data::{
     BuildTargetRecord, PackageId, PackagePublishRecord, PackageRecord, PackageSourceRecord,
@@ -27,20 +28,6 @@ use indexmap::{IndexMap, IndexSet};
 use json::Value;
 use semver::Version;
 use std::alloc::{AllocError, Global};
-
-/// A package as the JSON tells it.
-#[derive(Drop)]
-pub(crate) struct Package<'a> {
-    pub(crate) id: &'a str,
-    /// Where it comes from, where that is told.
-    pub(crate) source: Option<&'a str>,
-    /// A copy of the name of its library, where it has one, which lies beside its record's texts.
-    pub(crate) library: Option<String>,
-    /// The dependencies that it declares.
-    pub(crate) declared: Vec<Declared<'a>>,
-    /// Its record, but for where it comes from.
-    pub(crate) record: PackageRecord,
-}
 
 fn optional_path(json: Object<'_, '_>, name: &str) -> Result<Option<Utf8PathBuf>, Misfit>
     ensures { IsRead (IsText name.now (data_of json.entry)) result }

@@ -1,29 +1,19 @@
 //! A package, read member by member.
-ghost use Rattle.std.specs.Prelude.{◌≡◌, true, false, Some, IfSome};
+ghost use Rattle.std.specs.Prelude.{◌≡◌, true, false, Some, IfSome, OnSome};
 ghost use Rattle.std.specs.Option.{option_copied};
 ghost use Rattle.json.specs.Json.{Json, value};
 ghost use Rattle.guppy_metadata.specs.Members.{data_of};
 ghost use Rattle.guppy_metadata.specs.Package.{IsTold, IsLibrary, AreAlike, is_asked};
 ghost use Rattle.guppy_metadata.specs.Parts.{TellsParts};
+ghost use Rattle.guppy_metadata.specs.Told.{IsWith};
 
-use crate::declared::{Declared, read_dependencies};
+use crate::declared::read_dependencies;
 use crate::object::Object;
-use crate::package::{Package, package_with};
+use crate::package::package_with;
 use crate::target::{first_library, read_library};
+use crate::types::{Package, Parts};
 use json::{MAX_DEPTH, Reader, Token, Value};
 use std::alloc::Global;
-
-// What the object of a package tells.
-#[derive(Drop)]
-struct Parts<'a> {
-    declared: Option<Vec<Declared<'a>>>,
-    // Whether the build targets were read, of which only the library's name is kept. With details they are among
-    // the others.
-    has_targets: bool,
-    library: Option<&'a str>,
-    // All other members that are asked for.
-    others: Vec<(&'a str, Value<'a>)>,
-}
 
 // Whether the member of this name is asked for: without details, whether it is none.
 fn is_asked(name: &str, details: bool) -> bool
@@ -42,36 +32,29 @@ fn is_asked(name: &str, details: bool) -> bool
         || name == "publish"
 }
 
-impl<'a> Parts<'a> {
-    ghost use Rattle.std.specs.Prelude.{◌≡◌, Some, OnSome};
-    ghost use Rattle.json.specs.Json.{Json, value};
-    ghost use Rattle.guppy_metadata.specs.Parts.{TellsParts};
-    ghost use Rattle.guppy_metadata.specs.Told.{IsWith};
-
-    // Reads the member of this name, whose value comes next.
-    fn read_member(
-        &mut self,
-        alloc: Global,
-        reader: &mut Reader<'a>,
-        name: &'a str,
-        details: bool,
-    ) -> Option<()>
-        ensures { OnSome result ((told : Json) × (value 125 reader.old ≡ Some (told, reader.new))
-            × ((d e : Json) → IsWith name.now told d e → TellsParts details d self.old → TellsParts details e self.new)) }
-    {
-        if name == "dependencies" {
-            self.declared = Some(read_dependencies(alloc, reader, details)?);
-        } else if !details && name == "targets" {
-            self.library = read_library(alloc, reader)?;
-            self.has_targets = true;
-        } else if is_asked(name, details) {
-            let value = Value::read(alloc, reader, MAX_DEPTH - 3).ok()?;
-            self.others.push((name, value)).ok()?;
-        } else {
-            reader.skip_value(MAX_DEPTH - 3).ok()?;
-        }
-        Some(())
+// Reads the member of this name, whose value comes next.
+fn read_member<'a>(
+    parts: &mut Parts<'a>,
+    alloc: Global,
+    reader: &mut Reader<'a>,
+    name: &'a str,
+    details: bool,
+) -> Option<()>
+    ensures { OnSome result ((told : Json) × (value 125 reader.old ≡ Some (told, reader.new))
+        × ((d e : Json) → IsWith name.now told d e → TellsParts details d parts.old → TellsParts details e parts.new)) }
+{
+    if name == "dependencies" {
+        parts.declared = Some(read_dependencies(alloc, reader, details)?);
+    } else if !details && name == "targets" {
+        parts.library = read_library(alloc, reader)?;
+        parts.has_targets = true;
+    } else if is_asked(name, details) {
+        let value = Value::read(alloc, reader, MAX_DEPTH - 3).ok()?;
+        parts.others.push((name, value)).ok()?;
+    } else {
+        reader.skip_value(MAX_DEPTH - 3).ok()?;
     }
+    Some(())
 }
 
 // What the object that comes next tells, with details or without.
@@ -89,7 +72,7 @@ fn read_parts<'a>(alloc: Global, reader: &mut Reader<'a>, details: bool) -> Opti
         others: Vec::new(alloc),
     };
     while let Some(name) = reader.next_key().ok()? {
-        parts.read_member(alloc, reader, name, details)?;
+        read_member(&mut parts, alloc, reader, name, details)?;
     }
     Some(parts)
 }

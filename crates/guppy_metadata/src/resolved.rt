@@ -1,5 +1,5 @@
 //! Dependencies as they are resolved.
-ghost use Rattle.std.specs.Prelude.{◌≡◌, Some, IfSome, MatchResult, length, map};
+ghost use Rattle.std.specs.Prelude.{◌≡◌, Some, IfSome, MatchResult, length, map, OnSome};
 ghost use Rattle.std.specs.Option.{option_copied};
 ghost use Rattle.json.specs.Json.{Json, string, value};
 ghost use Rattle.json.specs.Value.{value_view};
@@ -9,32 +9,15 @@ ghost use Rattle.guppy_metadata.specs.Links.{IsUsage, AreUsages, IsResolved};
 ghost use Rattle.guppy_metadata.specs.Members.{data_of, IsListOf, IsObject};
 ghost use Rattle.guppy_metadata.specs.Resolved.{TellsResolved};
 ghost use Rattle.guppy_metadata.specs.declared.resolved.TheConstants.{ASKED};
+ghost use Rattle.guppy_metadata.specs.Told.{IsWith};
 
 use crate::asked::{optional_text, read_asked};
 use crate::declared::{section_named, section_of};
 use crate::fault::{Kind, Misfit};
 use crate::object::Object;
-use guppy_data::DependencyKind;
+use crate::types::{Resolved, ResolvedParts, Usage};
 use json::{MAX_DEPTH, Reader, Token, Value};
 use std::alloc::Global;
-
-/// A section and the platforms that a resolved dependency is used for.
-#[derive(Clone, Copy)]
-pub(crate) struct Usage<'a> {
-    pub(crate) section: DependencyKind,
-    pub(crate) target: Option<&'a str>,
-}
-
-/// A resolved dependency.
-#[derive(Drop)]
-pub(crate) struct Resolved<'a> {
-    /// Its name in the code.
-    pub(crate) name: &'a str,
-    /// The ID of the package that it is resolved to.
-    pub(crate) id: &'a str,
-    /// What it is used for.
-    pub(crate) usages: Vec<Usage<'a>>,
-}
 
 fn usage_of<'a>(alloc: Global, item: &Value<'a>) -> Result<Usage<'a>, Misfit>
     ensures { IsRead (IsUsage (value_view item.now)) result }
@@ -133,36 +116,26 @@ fn read_text<'a>(reader: &mut Reader<'a>) -> Option<&'a str>
     }
 }
 
-// What the members of a resolved dependency tell that were read.
-#[derive(Drop)]
-struct ResolvedParts<'a> {
-    name: Option<&'a str>,
-    id: Option<&'a str>,
-    usages: Option<Vec<Usage<'a>>>,
-}
-
-impl<'a> ResolvedParts<'a> {
-    ghost use Rattle.std.specs.Prelude.{◌≡◌, Some, OnSome};
-    ghost use Rattle.json.specs.Json.{Json, value};
-    ghost use Rattle.guppy_metadata.specs.Resolved.{TellsResolved};
-    ghost use Rattle.guppy_metadata.specs.Told.{IsWith};
-
-    // Reads the member of this name, whose value comes next.
-    fn read_member(&mut self, alloc: Global, reader: &mut Reader<'a>, name: &str) -> Option<()>
-        ensures { OnSome result ((told : Json) × (value 122 reader.old ≡ Some (told, reader.new))
-            × ((d e : Json) → IsWith name.now told d e → TellsResolved d self.old → TellsResolved e self.new)) }
-    {
-        if name == "name" {
-            self.name = Some(read_text(reader)?);
-        } else if name == "pkg" {
-            self.id = Some(read_text(reader)?);
-        } else if name == "dep_kinds" {
-            self.usages = Some(read_usages(alloc, reader)?);
-        } else {
-            reader.skip_value(MAX_DEPTH - 6).ok()?;
-        }
-        Some(())
+// Reads the member of this name, whose value comes next.
+fn read_member<'a>(
+    parts: &mut ResolvedParts<'a>,
+    alloc: Global,
+    reader: &mut Reader<'a>,
+    name: &str,
+) -> Option<()>
+    ensures { OnSome result ((told : Json) × (value 122 reader.old ≡ Some (told, reader.new))
+        × ((d e : Json) → IsWith name.now told d e → TellsResolved d parts.old → TellsResolved e parts.new)) }
+{
+    if name == "name" {
+        parts.name = Some(read_text(reader)?);
+    } else if name == "pkg" {
+        parts.id = Some(read_text(reader)?);
+    } else if name == "dep_kinds" {
+        parts.usages = Some(read_usages(alloc, reader)?);
+    } else {
+        reader.skip_value(MAX_DEPTH - 6).ok()?;
     }
+    Some(())
 }
 
 // What the members of the object that comes next tell.
@@ -179,7 +152,7 @@ fn read_parts<'a>(alloc: Global, reader: &mut Reader<'a>) -> Option<ResolvedPart
         usages: None,
     };
     while let Some(name) = reader.next_key().ok()? {
-        parts.read_member(alloc, reader, name)?;
+        read_member(&mut parts, alloc, reader, name)?;
     }
     Some(parts)
 }

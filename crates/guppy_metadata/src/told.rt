@@ -7,26 +7,16 @@ ghost use Rattle.guppy_data.specs.declared.records.LinkRecord.{LinkRecord};
 ghost use Rattle.guppy_metadata.specs.Links.{AreLinksOf, AreLinksOfList};
 ghost use Rattle.guppy_metadata.specs.Members.{IsListOf};
 ghost use Rattle.guppy_metadata.specs.Package.{IsTold, IsLetGo, ArePositions};
-ghost use Rattle.guppy_metadata.specs.Told.{Tells};
+ghost use Rattle.guppy_metadata.specs.Told.{Tells, IsWith};
 
 use crate::node::read_node;
-use crate::package::{Package, positions_of};
+use crate::package::positions_of;
 use crate::parts::read_package;
+use crate::types::{Package, Told};
 use guppy_data::LinkRecord;
 use indexmap::IndexMap;
 use json::{MAX_DEPTH, Reader, Token, Value};
 use std::alloc::Global;
-
-/// What the object of the whole JSON tells.
-#[derive(Drop)]
-pub(crate) struct Told<'a> {
-    /// The packages; without what they declare, where the links were read.
-    pub(crate) packages: Option<Vec<Package<'a>>>,
-    /// The links of what is resolved.
-    pub(crate) links: Option<Vec<LinkRecord>>,
-    /// All other members.
-    pub(crate) others: Vec<(&'a str, Value<'a>)>,
-}
 
 // The packages that the list that comes next tells, with details or without.
 fn read_packages<'a>(
@@ -116,55 +106,49 @@ fn read_resolve(
     links
 }
 
-impl<'a> Told<'a> {
-    ghost use Rattle.std.specs.Prelude.{◌≡◌, Some, IfSome, OnSome, IsSomeAnd, codes};
-    ghost use Rattle.json.specs.Json.{Json, value};
-    ghost use Rattle.json.specs.Find.{get};
-    ghost use Rattle.std.specs.List.{AllZip};
-    ghost use Rattle.guppy_metadata.specs.Links.{AreLinksOfList};
-    ghost use Rattle.guppy_metadata.specs.Package.{IsLetGo};
-    ghost use Rattle.guppy_metadata.specs.Told.{IsWith, Tells};
+// The links, between the packages, of the nodes of the object that comes next. Lets go what the packages of these
+// declare.
+fn read_links<'a>(
+    so_far: &mut Told<'a>,
+    alloc: Global,
+    reader: &mut Reader<'a>,
+) -> Option<Vec<LinkRecord>>
+    ensures links { IfSome result (λ links. (told : Json)
+        × (value 127 reader.old ≡ Some (told, reader.new))
+        × IsSomeAnd so_far.old.packages (λ packages. IsSomeAnd (get (codes "nodes") told)
+        (λ nodes. AreLinksOfList packages.items nodes links.items))) }
+    ensures left { OnSome result (IsSomeAnd so_far.old.packages (λ packages.
+        IsSomeAnd so_far.new.packages (λ left. AllZip IsLetGo packages.items left.items))) }
+    ensures others { so_far.new.others ≡ so_far.old.others }
+{
+    let packages = so_far.packages.as_mut()?.as_mut_slice();
+    let positions = positions_of(alloc, packages).ok()?;
+    read_resolve(alloc, reader, packages, &positions)
+}
 
-    // The links, between the packages, of the nodes of the object that comes next. Lets go what the packages of these
-    // declare.
-    fn read_links(&mut self, alloc: Global, reader: &mut Reader<'a>) -> Option<Vec<LinkRecord>>
-        ensures links { IfSome result (λ links. (told : Json)
-            × (value 127 reader.old ≡ Some (told, reader.new))
-            × IsSomeAnd self.old.packages (λ packages. IsSomeAnd (get (codes "nodes") told)
-            (λ nodes. AreLinksOfList packages.items nodes links.items))) }
-        ensures left { OnSome result (IsSomeAnd self.old.packages (λ packages.
-            IsSomeAnd self.new.packages (λ left. AllZip IsLetGo packages.items left.items))) }
-        ensures others { self.new.others ≡ self.old.others }
-    {
-        let packages = self.packages.as_mut()?.as_mut_slice();
-        let positions = positions_of(alloc, packages).ok()?;
-        read_resolve(alloc, reader, packages, &positions)
-    }
-
-    // Reads the member of this name, whose value comes next.
-    fn read_member(
-        &mut self,
-        alloc: Global,
-        reader: &mut Reader<'a>,
-        name: &'a str,
-        details: bool,
-    ) -> Option<()>
-        ensures { OnSome result ((told : Json) × (value 127 reader.old ≡ Some (told, reader.new))
-            × ((d e : Json) → IsWith name.now told d e → Tells details d self.old → Tells details e self.new)) }
-    {
-        if name == "packages" {
-            if self.links.is_some() {
-                return None;
-            }
-            self.packages = Some(read_packages(alloc, reader, details)?);
-        } else if name == "resolve" {
-            self.links = Some(self.read_links(alloc, reader)?);
-        } else {
-            let value = Value::read(alloc, reader, MAX_DEPTH - 1).ok()?;
-            self.others.push((name, value)).ok()?;
+// Reads the member of this name, whose value comes next.
+fn read_member<'a>(
+    so_far: &mut Told<'a>,
+    alloc: Global,
+    reader: &mut Reader<'a>,
+    name: &'a str,
+    details: bool,
+) -> Option<()>
+    ensures { OnSome result ((told : Json) × (value 127 reader.old ≡ Some (told, reader.new))
+        × ((d e : Json) → IsWith name.now told d e → Tells details d so_far.old → Tells details e so_far.new)) }
+{
+    if name == "packages" {
+        if so_far.links.is_some() {
+            return None;
         }
-        Some(())
+        so_far.packages = Some(read_packages(alloc, reader, details)?);
+    } else if name == "resolve" {
+        so_far.links = Some(read_links(so_far, alloc, reader)?);
+    } else {
+        let value = Value::read(alloc, reader, MAX_DEPTH - 1).ok()?;
+        so_far.others.push((name, value)).ok()?;
     }
+    Some(())
 }
 
 /// What the object that comes next tells, with details or without. There is none where its packages don't stand
@@ -182,7 +166,7 @@ pub(crate) fn told_in<'a>(alloc: Global, reader: &mut Reader<'a>, details: bool)
         others: Vec::new(alloc),
     };
     while let Some(name) = reader.next_key().ok()? {
-        told.read_member(alloc, reader, name, details)?;
+        read_member(&mut told, alloc, reader, name, details)?;
     }
     Some(told)
 }

@@ -1,5 +1,5 @@
 use Rattle.std.proofs.Common.{ℕ, List, [], filter, take}
-use Rattle.guppy_metadata.specs.declared.declared.Declared.{Declared}
+use Rattle.guppy_metadata.specs.declared.types.Declared.{Declared}
 use Rattle.guppy_metadata.specs.Fits.{fits}
 use Rattle.guppy_metadata.specs.Gathered.{IsGathered, IsNamedAs}
 use Rattle.guppy_metadata.specs.Links.{Joins}

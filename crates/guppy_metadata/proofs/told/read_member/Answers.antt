@@ -10,13 +10,13 @@ use Rattle.guppy_metadata.proofs.LetGo.{whole_left, still_left, left_further, li
 use Rattle.guppy_metadata.proofs.ObjectMembers.{kept, put, links_alike}
 use Rattle.guppy_metadata.proofs.Options.{if_some, if_none}
 use Rattle.guppy_metadata.proofs.Turns.{of_ok}
-use Rattle.guppy_metadata.proofs.told.Told.read_member.Goals as goal
+use Rattle.guppy_metadata.proofs.told.read_member.Goals as goal
 
 pub returns-in_ok-ok : goal.returns-in_ok-ok
 returns-in_ok-ok c =
     let name = c.args.name.now in
     let told = value_view c.in_ok-value.value in
-    let others = c.args.self.now.others.items in
+    let others = c.args.so_far.now.others.items in
     let grown = others ++ (c.args.name, c.in_ok-value.value) ∷ [] in
     let pushed : c.push.new.self.items ≡ grown = c.push.ensures.items ∙ ap (λ well. if well then grown else others) (sym c.in_ok-ok.ensures.variant) in
     let no_packages : bytes_eq name (codes "packages") ≡ false = sym c.if-eq.ensures in
@@ -24,8 +24,8 @@ returns-in_ok-ok c =
       told,
       of_ok _ _ c.read.result _ c.in_ok-value.ensures.value c.read.ensures.ok,
       λ d e adds tells. record {
-        packages_are = still_left (λ packages. packages.items) c.args.details d e (kept d e name told adds (codes "packages") no_packages) c.args.self.now.packages tells.packages_are;
-        links_are = if_some c.args.self.now.links
+        packages_are = still_left (λ packages. packages.items) c.args.details d e (kept d e name told adds (codes "packages") no_packages) c.args.so_far.now.packages tells.packages_are;
+        links_are = if_some c.args.so_far.now.links
             (λ links. links_alike d e c.args.details links.items (kept d e name told adds (codes "packages") no_packages) (kept d e name told adds (codes "resolve") no_resolve)) tells.links_are;
         others_are = λ wanted other. ap (λ rows. get_member wanted (members_view rows)) pushed
             ∙ (get_member-push wanted others (c.args.name, c.in_ok-value.value) ∙ (ap (cond (bytes_eq name wanted) (Some told)) (tells.others_are wanted other) ∙ sym (adds wanted)));
@@ -43,7 +43,7 @@ returns-in_ok-read_packages c =
       more.1,
       λ d e adds tells. record {
         packages_are = whole_left c.args.details e packages.items (subst (λ o. IsSomeAnd o (λ told. IsListOf (IsTold c.args.details) told packages.items)) (put d e name more.0 adds (codes "packages") here) more.2);
-        links_are = if_none _ c.args.self.now.links c.if-is_some.ensures;
+        links_are = if_none _ c.args.so_far.now.links c.if-is_some.ensures;
         others_are = λ wanted other. tells.others_are wanted other ∙ kept d e name more.0 adds wanted (subst (λ n. bytes_eq n wanted ≡ false) (sym is) other.0);
       },
     )
@@ -60,8 +60,8 @@ returns-in_ok-read_links c =
       more.1,
       λ d e adds tells.
           let same = kept d e name more.0 adds (codes "packages") no_packages in record {
-            packages_are = left_further (λ packages. packages.items) c.args.details d e same c.args.self.now.packages _ tells.packages_are c.in_ok-read_links.ensures.left;
-            links_are = links_read (λ packages. packages.items) c.args.details d e same c.args.self.now.packages links.items more.0 (put d e name more.0 adds (codes "resolve") here) tells.packages_are more.2;
+            packages_are = left_further (λ packages. packages.items) c.args.details d e same c.args.so_far.now.packages _ tells.packages_are c.in_ok-read_links.ensures.left;
+            links_are = links_read (λ packages. packages.items) c.args.details d e same c.args.so_far.now.packages links.items more.0 (put d e name more.0 adds (codes "resolve") here) tells.packages_are more.2;
             others_are = λ wanted other. ap (λ rows. get_member wanted (members_view rows)) (ap (λ own. own.items) c.read_links.ensures.others)
                 ∙ (tells.others_are wanted other ∙ kept d e name more.0 adds wanted (subst (λ n. bytes_eq n wanted ≡ false) (sym is) other.1));
           },

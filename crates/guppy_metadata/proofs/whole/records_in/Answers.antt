@@ -6,7 +6,7 @@ use Rattle.guppy_metadata.specs.Package.{are_known}
 use Rattle.guppy_metadata.proofs.Packages.{packages_are}
 use Rattle.guppy_metadata.proofs.Refused.{refused}
 use Rattle.guppy_metadata.proofs.SaidRecords.{links_there, members_there, nodes_there, packages_there}
-use Rattle.guppy_metadata.proofs.records.records_in.Goals as goal
+use Rattle.guppy_metadata.proofs.whole.records_in.Goals as goal
 
 pub returns-in_err-nodes : goal.returns-in_err-nodes
 returns-in_err-nodes c = refused _ _ _ c.from_residual.ensures (λ said are. nodes_there c.args.details (data_of c.args.metadata) said.0 said.1 said.2 are) c.in_err-nodes.ensures

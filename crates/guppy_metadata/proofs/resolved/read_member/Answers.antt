@@ -7,12 +7,12 @@ use Rattle.guppy_metadata.specs.Members.{IsListOf}
 use Rattle.guppy_metadata.proofs.ObjectMembers.{kept}
 use Rattle.guppy_metadata.proofs.Options.{if_some}
 use Rattle.guppy_metadata.proofs.Turns.{of_ok}
-use Rattle.guppy_metadata.proofs.resolved.ResolvedParts.read_member.Goals as goal
+use Rattle.guppy_metadata.proofs.resolved.read_member.Goals as goal
 
 pub returns-in_ok-ok : goal.returns-in_ok-ok
 returns-in_ok-ok c =
     let name = c.args.name.now in
-    let parts = c.args.self.now in
+    let parts = c.args.parts.now in
     let skipped = left_some (value 122 c.args.reader.now) c.skip_value.new.self (of_ok _ _ c.skip_value.result _ c.in_ok-ok.ensures.value c.skip_value.ensures.value) in
     let told = skipped.0 in
     let no_name : bytes_eq name (codes "name") ≡ false = sym c.if-eq.ensures in

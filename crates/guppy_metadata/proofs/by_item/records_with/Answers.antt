@@ -4,7 +4,7 @@ use Rattle.guppy_metadata.specs.Package.{are_known}
 use Rattle.guppy_metadata.proofs.LetGo.{ids_kept, records_of_whole}
 use Rattle.guppy_metadata.proofs.ObjectMembers.{workspace_alike}
 use Rattle.guppy_metadata.proofs.Packages.{packages_are}
-use Rattle.guppy_metadata.proofs.records.records_with.Goals as goal
+use Rattle.guppy_metadata.proofs.by_item.records_with.Goals as goal
 
 pub returns : goal.returns
 returns c details d same left links =

@@ -7,7 +7,7 @@ use Rattle.guppy_data.specs.declared.records.PackageRecord.{PackageRecord}
 use Rattle.guppy_data.specs.declared.records.WorkspaceRecord.{WorkspaceRecord}
 use Rattle.guppy_metadata.specs.Records.{AreRecordsWith}
 use Rattle.guppy_metadata.proofs.Refused.{of_error}
-use Rattle.guppy_metadata.proofs.records.records_from.Goals as goal
+use Rattle.guppy_metadata.proofs.whole.records_from.Goals as goal
 
 abbrev SaysNone : Bool → Json → Type 0
 SaysNone details d = (packages : List PackageRecord) (links : List LinkRecord) (workspace : WorkspaceRecord) → AreRecordsWith details d packages links workspace → ⊥

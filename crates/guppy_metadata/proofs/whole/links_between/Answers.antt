@@ -2,7 +2,7 @@ use Rattle.std.proofs.Common.{◌∙◌, sym, subst}
 use Rattle.std.proofs.lemmas.Bool.{false≢true}
 use Rattle.guppy_metadata.specs.Fault.{LacksMemory}
 use Rattle.guppy_metadata.proofs.Refused.{failed, part}
-use Rattle.guppy_metadata.proofs.records.links_between.Goals as goal
+use Rattle.guppy_metadata.proofs.whole.links_between.Goals as goal
 
 pub returns-in_err-check_members : goal.returns-in_err-check_members
 returns-in_err-check_members c =

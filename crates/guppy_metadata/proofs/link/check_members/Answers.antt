@@ -4,7 +4,7 @@ use Rattle.std.proofs.lemmas.List.Folds.{list_all-map, list_all_at, list_all_mor
 use Rattle.guppy_metadata.specs.Members.{is_among}
 use Rattle.guppy_metadata.specs.Package.{are_known}
 use Rattle.guppy_metadata.proofs.KnownMembers.{known_at}
-use Rattle.guppy_metadata.proofs.records.check_members.Goals as goal
+use Rattle.guppy_metadata.proofs.link.check_members.Goals as goal
 
 pub returns-then-is_none : goal.returns-then-is_none
 returns-then-is_none c other =

@@ -6,12 +6,12 @@ use Rattle.guppy_metadata.proofs.Nodes.{links_kept}
 use Rattle.guppy_metadata.proofs.ObjectMembers.{kept}
 use Rattle.guppy_metadata.proofs.Options.{if_some}
 use Rattle.guppy_metadata.proofs.Turns.{of_ok}
-use Rattle.guppy_metadata.proofs.node.Node.read_member.Goals as goal
+use Rattle.guppy_metadata.proofs.node.read_member.Goals as goal
 
 pub returns-in_ok-ok : goal.returns-in_ok-ok
 returns-in_ok-ok c =
     let name = c.args.name.now in
-    let node = c.args.self.now in
+    let node = c.args.node.now in
     let skipped = left_some (value 124 c.args.reader.now) c.skip_value.new.self (of_ok _ _ c.skip_value.result _ c.in_ok-ok.ensures.value c.skip_value.ensures.value) in
     let told = skipped.0 in
     let no_id : bytes_eq name (codes "id") ≡ false = sym c.if-eq.ensures in

@@ -14,8 +14,8 @@ use Rattle.guppy_metadata.specs.Package.{IsLibrary, is_asked}
 use Rattle.guppy_metadata.proofs.ObjectMembers.{differs, kept, put}
 use Rattle.guppy_metadata.proofs.Options.{if_some}
 use Rattle.guppy_metadata.proofs.Turns.{of_ok}
-use Rattle.guppy_metadata.proofs.parts.Parts.read_member.Goals.{else-not-details-via-then-not-details+else-eq-2, else-not-details-via-else-not-details}
-use Rattle.guppy_metadata.proofs.parts.Parts.read_member.Goals as goal
+use Rattle.guppy_metadata.proofs.parts.read_member.Goals.{else-not-details-via-then-not-details+else-eq-2, else-not-details-via-else-not-details}
+use Rattle.guppy_metadata.proofs.parts.read_member.Goals as goal
 
 -- what is told of the library stays where the member is none of the targets
 library_kept : (d e : Json) (library : Option (List ℕ)) → get (codes "targets") d ≡ get (codes "targets") e → IsLibrary d library → IsLibrary e library
@@ -30,7 +30,7 @@ returns-in_ok-ok c =
     let name = c.args.name.now in
     let details = c.args.details in
     let told = value_view c.in_ok-value.value in
-    let others = c.args.self.now.others.items in
+    let others = c.args.parts.now.others.items in
     let grown = others ++ (c.args.name, c.in_ok-value.value) ∷ [] in
     let pushed : c.push.new.self.items ≡ grown = c.push.ensures.items ∙ ap (λ well. if well then grown else others) (sym c.in_ok-ok.ensures.variant) in
     let no_dependencies : bytes_eq name (codes "dependencies") ≡ false = sym c.if-eq.ensures in
@@ -38,7 +38,7 @@ returns-in_ok-ok c =
       told,
       of_ok _ _ c.read.result _ c.in_ok-value.ensures.value c.read.ensures.ok,
       λ d e adds tells. record {
-        declared_are = if_some c.args.self.now.declared (λ declared. subst (λ o. IsSomeAnd o (λ told. IsListOf (IsDeclared details) told declared.items)) (kept d e name told adds (codes "dependencies") no_dependencies)) tells.declared_are;
+        declared_are = if_some c.args.parts.now.declared (λ declared. subst (λ o. IsSomeAnd o (λ told. IsListOf (IsDeclared details) told declared.items)) (kept d e name told adds (codes "dependencies") no_dependencies)) tells.declared_are;
         library_is = λ plain read. library_kept d e _ (kept d e name told adds (codes "targets") (no_targets details name plain asked)) (tells.library_is plain read);
         others_are = λ wanted other. ap (λ rows. get_member wanted (members_view rows)) pushed
             ∙ (get_member-push wanted others (c.args.name, c.in_ok-value.value) ∙ (ap (cond (bytes_eq name wanted) (Some told)) (tells.others_are wanted other) ∙ sym (adds wanted)));
@@ -59,7 +59,7 @@ returns-in_ok-ok-2 c =
       told,
       skipped.1,
       λ d e adds tells. record {
-        declared_are = if_some c.args.self.now.declared (λ declared. subst (λ o. IsSomeAnd o (λ told. IsListOf (IsDeclared c.args.details) told declared.items)) (kept d e name told adds (codes "dependencies") no_dependencies)) tells.declared_are;
+        declared_are = if_some c.args.parts.now.declared (λ declared. subst (λ o. IsSomeAnd o (λ told. IsListOf (IsDeclared c.args.details) told declared.items)) (kept d e name told adds (codes "dependencies") no_dependencies)) tells.declared_are;
         library_is = λ plain read. library_kept d e _ (kept d e name told adds (codes "targets") (other plain)) (tells.library_is plain read);
         others_are = λ wanted own. tells.others_are wanted own
             ∙ kept d e name told adds wanted (differs name wanted (λ same. false≢true (sym not_asked ∙ (ap (is_asked c.args.details) same ∙ own.1))));

@@ -4,7 +4,7 @@ use Rattle.json.proofs.Trees.{view-Object}
 use Rattle.guppy_metadata.specs.Links.{AreLinksWith}
 use Rattle.guppy_metadata.specs.Package.{AreLeft}
 use Rattle.guppy_metadata.proofs.Turns.{if_ok}
-use Rattle.guppy_metadata.proofs.records.records_told.Goals as goal
+use Rattle.guppy_metadata.proofs.by_item.records_told.Goals as goal
 
 pub returns : goal.returns
 returns c =
