@@ -105,14 +105,14 @@ fn is_used(declared: &Declared<'_>, usages: &[Usage<'_>]) -> bool
     false
 }
 
-// Whether two names are the same. Their last letters are compared first, as many names begin alike.
+// Whether two names are the same. Their lengths are compared first, which lie beside the names' places, then their last
+// letters, as many names begin alike.
 fn are_same(name: &str, other: &str) -> bool
     ensures { result ≡ bytes_eq name.now other.now }
 {
-    match (name.as_bytes().last(), other.as_bytes().last()) {
-        (Some(last), Some(other_last)) if last != other_last => false,
-        _ => name == other,
-    }
+    name.len() == other.len()
+        && name.as_bytes().last() == other.as_bytes().last()
+        && name == other
 }
 
 // Whether what a package declares is among the dependencies that were resolved to this one. One on itself
