@@ -1,6 +1,6 @@
 //! Sorted sets, statuses and questions.
 use crate::records::{copy_of, id_of};
-use crate::told::{begin, tell, tell_line};
+use crate::told::{begin, tell, tell_all, tell_line};
 use guppy::platform::{PlatformSpec, PlatformStatus, PlatformStatusImpl, TargetSpec};
 use guppy::{PackageId, SortedSet};
 use std::alloc::{AllocError, Global};
@@ -9,21 +9,12 @@ fn spec_of(alloc: Global, text: &str) -> TargetSpec {
     TargetSpec::new(copy_of(alloc, text))
 }
 
-// Adds a text to what a status has.
-fn add(status: &mut PlatformStatusImpl, alloc: Global, text: &str) -> Result<(), AllocError> {
-    let spec = spec_of(alloc, text);
-    status.add_spec(Some(&spec))
-}
-
-// The status of two texts.
-pub(crate) fn status_of(
-    alloc: Global,
-    first: &str,
-    second: &str,
-) -> Result<PlatformStatusImpl, AllocError> {
+// The status of these texts.
+pub(crate) fn status_of(alloc: Global, texts: &[&str]) -> Result<PlatformStatusImpl, AllocError> {
     let mut status = PlatformStatusImpl::never(alloc);
-    add(&mut status, alloc, first)?;
-    add(&mut status, alloc, second)?;
+    for text in texts {
+        status.add_spec(Some(&spec_of(alloc, text)))?;
+    }
     Ok(status)
 }
 
@@ -36,37 +27,19 @@ fn tell_status(rt: &HostRuntime, status: &PlatformStatusImpl) {
     tell_line(rt, &"status");
 }
 
-fn ask_grown(
-    rt: &HostRuntime,
-    status: &mut PlatformStatusImpl,
-    other: &PlatformStatusImpl,
-    spec: &TargetSpec,
-    call: &str,
-) -> Result<(), AllocError> {
-    tell_status(rt, status);
+fn ask_status(rt: &HostRuntime, alloc: Global, call: &str) -> Result<(), AllocError> {
+    let other = status_of(alloc, &["v", "w"])?;
+    let mut status = status_of(alloc, &["x", "y"])?;
+    let spec = spec_of(alloc, "z");
+    tell_status(rt, &status);
     begin(rt);
     let grown = if call == "extend" {
-        status.extend(other)
+        status.extend(&other)
     } else {
-        status.add_spec(Some(spec))
+        status.add_spec(Some(&spec))
     };
-    tell_status(rt, status);
+    tell_status(rt, &status);
     grown
-}
-
-fn ask_status(rt: &HostRuntime, alloc: Global, call: &str) -> Result<(), AllocError> {
-    let mut status = status_of(alloc, "x", "y")?;
-    let other = status_of(alloc, "v", "w")?;
-    let spec = spec_of(alloc, "z");
-    ask_grown(rt, &mut status, &other, &spec, call)
-}
-
-fn question_of(alloc: Global, call: &str) -> Result<PlatformSpec<&'static str>, AllocError> {
-    if call == "platforms" {
-        PlatformSpec::platforms(alloc, ["linux", "windows"].into_iter())
-    } else {
-        PlatformSpec::one(alloc, "linux")
-    }
 }
 
 fn tell_question(rt: &HostRuntime, question: &PlatformSpec<&str>) {
@@ -80,18 +53,19 @@ fn tell_question(rt: &HostRuntime, question: &PlatformSpec<&str>) {
 
 fn ask_question(rt: &HostRuntime, alloc: Global, call: &str) -> Result<(), AllocError> {
     begin(rt);
-    let question = question_of(alloc, call)?;
-    tell_question(rt, &question);
+    let question = if call == "platforms" {
+        PlatformSpec::platforms(alloc, ["linux", "windows"].into_iter())
+    } else {
+        PlatformSpec::one(alloc, "linux")
+    };
+    tell_question(rt, &question?);
     Ok(())
 }
 
 fn ask_sorted(rt: &HostRuntime, alloc: Global) -> Result<(), AllocError> {
     begin(rt);
     let set = SortedSet::from_items(alloc, ["b", "a", "b"].into_iter())?;
-    for item in set.as_slice() {
-        tell(rt, *item);
-    }
-    tell_line(rt, &"sorted");
+    tell_all(rt, set.as_slice().iter().copied(), &"sorted");
     Ok(())
 }
 

@@ -80,11 +80,11 @@ fn ask_filter_partition(
 
 pub(crate) fn ask(rt: &HostRuntime, world: &World<'_>, call: &str) -> Result<(), Error> {
     match call {
-        "filter" => ask_filter(rt, &world.all, false),
-        "filter_mut" => ask_filter(rt, &world.all, true),
-        "partition" => ask_partition(rt, &world.all, false),
-        "partition_mut" => ask_partition(rt, &world.all, true),
-        "filter_partition" => ask_filter_partition(rt, &world.all, false),
-        _ => ask_filter_partition(rt, &world.all, true),
+        "filter" => ask_filter(rt, world.all, false),
+        "filter_mut" => ask_filter(rt, world.all, true),
+        "partition" => ask_partition(rt, world.all, false),
+        "partition_mut" => ask_partition(rt, world.all, true),
+        "filter_partition" => ask_filter_partition(rt, world.all, false),
+        _ => ask_filter_partition(rt, world.all, true),
     }
 }

@@ -1,8 +1,8 @@
 //! Lists of positions: sets that are made of them, and cycles.
 ghost use Rattle.std.specs.Prelude.{◌<◌, length, All, IfOk};
 
-use crate::positions::{DevLinks, graph_of, tell_list, tell_positions};
-use crate::told::{begin, tell_line};
+use crate::positions::{DevLinks, graph_of, tell_positions};
+use crate::told::{begin, tell_all, tell_line};
 use guppy::graph::{IndexType, PackageIx};
 use guppy::positions::{CountedGraph, Graph, IxSet, ResolveCore, find_cycle};
 use std::alloc::{AllocError, Global};
@@ -47,13 +47,6 @@ fn firm_cycle(graph: &Graph<DevLinks>) -> Result<Option<Vec<PackageIx>>, AllocEr
     find_cycle(&mut counted, |is_dev_only: &bool| !*is_dev_only)
 }
 
-fn tell_cycle(rt: &HostRuntime, cycle: Option<Vec<PackageIx>>) {
-    match cycle {
-        Some(cycle) => tell_list(rt, cycle.as_slice()),
-        None => tell_line(rt, &"no cycle"),
-    }
-}
-
 fn ask_cycle(rt: &HostRuntime, graph: &Graph<DevLinks>, call: &str) -> Result<(), AllocError> {
     begin(rt);
     let cycle = if call == "find_cycle" {
@@ -61,7 +54,10 @@ fn ask_cycle(rt: &HostRuntime, graph: &Graph<DevLinks>, call: &str) -> Result<()
     } else {
         firm_cycle(graph)
     };
-    tell_cycle(rt, cycle?);
+    match cycle? {
+        Some(cycle) => tell_all(rt, cycle.iter().copied(), &"in this order"),
+        None => tell_line(rt, &"no cycle"),
+    }
     Ok(())
 }
 

@@ -3,7 +3,7 @@
 use crate::told::{begin, tell_line};
 use crate::world::World;
 use guppy::graph::DependencyDirection;
-use guppy::{DependsCache, Error, PackageId, PackageMetadata, Utf8Path};
+use guppy::{DependsCache, Error, PackageId, Utf8Path};
 
 /// Whether the first package depends on the second one. Takes no memory.
 pub(crate) fn tell_depends(
@@ -24,38 +24,26 @@ fn tell_cache(rt: &HostRuntime, world: &World<'_>, cache: &mut DependsCache<'_>)
     tell_depends(rt, cache, world.a, world.c);
 }
 
-fn new_cache<'g>(world: &World<'g>, call: &str) -> Result<DependsCache<'g>, Error> {
-    if call == "new_depends_cache" {
+fn ask_new_cache(rt: &HostRuntime, world: &World<'_>, call: &str) -> Result<(), Error> {
+    begin(rt);
+    let cache = if call == "new_depends_cache" {
         world.graph.new_depends_cache()
     } else {
         DependsCache::new(world.graph)
-    }
-}
-
-fn ask_new_cache(rt: &HostRuntime, world: &World<'_>, call: &str) -> Result<(), Error> {
-    begin(rt);
-    let mut cache = new_cache(world, call)?;
-    tell_cache(rt, world, &mut cache);
+    };
+    tell_cache(rt, world, &mut cache?);
     Ok(())
 }
 
 // Asks a cache of an unknown package, and tells what it answers before and after that.
-fn ask_of_unknown(
-    rt: &HostRuntime,
-    world: &World<'_>,
-    cache: &mut DependsCache<'_>,
-) -> Result<(), Error> {
-    tell_cache(rt, world, cache);
-    begin(rt);
-    let asked = cache.depends_on(world.a, &world.z);
-    tell_cache(rt, world, cache);
-    tell_line(rt, &asked?);
-    Ok(())
-}
-
 fn ask_cache(rt: &HostRuntime, world: &World<'_>) -> Result<(), Error> {
     let mut cache = world.graph.new_depends_cache()?;
-    ask_of_unknown(rt, world, &mut cache)
+    tell_cache(rt, world, &mut cache);
+    begin(rt);
+    let asked = cache.depends_on(world.a, world.z);
+    tell_cache(rt, world, &mut cache);
+    tell_line(rt, &asked?);
+    Ok(())
 }
 
 fn ask_of_two(
@@ -77,26 +65,22 @@ fn ask_of_two(
     Ok(())
 }
 
-// A package that isn't there.
-fn unknown<'g>(world: &World<'g>, call: &str) -> Result<PackageMetadata<'g>, Error> {
-    match call {
-        "member_by_path" => world.graph.workspace().member_by_path(Utf8Path::new("z")),
-        "member_by_name" => world.graph.workspace().member_by_name("z"),
-        _ => world.graph.metadata(&world.z),
-    }
-}
-
+// Looks up a package that isn't there.
 fn ask_for_unknown(rt: &HostRuntime, world: &World<'_>, call: &str) -> Result<(), Error> {
     begin(rt);
-    let package = unknown(world, call)?;
-    tell_line(rt, &package.name());
+    let package = match call {
+        "member_by_path" => world.graph.workspace().member_by_path(Utf8Path::new("z")),
+        "member_by_name" => world.graph.workspace().member_by_name("z"),
+        _ => world.graph.metadata(world.z),
+    };
+    tell_line(rt, &package?.name());
     Ok(())
 }
 
 fn ask_link(rt: &HostRuntime, world: &World<'_>) -> Result<(), Error> {
     let package = world.graph.metadata(world.a)?;
     begin(rt);
-    let link = package.link_between(&world.z, DependencyDirection::Forward)?;
+    let link = package.link_between(world.z, DependencyDirection::Forward)?;
     tell_line(rt, &link.is_some());
     Ok(())
 }
@@ -124,10 +108,10 @@ pub(crate) fn ask(rt: &HostRuntime, world: &World<'_>, call: &str) -> Result<(),
         "new" | "new_depends_cache" => ask_new_cache(rt, world, call),
         "cache" => ask_cache(rt, world),
         "depends_on_unknown" | "directly_depends_on" | "is_cyclic" | "contains" => {
-            ask_of_two(rt, world, call, world.a, &world.z)
+            ask_of_two(rt, world, call, world.a, world.z)
         }
         "link_between" => ask_link(rt, world),
-        "query_forward" | "resolve_ids" => ask_of_list(rt, world, call, &world.z),
+        "query_forward" | "resolve_ids" => ask_of_list(rt, world, call, world.z),
         _ => ask_for_unknown(rt, world, call),
     }
 }

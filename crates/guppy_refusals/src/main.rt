@@ -22,8 +22,8 @@ mod told;
 mod verifying;
 mod world;
 
-use crate::records::{Ends, records_of};
-use crate::world::{World, graph_of, tell_world};
+use crate::records::{Ends, id_of, records_of};
+use crate::world::{World, graph_of, member, sets_of, tell_world};
 use guppy::{DependencyKind, Error, IntoGraph, PackageGraph};
 use std::alloc::{AllocError, Global};
 use std::process::ExitCode;
@@ -80,23 +80,16 @@ fn ask(
     }
 }
 
-// Tells how a case ended, and whether memory was refused.
-fn tell_end(rt: &HostRuntime, asked: &Result<(), Error>) -> bool {
-    told::end(rt);
-    match asked {
-        Ok(()) => false,
-        Err(error) => {
-            told::tell_line(rt, error);
-            matches!(error, Error::OutOfMemory)
-        }
-    }
-}
-
+// Tells whether memory was refused.
 fn try_once(rt: &HostRuntime, alloc: Global, world: &World<'_>, case: &str) -> bool {
     let (group, call) = case.split_once('.').unwrap_or((case, ""));
     tell_world(rt, world);
     let asked = ask(rt, alloc, world, group, call);
-    tell_end(rt, &asked)
+    told::tell_line(rt, &"done");
+    if let Err(error) = &asked {
+        told::tell_line(rt, error);
+    }
+    matches!(asked, Err(Error::OutOfMemory))
 }
 
 // Does the case, and where it is refused once more.
@@ -108,8 +101,26 @@ fn try_case(rt: &HostRuntime, alloc: Global, world: &World<'_>, case: &str) {
 }
 
 fn try_in(rt: &HostRuntime, alloc: Global, graph: &PackageGraph, case: &str) -> Result<(), Error> {
-    let world = World::new(graph)?;
-    try_case(rt, alloc, &world, case);
+    let a = member(graph, "a")?;
+    let b = member(graph, "b")?;
+    let c = member(graph, "c")?;
+    let sets = sets_of(graph, a, b, c)?;
+    let query = graph.query_forward([a].into_iter())?;
+    let z = id_of(alloc, "z");
+    if let [x, y, all] = sets.as_slice() {
+        let world = World {
+            graph,
+            a,
+            b,
+            c,
+            z: &z,
+            x,
+            y,
+            all,
+            query: &query,
+        };
+        try_case(rt, alloc, &world, case);
+    }
     Ok(())
 }
 

@@ -1,8 +1,9 @@
 //! Graphs, sets, indexes and components by position.
 ghost use Rattle.std.specs.Prelude.{◌≡◌, length, IfOk};
+ghost use Rattle.std.specs.Iterator.{IsFinite};
 ghost use Rattle.std.specs.List.{concat};
 
-use crate::told::{begin, tell, tell_line};
+use crate::told::{begin, tell, tell_all, tell_line};
 use guppy::graph::{DependencyDirection, IndexType, PackageIx};
 use guppy::positions::{
     CountedGraph, EdgeDfs, Graph, GraphSpec, IxSet, Link, ResolveCore, Sccs, TopoWithCycles,
@@ -84,17 +85,7 @@ pub(crate) fn set_of(
 }
 
 pub(crate) fn tell_positions(rt: &HostRuntime, set: &IxSet<DevLinks>) {
-    for ix in set.ones() {
-        tell(rt, ix);
-    }
-    tell_line(rt, &"positions");
-}
-
-pub(crate) fn tell_list(rt: &HostRuntime, positions: &[PackageIx]) {
-    for ix in positions {
-        tell(rt, *ix);
-    }
-    tell_line(rt, &"in this order");
+    tell_all(rt, set.ones(), &"positions");
 }
 
 pub(crate) fn index_of(graph: &Graph<DevLinks>) -> Result<TopoWithCycles<PackageIx>, AllocError>
@@ -102,17 +93,6 @@ pub(crate) fn index_of(graph: &Graph<DevLinks>) -> Result<TopoWithCycles<Package
 {
     let mut counted = CountedGraph::new(graph);
     TopoWithCycles::new(&mut counted, |is_dev_only: &bool| !*is_dev_only)
-}
-
-fn components_of(
-    graph: &Graph<DevLinks>,
-    topo: &TopoWithCycles<PackageIx>,
-) -> Result<Sccs<PackageIx>, AllocError>
-    requires { length topo.now ≡ length graph.now.nodes }
-    ensures { IfOk result (λ sccs. length (concat sccs) ≡ length graph.now.nodes) }
-{
-    let mut counted = CountedGraph::new(graph);
-    Sccs::new(&mut counted, topo)
 }
 
 // The components. Their making, or that of the index, is the call where it is asked for.
@@ -130,7 +110,8 @@ fn components(
     if call == "components" {
         begin(rt);
     }
-    components_of(graph, &topo)
+    let mut counted = CountedGraph::new(graph);
+    Sccs::new(&mut counted, &topo)
 }
 
 fn made_set(
@@ -189,34 +170,14 @@ fn listed(
     }
 }
 
-fn ask_core_links(
-    rt: &HostRuntime,
-    graph: &Graph<DevLinks>,
-    x: &ResolveCore<DevLinks>,
-    sccs: &Sccs<PackageIx>,
-) -> Result<(), AllocError>
-    requires x { length x.now ≡ length graph.now.nodes }
-    requires sccs { length (concat sccs.now) ≡ length graph.now.nodes }
+fn tell_links<I: Iterator<Item = (PackageIx, PackageIx, usize)> + Drop>(rt: &HostRuntime, links: I)
+    requires can { I.can_next links }
+    requires ends { IsFinite (I.remaining links) }
 {
-    for (_, _, number) in x.links(graph, sccs, FORWARD)? {
+    for (_, _, number) in links {
         tell(rt, number);
     }
     tell_line(rt, &"links");
-    Ok(())
-}
-
-fn ask_edge_dfs(
-    rt: &HostRuntime,
-    graph: &Graph<DevLinks>,
-    x: &IxSet<DevLinks>,
-) -> Result<(), AllocError>
-    requires x { length x.now ≡ length graph.now.nodes }
-{
-    for (_, _, number) in EdgeDfs::new(graph, x, FORWARD, x)? {
-        tell(rt, number);
-    }
-    tell_line(rt, &"links");
-    Ok(())
 }
 
 fn ask_of_components(
@@ -233,9 +194,15 @@ fn ask_of_components(
         begin(rt);
     }
     match call {
-        "core_links" => ask_core_links(rt, graph, x, sccs)?,
-        "edge_dfs" => ask_edge_dfs(rt, graph, x.included())?,
-        _ => tell_list(rt, listed(graph, x, sccs, call)?.as_slice()),
+        "core_links" => tell_links(rt, x.links(graph, sccs, FORWARD)?),
+        "edge_dfs" => {
+            let included = x.included();
+            tell_links(rt, EdgeDfs::new(graph, included, FORWARD, included)?);
+        }
+        _ => {
+            let list = listed(graph, x, sccs, call)?;
+            tell_all(rt, list.iter().copied(), &"in this order");
+        }
     }
     Ok(())
 }
@@ -310,15 +277,10 @@ fn ask_parts(
     Ok(())
 }
 
-fn ask_small(rt: &HostRuntime, alloc: Global, call: &str) -> Result<(), AllocError> {
-    let graph = graph_of(alloc)?;
-    ask_graph(rt, &graph, call)
-}
-
 pub(crate) fn ask(rt: &HostRuntime, alloc: Global, call: &str) -> Result<(), AllocError> {
     match call {
         "from_parts" => ask_parts(rt, alloc, 4, links_of(alloc)?),
         "thousand_by_sevens" => ask_parts(rt, alloc, MANY, many_links(alloc)?),
-        _ => ask_small(rt, alloc, call),
+        _ => ask_graph(rt, &graph_of(alloc)?, call),
     }
 }

@@ -6,10 +6,6 @@ use guppy::{Error, PackageQuery};
 
 const REVERSE: DependencyDirection = DependencyDirection::Reverse;
 
-fn copied<'g>(query: &PackageQuery<'g>) -> Result<PackageQuery<'g>, Error> {
-    Ok(query.clone()?)
-}
-
 fn made_of_ids<'g>(world: &World<'g>, call: &str) -> Result<PackageQuery<'g>, Error> {
     let ids = [world.c, world.a].into_iter();
     match call {
@@ -41,7 +37,7 @@ fn made<'g>(world: &World<'g>, call: &str) -> Result<PackageQuery<'g>, Error> {
         "query_workspace" => world.graph.query_workspace(),
         "set_to_package_query" => world.x.to_package_query(REVERSE),
         "package_to_package_query" => world.graph.metadata(world.b)?.to_package_query(REVERSE),
-        "clone" => copied(&world.query),
+        "clone" => Ok(world.query.clone()?),
         _ => made_of_list(world, call),
     }
 }

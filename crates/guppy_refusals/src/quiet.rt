@@ -1,22 +1,23 @@
 //! Calls that take no memory.
-ghost use Rattle.std.specs.Prelude.{◌≡◌, length};
+ghost use Rattle.std.specs.Iterator.{IsFinite};
 
 use crate::data::status_of;
 use crate::look_ups::tell_depends;
-use crate::positions::{DevLinks, index_of, set_of, tell_list, tell_positions};
-use crate::told::{begin, tell, tell_line, tell_set};
+use crate::positions::{DevLinks, index_of, set_of, tell_positions};
+use crate::told::{begin, tell, tell_all, tell_line, tell_names, tell_set};
 use crate::world::{World, graph_of, tell_graph};
 use crate::{lists, positions};
 use guppy::graph::{DependencyDirection, ExternalSource, IndexType, PackageIx};
 use guppy::platform::{
     EnabledTernary, PlatformSpec, PlatformStatus, PlatformStatusImpl, TargetEval, TargetSpec,
 };
-use guppy::positions::{Graph, IxSet, ResolveCore};
+use guppy::positions::{Graph, ResolveCore};
 use guppy::{
-    CycleIds, DependsCache, Error, PackageGraph, PackageId, PackageLink, PackageMetadata,
-    PackageSet, SortedSet, Utf8Path, Workspace,
+    CycleIds, DependsCache, Error, PackageId, PackageLink, PackageMetadata, PackageSet, SortedSet,
+    Utf8Path,
 };
 use std::alloc::{AllocError, Global};
+use std::fmt::Display;
 
 const FORWARD: DependencyDirection = DependencyDirection::Forward;
 
@@ -59,15 +60,17 @@ fn ask_look_ups(rt: &HostRuntime, world: &World<'_>) -> Result<(), Error> {
     tell_links(rt, package, world.b)
 }
 
-fn tell_members(rt: &HostRuntime, workspace: Workspace<'_>) {
-    for (path, _) in workspace.iter_by_path() {
-        tell(rt, path);
+// What members are listed by.
+fn tell_keys<'g, K: Display + Drop, I: Iterator<Item = (K, PackageMetadata<'g>)> + Drop>(
+    rt: &HostRuntime,
+    members: I,
+)
+    requires can { I.can_next members }
+    requires ends { IsFinite (I.remaining members) }
+{
+    for (key, _) in members {
+        tell(rt, key);
     }
-    for (name, _) in workspace.iter_by_name() {
-        tell(rt, name);
-    }
-    tell(rt, workspace.default_member_ids().len());
-    tell_line(rt, &workspace.member_count());
 }
 
 fn ask_members(rt: &HostRuntime, world: &World<'_>) -> Result<(), Error> {
@@ -75,7 +78,10 @@ fn ask_members(rt: &HostRuntime, world: &World<'_>) -> Result<(), Error> {
     begin(rt);
     tell(rt, workspace.member_by_path(Utf8Path::new("b/."))?.name());
     tell(rt, workspace.member_by_name("c")?.name());
-    tell_members(rt, workspace);
+    tell_keys(rt, workspace.iter_by_path());
+    tell_keys(rt, workspace.iter_by_name());
+    tell(rt, workspace.default_member_ids().len());
+    tell_line(rt, &workspace.member_count());
     Ok(())
 }
 
@@ -101,11 +107,12 @@ fn tell_fields(rt: &HostRuntime, package: PackageMetadata<'_>) {
     tell_line(rt, &"fields");
 }
 
-fn ask_fields(rt: &HostRuntime, world: &World<'_>) {
+fn ask_fields(rt: &HostRuntime, world: &World<'_>) -> Result<(), Error> {
     begin(rt);
     for package in world.graph.packages() {
         tell_fields(rt, package);
     }
+    Ok(())
 }
 
 // No cycle is looked for, since the only link has no section.
@@ -115,32 +122,27 @@ fn ask_verify(rt: &HostRuntime, alloc: Global) -> Result<(), Error> {
     graph.verify()
 }
 
-fn tell_cycle(rt: &HostRuntime, cycle: CycleIds<'_>) {
-    for id in cycle {
-        tell(rt, id.repr());
-    }
-    tell_line(rt, &"cycle");
-}
-
-fn tell_cycles(rt: &HostRuntime, graph: &PackageGraph) {
-    for cycle in graph.cycles().all_cycles() {
-        tell_cycle(rt, cycle);
-    }
-    for cycle in graph.cycles().all_cycles().rev() {
-        tell_cycle(rt, cycle);
+fn tell_cycles<'g, I: Iterator<Item = CycleIds<'g>> + Drop>(rt: &HostRuntime, cycles: I)
+    requires can { I.can_next cycles }
+    requires ends { IsFinite (I.remaining cycles) }
+{
+    for cycle in cycles {
+        tell_all(rt, cycle, &"cycle");
     }
 }
 
-fn ask_lists(rt: &HostRuntime, world: &World<'_>) {
+fn ask_lists(rt: &HostRuntime, world: &World<'_>) -> Result<(), Error> {
     begin(rt);
     tell_graph(rt, world.graph);
-    tell_cycles(rt, world.graph);
+    tell_cycles(rt, world.graph.cycles().all_cycles());
+    tell_cycles(rt, world.graph.cycles().all_cycles().rev());
     for package in world.x.packages(REVERSE) {
         tell(rt, package.name());
     }
     tell(rt, world.x == world.y);
-    tell(rt, world.x.same_packages(&world.y));
-    tell_set(rt, &world.x);
+    tell(rt, world.x.same_packages(world.y));
+    tell_set(rt, world.x);
+    Ok(())
 }
 
 // The iterators are made before.
@@ -150,8 +152,8 @@ fn ask_iterators(rt: &HostRuntime, all: &PackageSet<'_>) -> Result<(), Error> {
     let packages = all.root_packages(REVERSE)?;
     begin(rt);
     lists::tell_links(rt, links);
-    lists::tell_ids(rt, ids);
-    lists::tell_packages(rt, packages);
+    tell_all(rt, ids, &"roots");
+    tell_names(rt, packages, &"roots");
     Ok(())
 }
 
@@ -164,42 +166,30 @@ fn ask_cache(rt: &HostRuntime, world: &World<'_>) -> Result<(), Error> {
     Ok(())
 }
 
-fn tell_combined(rt: &HostRuntime, x: &mut IxSet<DevLinks>, y: &IxSet<DevLinks>)
-    requires { length x.old ≡ length y.now }
-{
-    begin(rt);
-    x.union_with(y);
-    tell_positions(rt, x);
-    x.symmetric_difference_with(y);
-    tell_positions(rt, x);
-    x.intersect_with(y);
-    tell_positions(rt, x);
-}
-
 fn ask_positions(rt: &HostRuntime, graph: &Graph<DevLinks>) -> Result<(), AllocError> {
-    let mut x = set_of(graph, &[0, 1])?;
     let y = set_of(graph, &[1, 2])?;
-    tell_combined(rt, &mut x, &y);
+    let mut x = set_of(graph, &[0, 1])?;
+    begin(rt);
+    x.union_with(&y);
+    tell_positions(rt, &x);
+    x.symmetric_difference_with(&y);
+    tell_positions(rt, &x);
+    x.intersect_with(&y);
+    tell_positions(rt, &x);
     Ok(())
 }
 
 // The same of the sets that resolves included.
-fn tell_cores(rt: &HostRuntime, x: &mut ResolveCore<DevLinks>, y: &ResolveCore<DevLinks>)
-    requires { length x.old ≡ length y.now }
-{
-    begin(rt);
-    x.union_with(y);
-    tell(rt, x.len());
-    x.symmetric_difference_with(y);
-    tell(rt, x.len());
-    x.intersect_with(y);
-    tell_line(rt, &x.is_empty());
-}
-
 fn ask_cores(rt: &HostRuntime, graph: &Graph<DevLinks>) -> Result<(), AllocError> {
-    let mut x = ResolveCore::from_included(set_of(graph, &[0, 1])?);
     let y = ResolveCore::from_included(set_of(graph, &[1, 2])?);
-    tell_cores(rt, &mut x, &y);
+    let mut x = ResolveCore::from_included(set_of(graph, &[0, 1])?);
+    begin(rt);
+    x.union_with(&y);
+    tell(rt, x.len());
+    x.symmetric_difference_with(&y);
+    tell(rt, x.len());
+    x.intersect_with(&y);
+    tell_line(rt, &x.is_empty());
     Ok(())
 }
 
@@ -209,21 +199,17 @@ fn ask_index(rt: &HostRuntime, graph: &Graph<DevLinks>) -> Result<(), AllocError
     let mut ixs = [PackageIx::new(2), PackageIx::new(0), PackageIx::new(1)];
     begin(rt);
     topo.sort_nodes(&mut ixs);
-    tell_list(rt, &ixs);
+    tell_all(rt, ixs.iter().copied(), &"in this order");
     Ok(())
-}
-
-fn ask_graph(rt: &HostRuntime, graph: &Graph<DevLinks>, call: &str) -> Result<(), AllocError> {
-    match call {
-        "index" => ask_index(rt, graph),
-        "cores" => ask_cores(rt, graph),
-        _ => ask_positions(rt, graph),
-    }
 }
 
 fn ask_numbers(rt: &HostRuntime, alloc: Global, call: &str) -> Result<(), AllocError> {
     let graph = positions::graph_of(alloc)?;
-    ask_graph(rt, &graph, call)
+    match call {
+        "index" => ask_index(rt, &graph),
+        "cores" => ask_cores(rt, &graph),
+        _ => ask_positions(rt, &graph),
+    }
 }
 
 // Sorted sets, sources, paths and statuses.
@@ -246,18 +232,10 @@ fn tell_data(
 }
 
 fn ask_data(rt: &HostRuntime, alloc: Global) -> Result<(), AllocError> {
-    let mut status = status_of(alloc, "x", "y")?;
+    let mut status = status_of(alloc, &["x", "y"])?;
     let platform = PlatformSpec::one(alloc, ())?;
     let items = vec![in alloc; "b", "a", "b"]?;
     tell_data(rt, items, &mut status, &platform)
-}
-
-fn ask_views(rt: &HostRuntime, world: &World<'_>, call: &str) {
-    if call == "fields" {
-        ask_fields(rt, world);
-    } else {
-        ask_lists(rt, world);
-    }
 }
 
 pub(crate) fn ask(
@@ -269,14 +247,12 @@ pub(crate) fn ask(
     match call {
         "look_ups" => ask_look_ups(rt, world),
         "members" => ask_members(rt, world),
-        "iterators" => ask_iterators(rt, &world.all),
+        "iterators" => ask_iterators(rt, world.all),
         "cache" => ask_cache(rt, world),
         "verify" => ask_verify(rt, alloc),
         "data" => Ok(ask_data(rt, alloc)?),
         "index" | "cores" | "positions" => Ok(ask_numbers(rt, alloc, call)?),
-        _ => {
-            ask_views(rt, world, call);
-            Ok(())
-        }
+        "fields" => ask_fields(rt, world),
+        _ => ask_lists(rt, world),
     }
 }

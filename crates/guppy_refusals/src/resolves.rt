@@ -1,5 +1,5 @@
 //! Resolves, plain and with visitors that count what they are shown.
-ghost use Rattle.std.specs.Prelude.{◌≡◌, ◌==◌, ◌||◌, ℕ, ◌+◌, ◌%◌, ◌^◌, ◌<◌, true, length, not};
+ghost use Rattle.std.specs.Prelude.{◌≡◌, ◌==◌, ℕ, ◌+◌, ◌%◌, ◌^◌, ◌<◌, length, not};
 ghost use Rattle.guppy.specs.Visitors.{MayVisitAt};
 
 use crate::records::Ends;
@@ -21,21 +21,27 @@ const DIAMOND: [Ends; 4] = [
     ("c", "d", Some(DependencyKind::Normal)),
 ];
 
-// Refuses its second call, and counts all.
+// Refuses the call of one number, and counts all.
 #[derive(Drop)]
-struct RefusesSecond {
+struct RefusesOne {
     calls: usize,
+    refused: usize,
 }
 
-impl PackageLinkVisitor for RefusesSecond {
+impl PackageLinkVisitor for RefusesOne {
     ghost visits = { λ s _ _ answer t. (t.calls ≡ (s.calls + 1) % 2 ^ 64)
-        × (answer ≡ not (t.calls == 2)) };
+        × (answer ≡ not (t.calls == s.refused)) × (t.refused ≡ s.refused) };
 
     fn visit_link(&mut self, _cx: &PackageLinkContext<'_>, _link: PackageLink<'_>) -> bool {
         self.calls = self.calls.wrapping_add(1);
-        self.calls != 2
+        self.calls != self.refused
     }
 }
+
+const REFUSES_SECOND: RefusesOne = RefusesOne {
+    calls: 0,
+    refused: 2,
+};
 
 fn resolved_with<'g, V: PackageLinkVisitor + Drop>(
     query: PackageQuery<'g>,
@@ -48,7 +54,7 @@ fn resolved_with<'g, V: PackageLinkVisitor + Drop>(
 
 // The visitor is lent, or handed over as a reference or behind a `dyn`.
 fn ask_counted(rt: &HostRuntime, query: PackageQuery<'_>, call: &str) -> Result<(), Error> {
-    let mut counter = RefusesSecond { calls: 0 };
+    let mut counter = REFUSES_SECOND;
     tell_calls(rt, counter.calls);
     begin(rt);
     let set = match call {
@@ -84,7 +90,7 @@ fn ask_closure(rt: &HostRuntime, query: PackageQuery<'_>, call: &str) -> Result<
 
 fn ask_recorded(rt: &HostRuntime, query: PackageQuery<'_>) -> Result<(), Error> {
     begin(rt);
-    let (set, recorder) = query.resolve_recorded(RefusesSecond { calls: 0 })?;
+    let (set, recorder) = query.resolve_recorded(REFUSES_SECOND)?;
     for (number, is_accepted) in &recorder.entries {
         tell(rt, *number);
         tell(rt, *is_accepted);
@@ -94,7 +100,7 @@ fn ask_recorded(rt: &HostRuntime, query: PackageQuery<'_>) -> Result<(), Error> 
 }
 
 fn resolved_in_a_box<'g>(alloc: Global, query: PackageQuery<'g>) -> Result<PackageSet<'g>, Error> {
-    let visitor: Box<dyn PackageLinkVisitor + Drop> = Box::new(alloc, RefusesSecond { calls: 0 })?;
+    let visitor: Box<dyn PackageLinkVisitor + Drop> = Box::new(alloc, REFUSES_SECOND)?;
     resolved_with(query, visitor)
 }
 
@@ -115,32 +121,13 @@ fn ask_set(
     Ok(())
 }
 
-// Refuses the first link to the package d, and no other, and counts all.
-#[derive(Drop)]
-struct RefusesOnce {
-    calls: usize,
-    has_refused: bool,
-}
-
-impl PackageLinkVisitor for RefusesOnce {
-    ghost visits = { λ s _ _ answer t. (t.calls ≡ (s.calls + 1) % 2 ^ 64)
-        × (s.has_refused ≡ true → answer ≡ true)
-        × (t.has_refused ≡ (s.has_refused || not answer)) };
-
-    fn visit_link(&mut self, _cx: &PackageLinkContext<'_>, link: PackageLink<'_>) -> bool {
-        self.calls = self.calls.wrapping_add(1);
-        if self.has_refused || link.to().name() != "d" {
-            return true;
-        }
-        self.has_refused = true;
-        false
-    }
-}
-
-fn ask_once(rt: &HostRuntime, query: PackageQuery<'_>) -> Result<(), Error> {
-    let mut visitor = RefusesOnce {
+// Forward from the package a, where the third call shows the first link to the package d.
+fn ask_once(rt: &HostRuntime, graph: &PackageGraph) -> Result<(), Error> {
+    let first = graph.workspace().member_by_name("a")?;
+    let query = first.to_package_query(FORWARD)?;
+    let mut visitor = RefusesOne {
         calls: 0,
-        has_refused: false,
+        refused: 3,
     };
     tell_calls(rt, visitor.calls);
     begin(rt);
@@ -150,16 +137,9 @@ fn ask_once(rt: &HostRuntime, query: PackageQuery<'_>) -> Result<(), Error> {
     Ok(())
 }
 
-// Forward from the package a.
-fn ask_graph(rt: &HostRuntime, graph: &PackageGraph) -> Result<(), Error> {
-    let first = graph.workspace().member_by_name("a")?;
-    let query = first.to_package_query(FORWARD)?;
-    ask_once(rt, query)
-}
-
 fn ask_diamond(rt: &HostRuntime, alloc: Global) -> Result<(), Error> {
     let graph = graph_of(alloc, &["a", "b", "c", "d"], &DIAMOND)?;
-    ask_graph(rt, &graph)
+    ask_once(rt, &graph)
 }
 
 // Copies the context at its first call, and keeps whether that was refused.
@@ -183,21 +163,6 @@ fn ask_context(rt: &HostRuntime, query: PackageQuery<'_>) -> Result<(), Error> {
     Ok(())
 }
 
-fn ask_query(
-    rt: &HostRuntime,
-    alloc: Global,
-    query: PackageQuery<'_>,
-    call: &str,
-) -> Result<(), Error> {
-    match call {
-        "resolve" | "resolve_with_box" => ask_set(rt, alloc, query, call),
-        "resolve_recorded" => ask_recorded(rt, query),
-        "resolve_with_fn" | "resolve_with_fn_mut" => ask_closure(rt, query, call),
-        "context_clone" => ask_context(rt, query),
-        _ => ask_counted(rt, query, call),
-    }
-}
-
 pub(crate) fn ask(
     rt: &HostRuntime,
     alloc: Global,
@@ -208,5 +173,11 @@ pub(crate) fn ask(
         return ask_diamond(rt, alloc);
     }
     let query = world.query.clone()?;
-    ask_query(rt, alloc, query, call)
+    match call {
+        "resolve" | "resolve_with_box" => ask_set(rt, alloc, query, call),
+        "resolve_recorded" => ask_recorded(rt, query),
+        "resolve_with_fn" | "resolve_with_fn_mut" => ask_closure(rt, query, call),
+        "context_clone" => ask_context(rt, query),
+        _ => ask_counted(rt, query, call),
+    }
 }

@@ -226,19 +226,15 @@ fn ask_cache(rt: &HostRuntime, graph: &Graph<DevLinks>) -> Result<(), AllocError
     Ok(())
 }
 
-fn ask_graph(rt: &HostRuntime, graph: &Graph<DevLinks>, call: &str) -> Result<(), AllocError> {
-    let start = set_of(graph, &[0])?;
-    match call {
-        "reachable_with_fn" | "reachable_filtered" | "with_edge_filter" | "with_edge_filter_mut" =>
-            { ask_closure(rt, graph, &start, call) }
-        "reachable_with" => ask_lent(rt, graph, &start),
-        "reachable_recorded" => ask_recorded(rt, graph, &start),
-        "reach_cache" => ask_cache(rt, graph),
-        _ => ask_buffered(rt, graph, &start, call),
-    }
-}
-
 pub(crate) fn ask(rt: &HostRuntime, alloc: Global, call: &str) -> Result<(), AllocError> {
     let graph = graph_of(alloc)?;
-    ask_graph(rt, &graph, call)
+    let start = set_of(&graph, &[0])?;
+    match call {
+        "reachable_with_fn" | "reachable_filtered" | "with_edge_filter" | "with_edge_filter_mut" =>
+            { ask_closure(rt, &graph, &start, call) }
+        "reachable_with" => ask_lent(rt, &graph, &start),
+        "reachable_recorded" => ask_recorded(rt, &graph, &start),
+        "reach_cache" => ask_cache(rt, &graph),
+        _ => ask_buffered(rt, &graph, &start, call),
+    }
 }

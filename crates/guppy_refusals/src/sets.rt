@@ -1,32 +1,18 @@
 //! Sets that are made of names or of sets.
-ghost use Rattle.std.specs.Prelude.{◌≡◌};
-ghost use Rattle.guppy.specs.Ids.{ids_of};
-
 use crate::told::{begin, tell_set};
 use crate::world::{World, names_of, paths_of};
 use guppy::{Error, PackageSet};
 
-fn copied<'g>(set: &PackageSet<'g>) -> Result<PackageSet<'g>, Error> {
-    Ok(set.clone()?)
-}
-
-fn combined<'g>(x: &PackageSet<'g>, y: &PackageSet<'_>, call: &str) -> Result<PackageSet<'g>, Error>
-    requires { ids_of x.now.graph.packages ≡ ids_of y.now.graph.packages }
-{
-    match call {
-        "union" => x.union(y),
-        "intersection" => x.intersection(y),
-        "difference" => x.difference(y),
-        _ => x.symmetric_difference(y),
-    }
-}
-
 // Sets of two graphs aren't combined.
 fn made_of_sets<'g>(world: &World<'g>, call: &str) -> Result<PackageSet<'g>, Error> {
-    if world.x.same_packages(&world.y) {
-        combined(&world.x, &world.y, call)
-    } else {
-        world.graph.resolve_none()
+    if !world.x.same_packages(world.y) {
+        return world.graph.resolve_none();
+    }
+    match call {
+        "union" => world.x.union(world.y),
+        "intersection" => world.x.intersection(world.y),
+        "difference" => world.x.difference(world.y),
+        _ => world.x.symmetric_difference(world.y),
     }
 }
 
@@ -52,7 +38,7 @@ fn made<'g>(world: &World<'g>, call: &str) -> Result<PackageSet<'g>, Error> {
         "resolve_workspace" => world.graph.resolve_workspace(),
         "resolve_package_name" => world.graph.resolve_package_name("b"),
         "to_package_set" => world.graph.metadata(world.b)?.to_package_set(),
-        "clone" => copied(&world.x),
+        "clone" => Ok(world.x.clone()?),
         _ => made_of_list(world, call),
     }
 }

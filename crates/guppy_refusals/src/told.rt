@@ -1,16 +1,13 @@
 //! What a case tells on standard output. Takes no memory.
-use guppy::PackageSet;
+ghost use Rattle.std.specs.Iterator.{IsFinite};
+
 use guppy::graph::DependencyDirection;
+use guppy::{PackageMetadata, PackageSet};
 use std::fmt::Display;
 
 /// The line behind which requests for memory count.
 pub(crate) fn begin(rt: &HostRuntime) {
-    let _told = println!(rt; "call");
-}
-
-/// The line before which they do.
-pub(crate) fn end(rt: &HostRuntime) {
-    let _told = println!(rt; "done");
+    tell_line(rt, &"call");
 }
 
 pub(crate) fn tell_line<T: Display>(rt: &HostRuntime, line: &T) {
@@ -25,6 +22,36 @@ pub(crate) fn tell<T: Display + Drop>(rt: &HostRuntime, word: T) {
 /// How often a visitor or a callback was called so far.
 pub(crate) fn tell_calls(rt: &HostRuntime, calls: usize) {
     let _told = println!(rt; "calls {calls}");
+}
+
+/// Tells the words, and what ends their line.
+pub(crate) fn tell_all<T: Display + Drop, I: Iterator<Item = T> + Drop, E: Display>(
+    rt: &HostRuntime,
+    words: I,
+    end: &E,
+)
+    requires can { I.can_next words }
+    requires ends { IsFinite (I.remaining words) }
+{
+    for word in words {
+        tell(rt, word);
+    }
+    tell_line(rt, end);
+}
+
+/// Tells the names of packages, and what ends their line.
+pub(crate) fn tell_names<'g, I: Iterator<Item = PackageMetadata<'g>> + Drop, E: Display>(
+    rt: &HostRuntime,
+    packages: I,
+    end: &E,
+)
+    requires can { I.can_next packages }
+    requires ends { IsFinite (I.remaining packages) }
+{
+    for package in packages {
+        tell(rt, package.name());
+    }
+    tell_line(rt, end);
 }
 
 /// The IDs of a set, in the order of its list.

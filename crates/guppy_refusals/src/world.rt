@@ -1,5 +1,5 @@
 //! What stands before a case begins: a graph, sets and a query of it.
-use crate::records::{Ends, id_of, records_of};
+use crate::records::{Ends, records_of};
 use crate::told::{tell, tell_line, tell_set};
 use guppy::graph::DependencyDirection;
 use guppy::{Error, IntoGraph, PackageGraph, PackageId, PackageQuery, PackageSet, Utf8Path};
@@ -15,79 +15,41 @@ pub(crate) fn graph_of(
 }
 
 /// A graph, and what was made of it.
-#[derive(Drop)]
+#[derive(Clone, Copy)]
 pub(crate) struct World<'g> {
     pub(crate) graph: &'g PackageGraph,
     pub(crate) a: &'g PackageId,
     pub(crate) b: &'g PackageId,
     pub(crate) c: &'g PackageId,
     /// Of no package
-    pub(crate) z: PackageId,
+    pub(crate) z: &'g PackageId,
     /// a and b
-    pub(crate) x: PackageSet<'g>,
+    pub(crate) x: &'g PackageSet<'g>,
     /// b and c
-    pub(crate) y: PackageSet<'g>,
+    pub(crate) y: &'g PackageSet<'g>,
     /// All packages
-    pub(crate) all: PackageSet<'g>,
+    pub(crate) all: &'g PackageSet<'g>,
     /// Forward from a
-    pub(crate) query: PackageQuery<'g>,
+    pub(crate) query: &'g PackageQuery<'g>,
 }
 
-fn member<'g>(graph: &'g PackageGraph, name: &str) -> Result<&'g PackageId, Error> {
+/// The ID of a member.
+pub(crate) fn member<'g>(graph: &'g PackageGraph, name: &str) -> Result<&'g PackageId, Error> {
     Ok(graph.workspace().member_by_name(name)?.id())
 }
 
-// The sets of a and b, and of b and c.
-fn pairs_of<'g>(
-    graph: &'g PackageGraph,
-    a: &'g PackageId,
-    b: &'g PackageId,
-    c: &'g PackageId,
-) -> Result<(PackageSet<'g>, PackageSet<'g>), Error> {
-    let x = graph.resolve_ids([a, b].into_iter())?;
-    let y = graph.resolve_ids([b, c].into_iter())?;
-    Ok((x, y))
-}
-
-// The set of all packages, and the query.
-fn start_of<'g>(
+/// The sets of a and b, of b and c, and of all packages.
+pub(crate) fn sets_of<'g>(
     graph: &'g PackageGraph,
     a: &PackageId,
-) -> Result<(PackageSet<'g>, PackageQuery<'g>), Error> {
-    let all = graph.resolve_all()?;
-    let query = graph.query_forward([a].into_iter())?;
-    Ok((all, query))
-}
-
-impl<'g> World<'g> {
-    fn of_members(
-        graph: &'g PackageGraph,
-        a: &'g PackageId,
-        b: &'g PackageId,
-        c: &'g PackageId,
-    ) -> Result<Self, Error> {
-        let (x, y) = pairs_of(graph, a, b, c)?;
-        let (all, query) = start_of(graph, a)?;
-        let z = id_of(graph.alloc(), "z");
-        Ok(World {
-            graph,
-            a,
-            b,
-            c,
-            z,
-            x,
-            y,
-            all,
-            query,
-        })
-    }
-
-    pub(crate) fn new(graph: &'g PackageGraph) -> Result<Self, Error> {
-        let a = member(graph, "a")?;
-        let b = member(graph, "b")?;
-        let c = member(graph, "c")?;
-        World::of_members(graph, a, b, c)
-    }
+    b: &PackageId,
+    c: &PackageId,
+) -> Result<Vec<PackageSet<'g>>, Error> {
+    let mut sets = Vec::new(graph.alloc());
+    sets.push(graph.resolve_ids([a, b].into_iter())?)?;
+    sets.push(graph.resolve_ids([b, c].into_iter())?)?;
+    sets.push(graph.resolve_all()?)?;
+    Ok(sets)
 }
 
 /// The paths of the members c and a, or in the place of the first one that is no member's.
@@ -127,7 +89,7 @@ pub(crate) fn tell_query(rt: &HostRuntime, query: &PackageQuery<'_>) {
 
 pub(crate) fn tell_world(rt: &HostRuntime, world: &World<'_>) {
     tell_graph(rt, world.graph);
-    tell_set(rt, &world.x);
-    tell_set(rt, &world.y);
-    tell_query(rt, &world.query);
+    tell_set(rt, world.x);
+    tell_set(rt, world.y);
+    tell_query(rt, world.query);
 }
