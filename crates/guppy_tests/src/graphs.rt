@@ -9,10 +9,6 @@ use guppy::{DependsCache, Error, PackageGraph, PackageId};
 fn put_counts(graph: &PackageGraph, out: &mut Answer) {
     out.put_number(graph.package_count());
     out.put_number(graph.link_count());
-    put_walks(graph, out);
-}
-
-fn put_walks(graph: &PackageGraph, out: &mut Answer) {
     out.put_number(graph.package_ids().len());
     out.put_number(graph.packages().len());
     out.put_number(graph.workspace().member_count());
@@ -37,17 +33,9 @@ fn put_each(graph: &PackageGraph, out: &mut Answer) {
     for text in &texts {
         out.put(text);
     }
-    put_rest_of_ids(graph, out);
-    put_rest_of_packages(graph, out);
-}
-
-fn put_rest_of_ids(graph: &PackageGraph, out: &mut Answer) {
     let mut ids = graph.package_ids();
     out.put_truth(ids.next().is_some());
     out.put_number(ids.len());
-}
-
-fn put_rest_of_packages(graph: &PackageGraph, out: &mut Answer) {
     let mut packages = graph.packages();
     out.put_truth(packages.next().is_some());
     out.put_number(packages.len());

@@ -11,21 +11,17 @@ use guppy_publish::publish_order;
 use std::alloc::{AllocError, Global};
 use std::process::Abort;
 
-// How many packages the cycle has, and these, behind a comma if it isn't the first.
-fn put_cycle(cycle: CycleIds<'_>, out: &mut Answer) {
-    out.put_comma();
-    out.put_number(cycle.len());
-    for id in cycle {
-        out.put(id.repr());
-    }
-}
-
+// How many packages each cycle has, and these, with commas between.
 fn put_each_cycle<'g, I: Iterator<Item = CycleIds<'g>> + Drop>(cycles: I, out: &mut Answer)
     requires can { I.can_next cycles }
     requires ends { IsFinite (I.remaining cycles) }
 {
     for cycle in cycles {
-        put_cycle(cycle, out);
+        out.put_comma();
+        out.put_number(cycle.len());
+        for id in cycle {
+            out.put(id.repr());
+        }
     }
 }
 

@@ -2,16 +2,11 @@
 ghost use Rattle.std.specs.Iterator.{IsFinite};
 
 use crate::examples::Answer;
-use guppy::{Error, PackageGraph, PackageQuery, PackageSet, Utf8Path};
+use guppy::{Error, PackageGraph, PackageSet, Utf8Path};
 
 /// How many packages the set has.
 pub(super) fn len_of(set: Result<PackageSet<'_>, Error>) -> Result<usize, Error> {
     Ok(set?.len())
-}
-
-/// How many packages the query includes.
-pub(super) fn resolved_len(query: PackageQuery<'_>) -> Result<usize, Error> {
-    len_of(query.resolve())
 }
 
 // How many members the names name, how many the set of them has, or how many a resolve of them.
@@ -26,7 +21,7 @@ fn count_named<'n, I: Iterator<Item = &'n str> + Drop>(
     match question {
         "named" => Ok(graph.workspace().members_by_names(names)?.len()),
         "set-named" => len_of(graph.resolve_workspace_names(names)),
-        _ => resolved_len(graph.query_workspace_names(names)?),
+        _ => len_of(graph.query_workspace_names(names)?.resolve()),
     }
 }
 
@@ -42,7 +37,7 @@ fn count_at_paths<'p, I: Iterator<Item = Utf8Path<'p>> + Drop>(
     match question {
         "named" => Ok(graph.workspace().members_by_paths(paths)?.len()),
         "set-named" => len_of(graph.resolve_workspace_paths(paths)),
-        _ => resolved_len(graph.query_workspace_paths(paths)?),
+        _ => len_of(graph.query_workspace_paths(paths)?.resolve()),
     }
 }
 
@@ -71,28 +66,18 @@ pub(super) fn put_at_paths(
     Ok(())
 }
 
-// How many of the names each call leaves unread.
-fn put_unread_names(graph: &PackageGraph, names: [&str; 3], out: &mut Answer) {
+/// How many of the texts each call leaves unread, taken as names and as paths.
+pub(super) fn put_unread(graph: &PackageGraph, texts: [&str; 3], out: &mut Answer) {
     for question in COUNTS {
-        let mut names = names.into_iter();
+        let mut names = texts.into_iter();
         let _refused = count_named(graph, question, &mut names);
         out.put_number(names.len());
     }
-}
-
-// The same of paths.
-fn put_unread_paths(graph: &PackageGraph, paths: [Utf8Path<'_>; 3], out: &mut Answer) {
+    let [a, b, c] = texts;
+    let paths = [Utf8Path::new(a), Utf8Path::new(b), Utf8Path::new(c)];
     for question in COUNTS {
         let mut paths = paths.into_iter();
         let _refused = count_at_paths(graph, question, &mut paths);
         out.put_number(paths.len());
     }
-}
-
-/// How many of the texts each call leaves unread, taken as names and as paths.
-pub(super) fn put_unread(graph: &PackageGraph, texts: [&str; 3], out: &mut Answer) {
-    put_unread_names(graph, texts, out);
-    let [a, b, c] = texts;
-    let paths = [Utf8Path::new(a), Utf8Path::new(b), Utf8Path::new(c)];
-    put_unread_paths(graph, paths, out);
 }
