@@ -118,61 +118,31 @@ fn add_package(
     packages.push(package).expect(rt, name);
 }
 
-fn target_id(rt: &impl Abort, alloc: Global, kind: &str, name: &str) -> OwnedBuildTargetId {
-    match kind {
-        "bin" => OwnedBuildTargetId::Binary(text(rt, alloc, name)),
-        "test" | "misfit" => OwnedBuildTargetId::Test(text(rt, alloc, name)),
-        _ => OwnedBuildTargetId::Library,
-    }
-}
-
-// A library's own name, where one is written.
-fn lib_name(rt: &impl Abort, alloc: Global, kind: &str, name: &str) -> Option<String> {
-    match (kind, name) {
-        (_, "") => None,
-        ("lib" | "macro", _) => Some(text(rt, alloc, name)),
-        _ => None,
-    }
-}
-
-fn target_kind(alloc: Global, kind: &str) -> BuildTargetKindRecord {
-    match kind {
+// The build target of a word without its plus. A library has its own name where one is written.
+fn target_of(rt: &impl Abort, alloc: Global, word: &str) -> BuildTargetRecord {
+    let (kind, name) = word.split_once('=').unwrap_or((word, ""));
+    let own_name = text(rt, alloc, name);
+    let (id, lib_name) = match kind {
+        "bin" => (OwnedBuildTargetId::Binary(own_name), None),
+        "test" | "misfit" => (OwnedBuildTargetId::Test(own_name), None),
+        _ if name.is_empty() => (OwnedBuildTargetId::Library, None),
+        _ => (OwnedBuildTargetId::Library, Some(own_name)),
+    };
+    let kind = match kind {
         "macro" => BuildTargetKindRecord::ProcMacro,
         "misfit" => BuildTargetKindRecord::LibraryOrExample(SortedSet::new(Vec::new(alloc))),
         _ => BuildTargetKindRecord::Binary,
-    }
-}
-
-fn add_target(
-    rt: &impl Abort,
-    alloc: Global,
-    targets: &mut Vec<BuildTargetRecord>,
-    kind: &str,
-    name: &str,
-) {
-    let target = BuildTargetRecord {
-        id: target_id(rt, alloc, kind, name),
-        kind: target_kind(alloc, kind),
-        lib_name: lib_name(rt, alloc, kind, name),
+    };
+    BuildTargetRecord {
+        id,
+        kind,
+        lib_name,
         required_features: Vec::new(alloc),
         path: no_path(alloc),
         edition: String::new(alloc),
         doc_by_default: false,
         doctest_by_default: false,
         test_by_default: false,
-    };
-    targets.push(target).expect(rt, kind);
-}
-
-fn add_target_word(
-    rt: &impl Abort,
-    alloc: Global,
-    packages: &mut Vec<PackageRecord>,
-    target: &str,
-) {
-    let (kind, name) = target.split_once('=').unwrap_or((target, ""));
-    if let Some(package) = packages.last_mut() {
-        add_target(rt, alloc, &mut package.build_targets, kind, name);
     }
 }
 
@@ -195,7 +165,10 @@ fn parts_of(word: &str) -> (&str, &str, Origin<'_>) {
 
 fn add_package_word(rt: &impl Abort, alloc: Global, packages: &mut Vec<PackageRecord>, word: &str) {
     if let Some(target) = word.strip_prefix('+') {
-        add_target_word(rt, alloc, packages, target);
+        if let Some(package) = packages.last_mut() {
+            let target = target_of(rt, alloc, target);
+            package.build_targets.push(target).expect(rt, word);
+        }
     } else {
         let (word, version) = word.split_once('#').unwrap_or((word, "1.2.3"));
         let version = Version::parse(alloc, version).expect(rt, version);
@@ -217,13 +190,6 @@ fn ends_of(ends: &str) -> (&str, &str, [bool; 3]) {
     }
 }
 
-fn set_sections(alloc: Global, link: &mut LinkRecord, sections: [bool; 3]) {
-    let [normal, build, dev] = sections;
-    link.normal = section(alloc, normal);
-    link.build = section(alloc, build);
-    link.dev = section(alloc, dev);
-}
-
 fn add_link(
     rt: &impl Abort,
     alloc: Global,
@@ -231,13 +197,15 @@ fn add_link(
     ends: (&str, &str, [bool; 3]),
     version_req: VersionReq,
 ) {
-    let (from, to, sections) = ends;
+    let (from, to, [normal, build, dev]) = ends;
     let from_id = id(rt, alloc, from);
     let to_id = id(rt, alloc, to);
     let dep_name = String::new(alloc);
     let resolved_name = String::new(alloc);
     let mut link = LinkRecord::new(alloc, from_id, to_id, dep_name, resolved_name, version_req);
-    set_sections(alloc, &mut link, sections);
+    link.normal = section(alloc, normal);
+    link.build = section(alloc, build);
+    link.dev = section(alloc, dev);
     links.push(link).expect(rt, from);
 }
 
@@ -245,24 +213,6 @@ fn add_link_word(rt: &impl Abort, alloc: Global, links: &mut Vec<LinkRecord>, wo
     let (ends, requirement) = word.split_once('#').unwrap_or((word, "*"));
     let requirement = VersionReq::parse(alloc, requirement).expect(rt, requirement);
     add_link(rt, alloc, links, ends_of(ends), requirement);
-}
-
-// How many links the shape has between so many positions.
-fn link_count(shape: &str, count: usize) -> usize {
-    match shape {
-        "complete" => count.saturating_mul(count),
-        "ring" => count,
-        _ => count.saturating_sub(1),
-    }
-}
-
-// The ends of the shape's link with this number.
-fn link_of(shape: &str, count: usize, number: usize) -> (usize, usize) {
-    match shape {
-        "complete" => (number / count.max(1), number % count.max(1)),
-        "backwards" => (number.saturating_add(1), number),
-        _ => (number, number.saturating_add(1) % count.max(1)),
-    }
 }
 
 /// The links of this shape between so many positions: from, to, and whether it is dev-only. A chain that is
@@ -273,9 +223,19 @@ pub(super) fn shape_of(
     shape: &str,
     count: usize,
 ) -> Vec<(usize, usize, bool)> {
+    let link_count = match shape {
+        "complete" => count.saturating_mul(count),
+        "ring" => count,
+        _ => count.saturating_sub(1),
+    };
     let mut ends = Vec::new(alloc);
-    for number in 0..link_count(shape, count) {
-        let (from, to) = link_of(shape, count, number);
+    for number in 0..link_count {
+        let next = number.saturating_add(1);
+        let (from, to) = match shape {
+            "complete" => (number / count.max(1), number % count.max(1)),
+            "backwards" => (next, number),
+            _ => (number, next % count.max(1)),
+        };
         ends.push((from, to, false)).expect(rt, shape);
     }
     ends
@@ -296,31 +256,6 @@ pub(super) fn numbered_ids(rt: &impl Abort, alloc: Global, count: usize) -> Vec<
     ids
 }
 
-fn add_numbered(
-    rt: &impl Abort,
-    alloc: Global,
-    packages: &mut Vec<PackageRecord>,
-    position: usize,
-) {
-    let name = numbered_name(rt, alloc, position);
-    let parts = (name.as_str(), name.as_str(), Origin::Local(""));
-    add_package(rt, alloc, packages, parts, Version::new(1, 2, 3));
-}
-
-fn add_numbered_link(
-    rt: &impl Abort,
-    alloc: Global,
-    links: &mut Vec<LinkRecord>,
-    ends: (usize, usize, bool),
-) {
-    let (from, to, is_dev_only) = ends;
-    let from = numbered_name(rt, alloc, from);
-    let to = numbered_name(rt, alloc, to);
-    let sections = [!is_dev_only, false, is_dev_only];
-    let ends = (from.as_str(), to.as_str(), sections);
-    add_link(rt, alloc, links, ends, VersionReq::star(alloc));
-}
-
 impl Records {
     // p0 and so on, so many, and links with these ends.
     fn add_between(
@@ -331,10 +266,19 @@ impl Records {
         links: &[(usize, usize, bool)],
     ) {
         for position in 0..count {
-            add_numbered(rt, alloc, &mut self.packages, position);
+            let name = numbered_name(rt, alloc, position);
+            let parts = (name.as_str(), name.as_str(), Origin::Local(""));
+            add_package(rt, alloc, &mut self.packages, parts, Version::new(1, 2, 3));
         }
-        for ends in links {
-            add_numbered_link(rt, alloc, &mut self.links, *ends);
+        for (from, to, is_dev_only) in links {
+            let from = numbered_name(rt, alloc, *from);
+            let to = numbered_name(rt, alloc, *to);
+            let ends = (
+                from.as_str(),
+                to.as_str(),
+                [!*is_dev_only, false, *is_dev_only],
+            );
+            add_link(rt, alloc, &mut self.links, ends, VersionReq::star(alloc));
         }
     }
 

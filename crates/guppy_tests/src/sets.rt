@@ -25,22 +25,12 @@ pub(super) fn direction_of(word: &str) -> DependencyDirection {
     }
 }
 
-// A query that starts at a copy of the set.
-fn query_again<'g>(set: &PackageSet<'g>) -> Result<PackageQuery<'g>, Error> {
-    let copy = set.clone()?;
-    copy.to_package_query(DependencyDirection::Forward)
-}
-
-// The set, by a copy of that query.
-fn resolved_again<'g>(set: &PackageSet<'g>) -> Result<PackageSet<'g>, Error> {
-    let query = query_again(set)?;
+// All packages, by a copy of a query that starts at a copy of their set.
+fn all_again(graph: &PackageGraph) -> Result<PackageSet<'_>, Error> {
+    let copy = graph.resolve_all()?.clone()?;
+    let query = copy.to_package_query(DependencyDirection::Forward)?;
     let copy = query.clone()?;
     copy.resolve()
-}
-
-// All packages, by a copy of a query.
-fn all_again(graph: &PackageGraph) -> Result<PackageSet<'_>, Error> {
-    resolved_again(&graph.resolve_all()?)
 }
 
 // The set of the package alone.
@@ -94,16 +84,6 @@ fn set_of<'g>(
     }
 }
 
-// Whether the package with the letter is in the set.
-fn has_letter(graph: &PackageGraph, set: &PackageSet<'_>, letter: &str) -> Result<bool, Error> {
-    for id in graph.package_ids() {
-        if id.repr() == letter {
-            return set.contains(id);
-        }
-    }
-    Ok(false)
-}
-
 // Those of the letters whose packages are in the set, and how many packages it has.
 pub(super) fn put_letters(
     graph: &PackageGraph,
@@ -111,8 +91,10 @@ pub(super) fn put_letters(
     out: &mut Answer,
 ) -> Result<(), Error> {
     for letter in &LETTERS {
-        if has_letter(graph, set, letter)? {
-            out.put_mark(letter);
+        for id in graph.package_ids() {
+            if id.repr() == *letter && set.contains(id)? {
+                out.put_mark(letter);
+            }
         }
     }
     out.put_number(set.len());
@@ -152,8 +134,8 @@ fn put_list(set: &PackageSet<'_>, direction: DependencyDirection, out: &mut Answ
     }
 }
 
-// The names of the roots.
-fn put_root_names(
+// The names of the roots, how many IDs they have, the first of these, and how many are left then.
+fn put_roots(
     set: &PackageSet<'_>,
     direction: DependencyDirection,
     out: &mut Answer,
@@ -161,15 +143,6 @@ fn put_root_names(
     for package in set.root_packages(direction)? {
         out.put(package.name());
     }
-    Ok(())
-}
-
-// How many IDs the roots have, the first of these, and how many are left then.
-fn put_root_ids(
-    set: &PackageSet<'_>,
-    direction: DependencyDirection,
-    out: &mut Answer,
-) -> Result<(), Error> {
     let mut ids = set.root_ids(direction)?;
     out.put_number(ids.len());
     if let Some(id) = ids.next() {
@@ -177,15 +150,6 @@ fn put_root_ids(
     }
     out.put_number(ids.len());
     Ok(())
-}
-
-fn put_roots(
-    set: &PackageSet<'_>,
-    direction: DependencyDirection,
-    out: &mut Answer,
-) -> Result<(), Error> {
-    put_root_names(set, direction, out)?;
-    put_root_ids(set, direction, out)
 }
 
 // The numbers of the walked links.
@@ -244,19 +208,14 @@ fn part_second(set: &PackageSet<'_>, out: &mut Answer) -> Result<(), Error> {
     Ok(())
 }
 
-// Whether the one half is what a filter made and the other isn't, and both.
-fn put_parted(only: &PackageSet<'_>, halves: (&PackageSet<'_>, &PackageSet<'_>), out: &mut Answer) {
-    out.put_truth(*only == *halves.0 && *only != *halves.1);
-    put_halves(halves.0, halves.1, out);
-}
-
-// Parts the packages of this name from the others.
+// Parts the packages of this name from the others, and tells whether a filter makes the one half alone.
 fn part_by_name(set: &PackageSet<'_>, name: &str, out: &mut Answer) -> Result<(), Error> {
     let direction = DependencyDirection::Forward;
     let is_named = |package: PackageMetadata<'_>| package.name() == name;
     let only = set.filter(direction, is_named)?;
     let (first, second) = set.partition(direction, is_named)?;
-    put_parted(&only, (&first, &second), out);
+    out.put_truth(only == first && only != second);
+    put_halves(&first, &second, out);
     Ok(())
 }
 
