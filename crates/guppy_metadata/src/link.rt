@@ -110,9 +110,7 @@ fn is_used(declared: &Declared<'_>, usages: &[Usage<'_>]) -> bool
 fn are_same(name: &str, other: &str) -> bool
     ensures { result ≡ bytes_eq name.now other.now }
 {
-    name.len() == other.len()
-        && name.as_bytes().last() == other.as_bytes().last()
-        && name == other
+    name.len() == other.len() && name.as_bytes().last() == other.as_bytes().last() && name == other
 }
 
 // Whether what a package declares is among the dependencies that were resolved to this one. One on itself
