@@ -4,7 +4,7 @@ use Rattle.std.specs.declared.alloc.Global.{Global}
 use Rattle.std.specs.Borrow.{Bor}
 use Rattle.std.specs.List.{filter, find}
 use Rattle.std.specs.Option.{option_map_or}
-use Rattle.std.specs.BTreeMap.{BTreeMap, get_by_text}
+use Rattle.indexmap.specs.IndexMap.{IndexMap, get_by_text}
 use Rattle.std.specs.Str.{bytes_eq}
 use Rattle.std.specs.String.{string_bytes}
 use Rattle.indexmap.specs.IndexSet.{IndexSet, contains_by}
@@ -51,12 +51,12 @@ abbrev pub AreIds : {S : Type 0} → List PackageRecord → IndexSet (Bor (List 
 AreIds packages ids = (id : List ℕ) → contains_by (λ key. bytes_eq id key.now) ids ≡ has_id id packages
 
 -- behind each text stand the IDs of the packages that are called so
-abbrev pub AreCalled : List PackageRecord → BTreeMap (String Global) (Vec (List ℕ) Global) → Type 0
+abbrev pub AreCalled : {S : Type 0} → List PackageRecord → IndexMap (String Global) (Vec (List ℕ) Global) S → Type 0
 AreCalled packages ids_by_text = (word : List ℕ)
     → option_map_or (λ ids. ids.items) (get_by_text ids_by_text word) [] ≡ called packages word
 
 -- behind each ID stands what is printed for the package
-abbrev pub AreTexts : List PackageRecord → BTreeMap (String Global) (String Global) → Type 0
+abbrev pub AreTexts : {S : Type 0} → List PackageRecord → IndexMap (String Global) (String Global) S → Type 0
 AreTexts packages texts = (id : List ℕ)
     → option_map_or string_bytes (get_by_text texts id) id ≡ text packages id
 

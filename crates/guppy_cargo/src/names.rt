@@ -2,28 +2,27 @@
 //! these do, and else by the ID.
 ghost use Rattle.std.specs.Prelude.{◌≡◌, [], ◌∷◌, ◌++◌, List, ℕ, string_bytes, IfOk, OnOk, if◌then◌else◌};
 ghost use Rattle.std.specs.Option.{option_map_or};
-ghost use Rattle.std.specs.BTreeMap.{get_by_text};
+ghost use Rattle.indexmap.specs.IndexMap.{get_by_text};
 ghost use Rattle.std.specs.Str.{bytes_eq};
 ghost use Rattle.guppy_data.specs.declared.records.PackageRecord.{PackageRecord};
 ghost use Rattle.guppy_cargo.specs.Names.{full_name_of, called, meant, is_only, printed, text, AreIds, AreCalled, AreTexts, AreNames};
 
 use guppy_data::{PackageId, PackageRecord};
-use indexmap::IndexSet;
+use indexmap::{IndexMap, IndexSet};
 use std::alloc::{AllocError, Global};
-use std::collections::BTreeMap;
 
 /// What packages are called.
 #[derive(Drop)]
 pub struct Names {
     // The IDs of the packages with each name, and with each name and version.
-    called: BTreeMap<String, Vec<PackageId>>,
+    called: IndexMap<String, Vec<PackageId>>,
     // What is printed for the package with each ID.
-    texts: BTreeMap<String, String>,
+    texts: IndexMap<String, String>,
 }
 
 // Adds the ID to those of the packages that are called so.
 fn add_called(
-    ids_by_text: &mut BTreeMap<String, Vec<PackageId>>,
+    ids_by_text: &mut IndexMap<String, Vec<PackageId>>,
     alloc: Global,
     word: String,
     id: PackageId,
@@ -33,13 +32,8 @@ fn add_called(
         ≡ option_map_or (λ ids. ids.items) (get_by_text ids_by_text.old other) []
         ++ (if bytes_eq other (string_bytes word) then id ∷ [] else [])) }
 {
-    let mut ids = match ids_by_text.remove(word.as_str()) {
-        Some(ids) => ids,
-        None => Vec::new(alloc),
-    };
-    ids.push(id)?;
-    ids_by_text.insert(word, ids)?;
-    Ok(())
+    let ids = ids_by_text.entry(word)?.or_insert(Vec::new(alloc));
+    Ok(ids.push(id)?)
 }
 
 // `name@version`.
@@ -53,10 +47,10 @@ fn full_name(alloc: Global, package: &PackageRecord) -> Result<String, AllocErro
 fn called_by_text(
     alloc: Global,
     packages: &[PackageRecord],
-) -> Result<BTreeMap<String, Vec<PackageId>>, AllocError>
+) -> Result<IndexMap<String, Vec<PackageId>>, AllocError>
     ensures { IfOk result (AreCalled packages.now) }
 {
-    let mut ids_by_text = BTreeMap::new(alloc);
+    let mut ids_by_text = IndexMap::new(alloc);
     for package in packages {
         let name = package.name.clone()?;
         add_called(&mut ids_by_text, alloc, name, package.id.clone()?)?;
@@ -90,7 +84,7 @@ fn is_only(id: &PackageId, ids: &[PackageId]) -> bool
 // Whether the word means the package with this ID alone.
 fn means_alone(
     ids: &IndexSet<&str>,
-    ids_by_text: &BTreeMap<String, Vec<PackageId>>,
+    ids_by_text: &IndexMap<String, Vec<PackageId>>,
     word: &str,
     id: &PackageId,
 ) -> bool
@@ -110,7 +104,7 @@ fn means_alone(
 fn printed(
     alloc: Global,
     ids: &IndexSet<&str>,
-    ids_by_text: &BTreeMap<String, Vec<PackageId>>,
+    ids_by_text: &IndexMap<String, Vec<PackageId>>,
     package: &PackageRecord,
 ) -> Result<String, AllocError>
     ensures { IfOk result (λ made. (packages : List PackageRecord) → AreIds packages ids.now
@@ -130,13 +124,13 @@ fn printed(
 fn texts_of(
     alloc: Global,
     ids: &IndexSet<&str>,
-    ids_by_text: &BTreeMap<String, Vec<PackageId>>,
+    ids_by_text: &IndexMap<String, Vec<PackageId>>,
     packages: &[PackageRecord],
-) -> Result<BTreeMap<String, String>, AllocError>
+) -> Result<IndexMap<String, String>, AllocError>
     ensures { IfOk result (λ texts. AreIds packages.now ids.now
         → AreCalled packages.now ids_by_text.now → AreTexts packages.now texts) }
 {
-    let mut texts = BTreeMap::new(alloc);
+    let mut texts = IndexMap::with_capacity(alloc, packages.len())?;
     for package in packages {
         let id = package.id.repr();
         if texts.contains_key(id) {
@@ -149,7 +143,7 @@ fn texts_of(
 }
 
 impl Names {
-    /// What these packages are called. Takes time for each package times the logarithm of their number.
+    /// What these packages are called. Takes time in their number, as far as hashes of their texts differ.
     pub fn of(alloc: Global, packages: &[PackageRecord]) -> Result<Names, AllocError>
         ensures { IfOk result (λ names. AreNames names packages.now) }
     {

@@ -4,6 +4,7 @@ pub mod Fault
 pub mod Feature
 pub mod Fits
 pub mod Gathered
+pub mod Key
 pub mod Links
 pub mod Members
 pub mod Node

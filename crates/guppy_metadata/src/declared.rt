@@ -1,5 +1,5 @@
 //! A dependency as a package declares it.
-ghost use Rattle.std.specs.Prelude.{◌≡◌, false, Some, map, length, unwrap_or, IfOk, IfSome, MatchOption, MatchResult};
+ghost use Rattle.std.specs.Prelude.{◌≡◌, false, Some, map, length, IfOk, IfSome, MatchOption, MatchResult};
 ghost use Rattle.std.specs.Option.{option_copied};
 ghost use Rattle.json.specs.Json.{Json, value};
 ghost use Rattle.guppy_data.specs.declared.texts.dependency_kind.DependencyKind.{DependencyKind};
@@ -12,6 +12,7 @@ ghost use Rattle.guppy_metadata.specs.Package.{AreDeclared};
 
 use crate::asked::{optional_text, read_asked, truth_or};
 use crate::fault::{Misfit, TextFault};
+use crate::key::name_key;
 use crate::object::{Object, requirement_of};
 use crate::read::read_object;
 use crate::types::Declared;
@@ -76,6 +77,7 @@ fn declared_of<'a>(dependency: Object<'_, 'a>, details: bool) -> Result<Declared
     let requirement = requirement_of(dependency.alloc, "req", text)?;
     Ok(Declared {
         name,
+        key: name_key(name),
         rename,
         requirement,
         section,
@@ -144,6 +146,7 @@ fn plain_of<'a>(values: &[Value<'a>], alloc: Global) -> Option<Declared<'a>>
     let requirement = requirement_of(alloc, "req", text).ok()?;
     Some(Declared {
         name,
+        key: name_key(name),
         rename,
         requirement,
         section,

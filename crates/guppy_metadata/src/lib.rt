@@ -9,6 +9,7 @@
 //! - `read`: objects that are read into memory that is used again;
 //! - `asked`: members of objects that are asked for by their names;
 //! - `path`: the folder of a package, from the workspace's root;
+//! - `key`: what of names is compared first;
 //! - `feature`: named features;
 //! - `target`: build targets;
 //! - `declared`: a dependency as a package declares it;
@@ -30,6 +31,7 @@ mod by_item;
 mod declared;
 mod fault;
 mod feature;
+mod key;
 pub mod laws;
 mod link;
 mod node;

@@ -105,21 +105,23 @@ fn is_used(declared: &Declared<'_>, usages: &[Usage<'_>]) -> bool
     false
 }
 
-// Whether two names are the same. Their lengths are compared first, which lie beside the names' places, then their last
-// letters, as many names begin alike.
-fn are_same(name: &str, other: &str) -> bool
-    ensures { result ≡ bytes_eq name.now other.now }
+// Whether the dependency asks for a package of this name. The names' keys are compared first, which lie beside the
+// names' places.
+#[inline(always)]
+fn asks_for_name(declared: &Declared<'_>, needed: &Package<'_>) -> bool
+    ensures { result ≡ bytes_eq declared.now.name.now (string_bytes needed.now.record.name) }
 {
-    name.len() == other.len() && name.as_bytes().last() == other.as_bytes().last() && name == other
+    declared.key == needed.key && declared.name == needed.record.name.as_str()
 }
 
 // Whether what a package declares is among the dependencies that were resolved to this one. One on itself
 // is resolved with the name of its library, whatever its own is.
+#[inline(always)]
 fn fits(declared: &Declared<'_>, from: &str, resolved: &Resolved<'_>, needed: &Package<'_>) -> bool
     ensures { result ≡ fits from.now resolved.now needed.now declared.now }
 {
-    are_same(declared.name, needed.record.name.as_str())
-        && (from == resolved.id || has_name(declared, needed, resolved.name))
+    asks_for_name(declared, needed)
+        && (has_name(declared, needed, resolved.name) || from == resolved.id)
         && declared.takes(&needed.record.version)
         && is_used(declared, resolved.usages.as_slice())
 }

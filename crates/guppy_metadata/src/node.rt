@@ -88,7 +88,8 @@ fn let_go(
     };
     let position = *position;
     if position < packages.len() {
-        packages[position].declared = Vec::new(alloc);
+        let package = &mut packages[position];
+        package.declared = Vec::new(alloc);
     }
 }
 

@@ -1,5 +1,5 @@
 //! Packages.
-ghost use Rattle.std.specs.Prelude.{◌≡◌, true, List, Option, Some, IfOk, IfErr, OnOk, MatchResult, map, option_map, string_bytes, codes, Bool};
+ghost use Rattle.std.specs.Prelude.{◌≡◌, true, Some, IfOk, IfErr, OnOk, MatchResult, map, option_map, string_bytes, codes, Bool};
 ghost use Rattle.std.specs.List.{AllZip};
 ghost use Rattle.std.specs.Option.{option_copied};
 ghost use Rattle.json.specs.Json.{Json, string};
@@ -9,12 +9,12 @@ ghost use Rattle.guppy_data.specs.Utf8Path.{path_text};
 ghost use Rattle.guppy_metadata.specs.Dependency.{NamesOptional};
 ghost use Rattle.guppy_metadata.specs.Fault.{NoneIs, IsRead};
 ghost use Rattle.guppy_metadata.specs.Members.{data_of, is_among, is_in_set, IsText};
-ghost use Rattle.guppy_metadata.specs.declared.types.Package.{Package};
 ghost use Rattle.guppy_metadata.specs.Package.{IsFrom, IsNamed, IsKnown, IsShown, IsDescribed, IsFilled, IsPlain, IsDetailed, IsTold, IsRecordOf, IsPublishable, IsRustVersion, AreAskedTargets, IsLibrary, AreDeclared, AreTold, AreAlike, ArePositions, dots_in, zeros_behind, whole_version};
 
 use crate::declared::{declared_dependencies, optional_names};
 use crate::fault::Misfit;
 use crate::feature::named_features;
+use crate::key::name_key;
 use crate::object::{Object, optional_copy, version_of};
 use crate::path::folder_from;
 use crate::target::{build_targets, first_library};
@@ -242,6 +242,7 @@ fn filled_package<'a>(
         source,
         library,
         declared,
+        key: name_key(made.name.as_str()),
         record: made,
     })
 }

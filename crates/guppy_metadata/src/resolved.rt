@@ -1,6 +1,5 @@
 //! Dependencies as they are resolved.
 ghost use Rattle.std.specs.Prelude.{◌≡◌, Some, IfSome, MatchResult, length, map, OnSome};
-ghost use Rattle.std.specs.Option.{option_copied};
 ghost use Rattle.json.specs.Json.{Json, string, value};
 ghost use Rattle.json.specs.Value.{value_view};
 ghost use Rattle.guppy_metadata.specs.Asked.{AreValuesOf};

@@ -3,7 +3,7 @@
 ghost use Rattle.std.specs.Prelude.{◌≡◌, ◌==◌, ◌<◌, Some, None, Err, IfOk, IsTrue, length, option_map, slice_index, false, true};
 ghost use Rattle.json.specs.Value.{value_view, items_view, members_view};
 ghost use Rattle.serde_json.specs.Data.{no_members};
-ghost use Rattle.serde_json.specs.Read.{of_items, of_members, number_of, number_from, float_of};
+ghost use Rattle.serde_json.specs.Read.{of_items, of_members, number_of, number_from};
 ghost use Rattle.serde_json.specs.View.{view, number_view, items_view as owned_items, members_view as owned_members};
 ghost use Rattle.guppy_metadata.specs.Table.{IsTable, HasNoTable};
 

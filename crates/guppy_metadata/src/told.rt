@@ -1,10 +1,9 @@
 //! The packages and the resolved nodes, read item by item, so that no value of the whole stands in memory.
-ghost use Rattle.std.specs.Prelude.{◌≡◌, ◌++◌, [], List, Some, IfSome, OnSome, IsSomeAnd, codes};
+ghost use Rattle.std.specs.Prelude.{◌≡◌, [], Some, IfSome, OnSome, IsSomeAnd, codes};
 ghost use Rattle.std.specs.List.{AllZip};
 ghost use Rattle.json.specs.Json.{Json, max_depth, value};
 ghost use Rattle.json.specs.Find.{get};
-ghost use Rattle.guppy_data.specs.declared.records.LinkRecord.{LinkRecord};
-ghost use Rattle.guppy_metadata.specs.Links.{AreLinksOf, AreLinksOfList};
+ghost use Rattle.guppy_metadata.specs.Links.{AreLinksOfList};
 ghost use Rattle.guppy_metadata.specs.Members.{IsListOf};
 ghost use Rattle.guppy_metadata.specs.Package.{IsTold, IsLetGo, ArePositions};
 ghost use Rattle.guppy_metadata.specs.Told.{Tells, IsWith};

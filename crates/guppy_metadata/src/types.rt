@@ -1,4 +1,6 @@
 //! What is read, before records are made of it.
+ghost use Rattle.std.specs.Prelude.{◌≡◌, string_bytes};
+ghost use Rattle.guppy_metadata.specs.Key.{name_key};
 
 use guppy_data::{DependencyKind, LinkRecord, PackageId, PackageRecord};
 use json::Value;
@@ -9,12 +11,14 @@ use semver::{Version, VersionReq};
 pub(crate) struct Declared<'a> {
     /// The name of the package that is asked for.
     pub(crate) name: &'a str,
+    /// That name's key.
+    pub(crate) key: u32,
+    /// The section that asks for it.
+    pub(crate) section: DependencyKind,
     /// The name that the dependency has instead.
     pub(crate) rename: Option<&'a str>,
     /// The versions that are asked for.
     pub(crate) requirement: VersionReq,
-    /// The section that asks for it.
-    pub(crate) section: DependencyKind,
     /// The platforms on which it is asked for, where not on all.
     pub(crate) target: Option<&'a str>,
     /// Whether it is there only where a feature switches it on.
@@ -27,6 +31,7 @@ pub(crate) struct Declared<'a> {
     pub(crate) registry: Option<&'a str>,
     /// The path that is asked for.
     pub(crate) path: Option<&'a str>,
+    ghost keyed: { key ≡ name_key name.now },
 }
 
 impl<'a> Declared<'a> {
@@ -62,8 +67,11 @@ pub(crate) struct Package<'a> {
     pub(crate) library: Option<String>,
     /// The dependencies that it declares.
     pub(crate) declared: Vec<Declared<'a>>,
+    /// The key of its name.
+    pub(crate) key: u32,
     /// Its record, but for where it comes from.
     pub(crate) record: PackageRecord,
+    ghost keyed: { key ≡ name_key (string_bytes record.name) },
 }
 
 /// A section and the platforms that a resolved dependency is used for.

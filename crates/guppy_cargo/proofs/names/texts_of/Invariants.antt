@@ -1,5 +1,5 @@
 use Rattle.std.proofs.Common.{take, string_bytes}
-use Rattle.std.specs.BTreeMap.{get_by_text}
+use Rattle.indexmap.specs.IndexMap.{get_by_text}
 use Rattle.guppy_cargo.specs.Names.{printed, AreIds, AreCalled}
 use Rattle.guppy_cargo.proofs.FirstElements.{HasFirsts}
 use Rattle.guppy_cargo.proofs.names.texts_of.Given as goal

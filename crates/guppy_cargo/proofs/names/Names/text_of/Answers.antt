@@ -1,5 +1,5 @@
 use Rattle.std.proofs.Common.{◌∙◌, ap, string_bytes}
-use Rattle.std.specs.BTreeMap.{get_by_text}
+use Rattle.indexmap.specs.IndexMap.{get_by_text}
 use Rattle.std.specs.Option.{option_map_or}
 use Rattle.guppy_cargo.proofs.names.Names.text_of.Goals as goal
 

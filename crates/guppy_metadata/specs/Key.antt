@@ -1,0 +1,11 @@
+-- What of names is compared first.
+use Rattle.std.specs.Prelude.{◌+◌, ◌-◌, ◌*◌, ◌%◌, ℕ, List, length, drop}
+use Rattle.std.specs.List.{fold}
+
+-- a number of four letters, and one of the last three of them and one more
+abbrev pub and_letter : ℕ → ℕ → ℕ
+and_letter key letter = key % 16777216 * 256 + letter
+
+-- the last four letters of a name
+abbrev pub name_key : List ℕ → ℕ
+name_key name = fold and_letter 0 (drop (length name - 4) name)
