@@ -2,7 +2,7 @@
 use Rattle.std.specs.Prelude.{◌+◌, ◌-◌, ◌*◌, ◌%◌, ℕ, List, length, drop}
 use Rattle.std.specs.List.{fold}
 
--- a number of four letters, and one of the last three of them and one more
+-- a key with one more letter, in place of the first of its four
 abbrev pub and_letter : ℕ → ℕ → ℕ
 and_letter key letter = key % 16777216 * 256 + letter
 
