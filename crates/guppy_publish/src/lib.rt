@@ -1,13 +1,14 @@
 //! The order in which the members of a workspace can be published, above `guppy`'s public calls alone.
 #![tactic(auto)]
 
-ghost use Rattle.std.specs.Prelude.{map, IfOk, IfErr, OnOk};
+ghost use Rattle.std.specs.Prelude.{◌≡◌, map, IfOk, IfErr, OnOk};
 ghost use Rattle.guppy.specs.FirmCycles.{HasNoFirmCycle};
+ghost use Rattle.guppy.specs.Listed.{listed_ids_left};
 ghost use Rattle.guppy.specs.Verified.{IsVerified, IsVerifyFault, TellsVerifyFault};
 ghost use Rattle.guppy_publish.specs.Publishing.{ArePublishIds};
 
 use guppy::graph::DependencyDirection;
-use guppy::{Error, PackageGraph, PackageId};
+use guppy::{Error, ListedPackageIds, PackageGraph, PackageId};
 
 /// The IDs of the workspace's members in an order in which they can be published: each once, and each
 /// after every other member to which a path of links that aren't dev-only leads from it, also through
@@ -24,7 +25,27 @@ pub fn publish_order(graph: &PackageGraph) -> Result<Vec<&PackageId>, Error>
     ensures fault { IfErr result (TellsVerifyFault (IsVerifyFault graph.now)) }
 {
     graph.verify()?;
+    members_in_order(graph)
+}
+
+// The members' IDs in such an order, where no cycle is over links that aren't dev-only.
+fn members_in_order(graph: &PackageGraph) -> Result<Vec<&PackageId>, Error>
+    requires { HasNoFirmCycle graph.now }
+    ensures order { IfOk result (λ ids. ArePublishIds graph.now (map (λ id. id.now) ids.items)) }
+    ensures error { IfErr result (λ error. error ≡ Error.OutOfMemory) }
+{
     let members = graph.resolve_workspace()?;
-    let ids = members.package_ids(DependencyDirection::Reverse);
+    let ids = ids_left(graph, members.package_ids(DependencyDirection::Reverse))?;
+    Ok(ids)
+}
+
+// The IDs that the list still has.
+fn ids_left<'g>(
+    graph: &'g PackageGraph,
+    ids: ListedPackageIds<'_, 'g>,
+) -> Result<Vec<&'g PackageId>, Error>
+    ensures ids { IfOk result (λ list. map (λ id. id.now) list.items ≡ listed_ids_left ids.entry) }
+    ensures error { IfErr result (λ error. error ≡ Error.OutOfMemory) }
+{
     Ok(ids.collect(graph.alloc())?)
 }

@@ -12,9 +12,6 @@ invariant-loop-frame g l = record {
   counted : l.fn.graph.looks ≤ l.graph.looks;
 }
 
-abbrev pub decreases-loop-frame : goal.decreases-loop-frame
-decreases-loop-frame g l = left 1 (degree {E = g.row.G-Edge.Denot} Forward l.fn.graph.graph.links) l.seen l.frames.items
-
 abbrev pub invariant-loop-start : goal.invariant-loop-start
 invariant-loop-start g l = record {
   search : Finishing Forward g.kept l.fn.graph.graph l.starts l.start-index (l.fn.graph.looks + length l.fn.graph.graph.links) l.graph.looks l.seen l.frames.items l.order.items;
@@ -22,3 +19,6 @@ invariant-loop-start g l = record {
   graph : l.graph.graph ≡ l.fn.graph.graph;
   counted : l.fn.graph.looks ≤ l.graph.looks;
 }
+
+abbrev pub decreases-loop-frame : goal.decreases-loop-frame
+decreases-loop-frame g l = left 1 (degree {E = g.row.G-Edge.Denot} Forward l.fn.graph.graph.links) l.seen l.frames.items

@@ -1,23 +1,19 @@
-use Rattle.std.proofs.Common.{◌∙◌, refl, ap, sym, subst, ℕ, List, Bor, map}
-use Rattle.std.proofs.lemmas.Iterator.{items_from_drains}
-use Rattle.std.proofs.lemmas.Iterator.Consumers.{YieldsList-from_first}
+use Rattle.std.proofs.Common.{◌∙◌, ap, sym, subst}
 use Rattle.guppy.specs.SearchTypes.ix.direction.DependencyDirection.TheVariants.{Reverse}
 use Rattle.guppy.specs.FirmCycles.{HasNoFirmCycle}
 use Rattle.guppy.specs.Graph.{GraphData}
-use Rattle.guppy.specs.Listed.{listed_ids_left, positions_listed, ids_at}
+use Rattle.guppy.specs.Listed.{positions_listed, ids_at}
 use Rattle.guppy.specs.Ordered.{FirmStep}
 use Rattle.guppy.specs.Reach.{Walk}
-use Rattle.guppy_publish.proofs.publish_order.Goals as goal
+use Rattle.guppy_publish.proofs.members_in_order.Goals as goal
 
 pub returns-clause-order : goal.returns-clause-order
 returns-clause-order c =
     let members = c.in_ok-members.members in
     let named = c.in_ok-members.ensures.members in
     let same = c.in_ok-members.ensures.graph in
-    let listed = c.package_ids-ids.ensures in
-    let none : HasNoFirmCycle members.graph = subst HasNoFirmCycle (sym same) c.in_ok-verify.ensures.verified.1 in
-    let ran = c.in_ok-collect.ensures.ran in
-    let given = items_from_drains ran.0 ran.1 (YieldsList-from_first (λ (r : Bor (List ℕ)). r.now) listed_ids_left {s = c.package_ids-ids.result} (listed_ids_left c.package_ids-ids.result) refl) in
+    let listed = c.package_ids.ensures in
+    let none : HasNoFirmCycle members.graph = subst HasNoFirmCycle (sym same) c.requires in
     record {
       order = positions_listed Reverse members;
       is_order = record {
@@ -25,7 +21,6 @@ returns-clause-order c =
         members = λ p. (λ s. (named.members p).0 ((listed.members p).0 s), λ m. (listed.members p).1 ((named.members p).1 m));
         after = λ x y s t other walk. listed.leads_on none x y ((listed.members x).0 s) ((listed.members y).0 t) (subst (λ (g : GraphData). Walk (FirmStep g.links) x y) (sym same) walk) other;
       };
-      ids_are = ap (λ (ids : List (Bor (List ℕ))). map (λ r. r.now) ids) ran.2.0
-          ∙ given ∙ listed.left
+      ids_are = c.in_ok-ids.ensures.ids ∙ listed.left
           ∙ ap (λ (g : GraphData). ids_at g.packages (positions_listed Reverse members)) same;
     }
