@@ -28,18 +28,3 @@ impl TargetEval for ByTable {
         }
     }
 }
-
-/// Answers nothing to each text.
-pub struct KnowsNothing;
-
-impl TargetEval for KnowsNothing {
-    ghost use Rattle.std.specs.Prelude.{None};
-
-    type Platform = ();
-
-    ghost answer = { λ _ _ _. None };
-
-    fn eval(&self, _spec: &TargetSpec, _platform: &()) -> Option<bool> {
-        None
-    }
-}

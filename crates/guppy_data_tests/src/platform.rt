@@ -1,7 +1,7 @@
 //! Platform statuses and what they enable.
 
-use crate::cases::{hold, texts_are};
-use crate::evaluators::{ByTable, KnowsNothing, Machine};
+use crate::cases::hold;
+use crate::evaluators::{ByTable, Machine};
 use crate::owned::text;
 use guppy_data::{
     EnabledTernary, PlatformSpec, PlatformStatus, PlatformStatusImpl, TargetSpec,
@@ -28,6 +28,12 @@ const WINDOWS: Machine = Machine {
     other: None,
 };
 
+/// Answers nothing to each text.
+pub(crate) const KNOWS_NOTHING: Machine = Machine {
+    windows: None,
+    other: None,
+};
+
 const WINDOWS_SSE: Machine = Machine {
     windows: Some(true),
     other: Some(true),
@@ -40,156 +46,170 @@ pub(crate) fn specs(rt: &impl Abort, alloc: Global, name: &str) -> PlatformStatu
     status
 }
 
-fn assert_x_and_y(rt: &impl Abort, name: &str, status: &PlatformStatusImpl) {
-    let PlatformStatus::PlatformDependent { eval } = PlatformStatus::new(status) else {
-        panic!(rt; "{name}: not dependent");
-    };
-    let [first, second] = eval.target_specs() else {
-        panic!(rt; "{name}: not two texts");
-    };
-    texts_are(rt, name, &[(first.as_str(), "x"), (second.as_str(), "y")]);
+// Whether the status is of the texts x and y, in this order.
+fn is_x_and_y(status: &PlatformStatusImpl) -> bool {
+    match PlatformStatus::new(status) {
+        PlatformStatus::PlatformDependent { eval } => match eval.target_specs() {
+            [first, second] => first.as_str() == "x" && second.as_str() == "y",
+            _ => false,
+        },
+        _ => false,
+    }
 }
 
-fn assert_always(rt: &impl Abort, status: &PlatformStatusImpl) {
+fn is_always(status: &PlatformStatusImpl) -> bool {
     let status = PlatformStatus::new(status);
-    assert!(rt; status.is_always());
-    assert!(rt; status.is_present());
+    status.is_always() && status.is_present()
+}
+
+fn grow(rt: &impl Abort, alloc: Global, status: &mut PlatformStatusImpl) {
+    let name = "statuses_grow";
+    status.extend(&specs(rt, alloc, "y")).expect(rt, name);
+    hold(rt, name, is_x_and_y(status));
+    hold(rt, name, !status.is_never());
+    status.add_spec(None).expect(rt, name);
+    hold(rt, name, is_always(status));
+    let spec = TargetSpec::new(text(rt, alloc, "x"));
+    status.add_spec(Some(&spec)).expect(rt, name);
+    hold(rt, name, is_always(status));
 }
 
 #[test]
 fn statuses_grow(rt: HostRuntime) {
-    let alloc = rt.alloc();
     let name = "statuses_grow";
-    let mut status = specs(&rt, alloc, "x");
-    status.extend(&specs(&rt, alloc, "y")).expect(&rt, name);
-    assert_x_and_y(&rt, name, &status);
-    assert!(rt; !status.is_never());
-    status.add_spec(None).expect(&rt, name);
-    assert_always(&rt, &status);
-    let spec = TargetSpec::new(text(&rt, alloc, "x"));
-    status.add_spec(Some(&spec)).expect(&rt, name);
-    assert_always(&rt, &status);
-    let mut never = PlatformStatusImpl::never(alloc);
-    assert!(rt; never.is_never());
+    let mut status = specs(&rt, rt.alloc(), "x");
+    grow(&rt, rt.alloc(), &mut status);
+    let mut never = PlatformStatusImpl::never(rt.alloc());
+    hold(&rt, name, never.is_never());
     let seen = PlatformStatus::new(&never);
-    assert!(rt; seen.is_never());
-    assert!(rt; !seen.is_present());
+    hold(&rt, name, seen.is_never() && !seen.is_present());
     never.extend(&status).expect(&rt, name);
-    assert_always(&rt, &never);
+    hold(&rt, name, is_always(&never));
+}
+
+// Where a status is asked about.
+#[derive(Clone, Copy)]
+enum On {
+    Always,
+    Any,
+    Machines(&'static [Machine]),
 }
 
 // A status of one text, or that is always enabled, on some machines.
 struct OnMachines {
     status: Option<&'static str>,
-    machines: &'static [Machine],
+    on: On,
     enabled: EnabledTernary,
 }
 
 const TARGET_TABLE: &[OnMachines] = &[
     OnMachines {
         status: Some("cfg(windows)"),
-        machines: &[LINUX, WINDOWS],
+        on: On::Machines(&[LINUX, WINDOWS]),
         enabled: ENABLED,
     },
     OnMachines {
         status: Some("cfg(windows)"),
-        machines: &[LINUX],
+        on: On::Machines(&[LINUX]),
         enabled: DISABLED,
     },
     OnMachines {
         status: None,
-        machines: &[],
+        on: On::Machines(&[]),
         enabled: DISABLED,
     },
     OnMachines {
         status: None,
-        machines: &[LINUX],
+        on: On::Machines(&[LINUX]),
         enabled: ENABLED,
     },
     OnMachines {
         status: Some("S"),
-        machines: &[LINUX, WINDOWS],
+        on: On::Machines(&[LINUX, WINDOWS]),
         enabled: UNKNOWN,
     },
     OnMachines {
         status: Some("S"),
-        machines: &[WINDOWS, WINDOWS_SSE],
+        on: On::Machines(&[WINDOWS, WINDOWS_SSE]),
+        enabled: ENABLED,
+    },
+    OnMachines {
+        status: Some("knows_nothing"),
+        on: On::Machines(&[KNOWS_NOTHING]),
+        enabled: UNKNOWN,
+    },
+    OnMachines {
+        status: Some("knows_nothing"),
+        on: On::Machines(&[]),
+        enabled: DISABLED,
+    },
+    OnMachines {
+        status: Some("knows_nothing"),
+        on: On::Always,
+        enabled: DISABLED,
+    },
+    OnMachines {
+        status: Some("knows_nothing"),
+        on: On::Any,
         enabled: ENABLED,
     },
 ];
 
 // One machine is made a list by a call of its own.
-fn platforms_of(rt: &impl Abort, alloc: Global, machines: &[Machine]) -> PlatformSpec<Machine> {
-    let platforms = match machines {
-        [machine] => PlatformSpec::one(alloc, *machine),
-        _ => PlatformSpec::platforms(alloc, machines.iter().copied()),
+fn platforms_of(rt: &impl Abort, alloc: Global, on: On) -> PlatformSpec<Machine> {
+    let platforms = match on {
+        On::Always => Ok(PlatformSpec::Always),
+        On::Any => Ok(PlatformSpec::Any),
+        On::Machines([machine]) => PlatformSpec::one(alloc, *machine),
+        On::Machines(machines) => PlatformSpec::platforms(alloc, machines.iter().copied()),
     };
     platforms.expect(rt, "platforms")
+}
+
+// What its text says of one machine is what the status says.
+fn status_holds(
+    rt: &impl Abort,
+    status: &PlatformStatusImpl,
+    platforms: &PlatformSpec<Machine>,
+    case: &OnMachines,
+) {
+    let status = PlatformStatus::new(status);
+    let enabled = status.enabled_on(platforms, &ByTable);
+    assert!(rt; enabled == case.enabled, "{:?}", case.status);
+    if let (PlatformStatus::PlatformDependent { eval }, On::Machines([machine])) = (
+        status, case.on,
+    ) {
+        let enabled = eval.eval(machine, &ByTable);
+        assert!(rt; enabled == case.enabled, "{:?}", case.status);
+    }
 }
 
 #[test]
 fn target_table(rt: HostRuntime) {
     for case in TARGET_TABLE {
-        let platforms = platforms_of(&rt, rt.alloc(), case.machines);
+        let platforms = platforms_of(&rt, rt.alloc(), case.on);
         let status = match case.status {
             Some(text) => specs(&rt, rt.alloc(), text),
             None => PlatformStatusImpl::Always,
         };
-        let enabled = PlatformStatus::new(&status).enabled_on(&platforms, &ByTable);
-        assert_eq!(rt; enabled, case.enabled, "{:?}", case.status);
+        status_holds(&rt, &status, &platforms, case);
     }
-}
-
-fn knows_nothing_holds(
-    rt: &impl Abort,
-    status: &PlatformStatusImpl,
-    one: &PlatformSpec<()>,
-    none: &PlatformSpec<()>,
-) {
-    let seen = PlatformStatus::new(status);
-    let always = seen.enabled_on(&PlatformSpec::Always, &KnowsNothing);
-    let any = seen.enabled_on(&PlatformSpec::Any, &KnowsNothing);
-    let cases = [
-        ("one", seen.enabled_on(one, &KnowsNothing) == UNKNOWN),
-        ("none", seen.enabled_on(none, &KnowsNothing) == DISABLED),
-        ("always", always == DISABLED),
-        ("any", any == ENABLED),
-    ];
-    hold(rt, &cases);
-    if let PlatformStatus::PlatformDependent { eval } = seen {
-        assert!(rt; eval.eval(&(), &KnowsNothing) == UNKNOWN);
-    }
-}
-
-#[test]
-fn knows_nothing(rt: HostRuntime) {
-    let name = "knows_nothing";
-    let status = specs(&rt, rt.alloc(), "s");
-    let one = PlatformSpec::one(rt.alloc(), ()).expect(&rt, name);
-    let none = PlatformSpec::platforms(rt.alloc(), [].iter().copied()).expect(&rt, name);
-    knows_nothing_holds(&rt, &status, &one, &none);
 }
 
 #[test]
 fn ternaries(rt: HostRuntime) {
     for (low, high) in &[(DISABLED, UNKNOWN), (UNKNOWN, ENABLED)] {
         let (low, high) = (*low, *high);
-        let cases = [
-            ("less", low < high),
-            ("and", low & high == low),
-            ("or", low | high == high),
-            ("ascend", ternaries_ascend(low, high) == Ordering::Less),
-            ("minimum", and_is_the_minimum(high, low) == low),
-            ("maximum", or_is_the_maximum(high, low) == high),
-        ];
-        hold(&rt, &cases);
+        hold(&rt, "less", low < high);
+        hold(&rt, "and", low & high == low);
+        hold(&rt, "or", low | high == high);
+        hold(&rt, "ascend", ternaries_ascend(low, high) == Ordering::Less);
+        hold(&rt, "minimum", and_is_the_minimum(high, low) == low);
+        hold(&rt, "maximum", or_is_the_maximum(high, low) == high);
     }
-    let known = [
-        ("disabled", DISABLED.is_known()),
-        ("unknown", !UNKNOWN.is_known()),
-        ("enabled", ENABLED.is_known()),
-    ];
-    hold(&rt, &known);
+    hold(&rt, "disabled", DISABLED.is_known());
+    hold(&rt, "unknown", !UNKNOWN.is_known());
+    hold(&rt, "enabled", ENABLED.is_known());
 }
 
 #[test]
@@ -199,5 +219,5 @@ fn laws_hold(rt: HostRuntime) {
     let other = specs(&rt, rt.alloc(), "y");
     let mut status = specs(&rt, rt.alloc(), "x");
     extended_is_either::<ByTable>(&mut status, &other).expect(&rt, "laws_hold");
-    assert_x_and_y(&rt, "laws_hold", &status);
+    hold(&rt, "laws_hold", is_x_and_y(&status));
 }

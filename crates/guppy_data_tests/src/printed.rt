@@ -1,6 +1,6 @@
 //! Each printed text.
 
-use crate::cases::texts_are;
+use crate::cases::is_text;
 use crate::owned::{id, path, text, texts};
 use guppy_data::{
     ConstructFault, Error, FeatureBuildStage, FeatureGraphWarning, NamedFeatureDep, PackageId,
@@ -18,7 +18,7 @@ pub(crate) fn prints<T: fmt::Display + Drop>(
     wanted: &str,
 ) {
     let printed = value.to_string(alloc).expect(rt, name);
-    texts_are(rt, name, &[(printed.as_str(), wanted)]);
+    is_text(rt, name, printed.as_str(), wanted);
 }
 
 const SETS: &[(&[&str], &str)] = &[(&["b", "a", "b"], "{a, b}"), (&["a"], "{a}"), (&[], "{}")];

@@ -1,9 +1,9 @@
 //! Dependencies by platform and feature.
 
 use crate::cases::hold;
-use crate::evaluators::KnowsNothing;
+use crate::evaluators::{ByTable, Machine};
 use crate::owned::text;
-use crate::platform::specs;
+use crate::platform::{KNOWS_NOTHING, specs};
 use guppy_data::{
     DependencyReq, DependencyReqImpl, EnabledStatus, EnabledTernary, PlatformSpec, PlatformStatus,
     PlatformStatusImpl,
@@ -34,16 +34,13 @@ fn status_holds(
     is_optional: bool,
 ) {
     let required = status.required_status();
+    hold(rt, name, required.is_always() == is_required);
+    hold(rt, name, required.is_never() != is_required);
     let optional = status.optional_status();
+    hold(rt, name, optional.is_always() == is_optional);
+    hold(rt, name, optional.is_never() != is_optional);
     let is_never = !(is_required || is_optional);
-    let cases = [
-        (name, required.is_always() == is_required),
-        (name, required.is_never() == !is_required),
-        (name, optional.is_always() == is_optional),
-        (name, optional.is_never() == !is_optional),
-        (name, status.is_never() == is_never),
-    ];
-    hold(rt, &cases);
+    hold(rt, name, status.is_never() == is_never);
 }
 
 fn feature_table_holds(rt: &impl Abort, req: DependencyReq<'_>) {
@@ -68,22 +65,23 @@ fn feature_table(rt: HostRuntime) {
     feature_table_holds(&rt, DependencyReq::new(&record));
 }
 
-fn knows_nothing_holds(rt: &impl Abort, required: &PlatformStatusImpl, one: &PlatformSpec<()>) {
+fn knows_nothing_holds(
+    rt: &impl Abort,
+    required: &PlatformStatusImpl,
+    one: &PlatformSpec<Machine>,
+) {
     let status = EnabledStatus::new(PlatformStatus::new(required), PlatformStatus::Always);
-    let required = status.required_on(one, &KnowsNothing);
-    let enabled = status.enabled_on(one, &KnowsNothing);
-    let cases = [
-        ("required", required == EnabledTernary::Unknown),
-        ("enabled", enabled == EnabledTernary::Enabled),
-        ("never", !status.is_never()),
-    ];
-    hold(rt, &cases);
+    let required = status.required_on(one, &ByTable);
+    hold(rt, "required", required == EnabledTernary::Unknown);
+    let enabled = status.enabled_on(one, &ByTable);
+    hold(rt, "enabled", enabled == EnabledTernary::Enabled);
+    hold(rt, "never", !status.is_never());
 }
 
 #[test]
 fn knows_nothing(rt: HostRuntime) {
     let required = specs(&rt, rt.alloc(), "s");
-    let one = PlatformSpec::one(rt.alloc(), ()).expect(&rt, "knows_nothing");
+    let one = PlatformSpec::one(rt.alloc(), KNOWS_NOTHING).expect(&rt, "knows_nothing");
     knows_nothing_holds(&rt, &required, &one);
 }
 

@@ -1,25 +1,26 @@
 //! A package's record with each field filled and read back.
 
-use crate::cases::{hold, texts_are};
+use crate::cases::{hold, is_text};
 use crate::owned::{id, path, text, texts};
 use guppy_data::{
     BuildTargetId, BuildTargetKindRecord, BuildTargetRecord, NamedFeatureDep, OwnedBuildTargetId,
     PackagePublish, PackagePublishRecord, PackageRecord, PackageSource, PackageSourceRecord,
-    Utf8Path,
+    Utf8Path, Utf8PathBuf,
 };
 use semver::Version;
 use serde_json::Value;
 use std::alloc::Global;
 use std::process::Abort;
 
-fn named(rt: &impl Abort, alloc: Global) -> PackageRecord {
+fn named(rt: &impl Abort, alloc: Global) -> Box<PackageRecord> {
     let id = id(rt, alloc, "path+file:///a#1.2.3");
     let name = text(rt, alloc, "a");
     let version = Version::new(1, 2, 3);
     let source = PackageSourceRecord::Workspace(path(rt, alloc, "a"));
     let manifest_path = path(rt, alloc, "a/Cargo.toml");
     let edition = text(rt, alloc, "2024");
-    PackageRecord::new(alloc, id, name, version, source, manifest_path, edition)
+    let package = PackageRecord::new(alloc, id, name, version, source, manifest_path, edition);
+    Box::new(alloc, package).expect(rt, "a package")
 }
 
 fn fill_texts(rt: &impl Abort, alloc: Global, package: &mut PackageRecord) {
@@ -78,91 +79,79 @@ fn fill_tables(rt: &impl Abort, alloc: Global, package: &mut PackageRecord) {
         .expect(rt, "a target");
 }
 
-fn texts_hold(rt: &impl Abort, package: &PackageRecord) {
-    let PackageRecord {
-        description: Some(description),
-        license: Some(license),
-        license_file: Some(license_file),
-        readme: Some(readme),
-        repository: Some(repository),
-        homepage: Some(homepage),
-        documentation: Some(documentation),
-        links: Some(links),
-        default_run: Some(default_run),
-        ..
-    } = package
-    else {
-        panic!(rt; "each text is there");
-    };
-    let texts = [
-        (package.id.repr(), "path+file:///a#1.2.3"),
-        (package.name.as_str(), "a"),
-        (package.edition.as_str(), "2024"),
-        (package.manifest_path.as_path().as_str(), "a/Cargo.toml"),
-        (description.as_str(), "description"),
-        (license.as_str(), "MIT"),
-        (license_file.as_path().as_str(), "LICENSE"),
-        (readme.as_path().as_str(), "README.md"),
-        (repository.as_str(), "repository"),
-        (homepage.as_str(), "homepage"),
-        (documentation.as_str(), "documentation"),
-        (links.as_str(), "z"),
-        (default_run.as_str(), "run"),
-    ];
-    texts_are(rt, "filled_record", &texts);
+fn is_some_text(rt: &impl Abort, name: &str, text: &Option<String>, wanted: &str) {
+    match text {
+        Some(text) => is_text(rt, name, text.as_str(), wanted),
+        None => hold(rt, name, false),
+    }
 }
 
-fn is_list(items: &[String], wanted: &str) -> bool {
+fn is_some_path(rt: &impl Abort, name: &str, path: &Option<Utf8PathBuf>, wanted: &str) {
+    match path {
+        Some(path) => is_text(rt, name, path.as_path().as_str(), wanted),
+        None => hold(rt, name, false),
+    }
+}
+
+fn texts_hold(rt: &impl Abort, package: &PackageRecord) {
+    let manifest_path = package.manifest_path.as_path().as_str();
+    is_text(rt, "id", package.id.repr(), "path+file:///a#1.2.3");
+    is_text(rt, "name", package.name.as_str(), "a");
+    is_text(rt, "edition", package.edition.as_str(), "2024");
+    is_text(rt, "manifest_path", manifest_path, "a/Cargo.toml");
+    is_some_text(rt, "description", &package.description, "description");
+    is_some_text(rt, "license", &package.license, "MIT");
+    is_some_path(rt, "license_file", &package.license_file, "LICENSE");
+    is_some_path(rt, "readme", &package.readme, "README.md");
+    is_some_text(rt, "repository", &package.repository, "repository");
+    is_some_text(rt, "homepage", &package.homepage, "homepage");
+    is_some_text(rt, "documentation", &package.documentation, "documentation");
+    is_some_text(rt, "links", &package.links, "z");
+    is_some_text(rt, "default_run", &package.default_run, "run");
+}
+
+fn is_list(rt: &impl Abort, name: &str, items: &[String], wanted: &str) {
     match items {
-        [item] => item.as_str() == wanted,
-        _ => false,
+        [item] => is_text(rt, name, item.as_str(), wanted),
+        _ => hold(rt, name, false),
     }
 }
 
 fn values_hold(rt: &impl Abort, package: &PackageRecord) {
+    is_list(rt, "authors", &package.authors, "author");
+    is_list(rt, "categories", &package.categories, "category");
+    is_list(rt, "keywords", &package.keywords, "keyword");
+    hold(rt, "version", package.version == Version::new(1, 2, 3));
     let source = PackageSource::new(&package.source);
+    let wanted = PackageSource::Workspace(Utf8Path::new("a"));
+    hold(rt, "source", source == wanted);
     let publish = PackagePublish::new(&package.publish);
-    let values = [
-        ("authors", is_list(&package.authors, "author")),
-        ("categories", is_list(&package.categories, "category")),
-        ("keywords", is_list(&package.keywords, "keyword")),
-        ("version", package.version == Version::new(1, 2, 3)),
-        (
-            "source",
-            source == PackageSource::Workspace(Utf8Path::new("a")),
-        ),
-        ("publish", publish.can_publish_to("registry")),
-        (
-            "metadata_table",
-            package.metadata_table == Value::Bool(true),
-        ),
-        (
-            "rust_version",
-            package.rust_version == Some(Version::new(1, 85, 0)),
-        ),
-    ];
-    hold(rt, &values);
+    hold(rt, "publish", publish.can_publish_to("registry"));
+    let is_table = package.metadata_table == Value::Bool(true);
+    hold(rt, "metadata_table", is_table);
+    let is_version = package.rust_version == Some(Version::new(1, 85, 0));
+    hold(rt, "rust_version", is_version);
+}
+
+fn is_optional(dependencies: Option<&Vec<NamedFeatureDep>>) -> bool {
+    match dependencies {
+        Some(dependencies) => match dependencies.as_slice() {
+            [NamedFeatureDep::OptionalDependency(name)] => name.as_str() == "o",
+            _ => false,
+        },
+        None => false,
+    }
 }
 
 fn tables_hold(rt: &impl Abort, package: &PackageRecord) {
-    let Some(dependencies) = package.named_features.get("f") else {
-        panic!(rt; "a feature");
-    };
-    let [NamedFeatureDep::OptionalDependency(dependency)] = dependencies.as_slice() else {
-        panic!(rt; "an optional dependency");
-    };
+    let dependencies = package.named_features.get("f");
+    hold(rt, "named_features", is_optional(dependencies));
+    hold(rt, "optional_deps", package.optional_deps.contains("o"));
     let [target] = package.build_targets.as_slice() else {
-        panic!(rt; "a target");
+        panic!(rt; "build_targets");
     };
-    let tables = [
-        ("named_features", dependency.as_str() == "o"),
-        ("optional_deps", package.optional_deps.contains("o")),
-        (
-            "build_targets",
-            BuildTargetId::new(&target.id) == BuildTargetId::Library,
-        ),
-    ];
-    hold(rt, &tables);
+    let is_library = BuildTargetId::new(&target.id) == BuildTargetId::Library;
+    hold(rt, "build_targets", is_library);
 }
 
 #[test]

@@ -40,32 +40,23 @@ const PUBLISH_RULES: &[Publish] = &[
 ];
 
 fn publish_holds(rt: &impl Abort, publish: PackagePublish<'_>, rule: &Publish) {
+    let is_unrestricted = rule.registries.is_none();
+    hold(
+        rt,
+        "unrestricted",
+        publish.is_unrestricted() == is_unrestricted,
+    );
+    hold(rt, "never", publish.is_never() == rule.is_never);
     let is_empty = publish == PackagePublish::Registries(&[]);
-    let rules = [
-        (
-            "unrestricted",
-            publish.is_unrestricted() == rule.registries.is_none(),
-        ),
-        ("never", publish.is_never() == rule.is_never),
-        ("empty", is_empty == rule.is_never),
-        (
-            "to crates.io",
-            publish.can_publish_to_crates_io() == rule.to_crates_io,
-        ),
-        (
-            "crates-io",
-            publish.can_publish_to("crates-io") == rule.to_crates_io,
-        ),
-        (
-            "CRATES_IO",
-            publish.can_publish_to(PackagePublish::CRATES_IO) == rule.to_crates_io,
-        ),
-        (
-            "my-registry",
-            publish.can_publish_to("my-registry") == rule.to_another,
-        ),
-    ];
-    hold(rt, &rules);
+    hold(rt, "empty", is_empty == rule.is_never);
+    let to_crates_io = publish.can_publish_to_crates_io();
+    hold(rt, "to crates.io", to_crates_io == rule.to_crates_io);
+    let to_crates_io = publish.can_publish_to("crates-io");
+    hold(rt, "crates-io", to_crates_io == rule.to_crates_io);
+    let to_crates_io = publish.can_publish_to(PackagePublish::CRATES_IO);
+    hold(rt, "CRATES_IO", to_crates_io == rule.to_crates_io);
+    let to_another = publish.can_publish_to("my-registry");
+    hold(rt, "my-registry", to_another == rule.to_another);
 }
 
 #[test]
@@ -167,20 +158,19 @@ fn source_holds(rt: &impl Abort, source: PackageSource<'_>, wanted: &Source) {
     let is_member = matches!(wanted.from, From::Workspace);
     let is_path = matches!(wanted.from, From::Path);
     let is_external = matches!(wanted.from, From::External);
+    hold(rt, name, source.is_workspace() == is_member);
+    hold(rt, name, source.is_path() == is_path);
+    hold(rt, name, source.is_external() == is_external);
+    let is_local = wanted.local_path.is_some();
+    hold(rt, name, source.is_local() == is_local);
+    hold(rt, name, source.is_crates_io() == wanted.is_crates_io);
+    let is_at_path = is_at(source.workspace_path(), wanted.workspace_path);
+    hold(rt, name, is_at_path);
+    hold(rt, name, is_at(source.local_path(), wanted.local_path));
+    hold(rt, name, source.external_source() == wanted.external);
+    hold(rt, name, source.parse_external() == wanted.parsed);
     let member = PackageSource::Workspace(Utf8Path::new(wanted.member));
-    let cases = [
-        (name, source.is_workspace() == is_member),
-        (name, source.is_path() == is_path),
-        (name, source.is_external() == is_external),
-        (name, source.is_local() == wanted.local_path.is_some()),
-        (name, source.is_crates_io() == wanted.is_crates_io),
-        (name, is_at(source.workspace_path(), wanted.workspace_path)),
-        (name, is_at(source.local_path(), wanted.local_path)),
-        (name, source.external_source() == wanted.external),
-        (name, source.parse_external() == wanted.parsed),
-    ];
-    hold(rt, &cases);
-    assert!(rt; (source == member) == is_member, "equal_sources: {name}");
+    hold(rt, name, (source == member) == is_member);
 }
 
 #[test]

@@ -2,7 +2,7 @@
 ghost use Rattle.std.specs.Prelude.{IsSome};
 ghost use Rattle.guppy_data.specs.TargetName.{target_name};
 
-use crate::cases::hold;
+use crate::cases::{hold, is_text};
 use crate::owned::{path, text, texts};
 use guppy_data::{
     BuildTarget, BuildTargetId, BuildTargetKind, BuildTargetKindRecord, BuildTargetRecord,
@@ -40,18 +40,28 @@ fn target_order(rt: HostRuntime) {
     assert!(rt; ids == wanted);
 }
 
+fn compares_with_each(rt: &impl Abort, place: usize, lower: &BuildTargetId<'_>) {
+    for (i, upper) in ASCENDING.iter().enumerate() {
+        assert!(rt;
+            lower.cmp(upper) == place.cmp(&i),
+            "{lower:?} and {upper:?}"
+        );
+        assert!(rt; (lower == upper) == (place == i), "{lower:?} and {upper:?}");
+    }
+}
+
 #[test]
 fn target_ids(rt: HostRuntime) {
     let mut seen = HashSet::new(rt.alloc());
-    for (i, lower) in ASCENDING.iter().enumerate() {
-        for (j, upper) in ASCENDING.iter().enumerate() {
-            assert!(rt; lower.cmp(upper) == i.cmp(&j), "{lower:?} and {upper:?}");
-            assert!(rt; (lower == upper) == (i == j), "{lower:?} and {upper:?}");
-        }
-        assert!(rt; seen.insert(*lower).expect(&rt, "target_ids"));
+    for (place, lower) in ASCENDING.iter().enumerate() {
+        compares_with_each(&rt, place, lower);
+        let is_new = seen.insert(*lower).expect(&rt, "target_ids");
+        hold(&rt, "target_ids", is_new);
     }
-    assert!(rt; seen.contains(&BuildTargetId::Example("b")));
-    assert!(rt; !seen.contains(&BuildTargetId::Example("a")));
+    let example = BuildTargetId::Example("b");
+    hold(&rt, "target_ids", seen.contains(&example));
+    let example = BuildTargetId::Example("a");
+    hold(&rt, "target_ids", !seen.contains(&example));
 }
 
 fn recorded(rt: &impl Abort, alloc: Global, id: BuildTargetId<'_>) -> OwnedBuildTargetId {
@@ -85,16 +95,13 @@ fn target_fields_hold(rt: &impl Abort, target: BuildTarget<'_>) {
     let [feature] = target.required_features() else {
         panic!(rt; "one feature");
     };
-    let fields = [
-        ("kind", target.kind() == BuildTargetKind::ProcMacro),
-        ("required_features", feature.as_str() == "f"),
-        ("path", target.path() == Utf8Path::new("src/lib.rs")),
-        ("edition", target.edition() == "2021"),
-        ("doc_by_default", target.doc_by_default()),
-        ("doctest_by_default", !target.doctest_by_default()),
-        ("test_by_default", target.test_by_default()),
-    ];
-    hold(rt, &fields);
+    is_text(rt, "required_features", feature.as_str(), "f");
+    hold(rt, "kind", target.kind() == BuildTargetKind::ProcMacro);
+    hold(rt, "path", target.path() == Utf8Path::new("src/lib.rs"));
+    is_text(rt, "edition", target.edition(), "2021");
+    hold(rt, "doc_by_default", target.doc_by_default());
+    hold(rt, "doctest_by_default", !target.doctest_by_default());
+    hold(rt, "test_by_default", target.test_by_default());
 }
 
 // Each ID, the name in it, and the name of a target that has it.
@@ -112,39 +119,32 @@ const NAMED: &[(BuildTargetId<'static>, Option<&str>, &str)] = &[
 fn target_fields(rt: HostRuntime) {
     for (id, id_name, name) in NAMED {
         let record = target(&rt, rt.alloc(), *id);
+        hold(&rt, "recorded_ids", BuildTargetId::new(&record.id) == *id);
+        hold(&rt, "target_names", id.name() == *id_name);
         let target = BuildTarget::new(&record);
-        assert!(rt;
-            BuildTargetId::new(&record.id) == *id,
-            "recorded_ids: {id:?}"
-        );
-        let ids = [
-            ("target_fields", target.id() == *id),
-            ("target_names", id.name() == *id_name),
-            ("target_names", target.name() == *name),
-        ];
-        hold(&rt, &ids);
+        hold(&rt, "target_fields", target.id() == *id);
+        is_text(&rt, "target_names", target.name(), name);
         target_fields_hold(&rt, target);
     }
+}
+
+fn kinds_hold(rt: &impl Abort, library: &BuildTargetKindRecord) {
+    let kind = BuildTargetKind::new(library);
+    hold(rt, "library", kind == BuildTargetKind::new(library));
+    let BuildTargetKind::LibraryOrExample([first, second]) = kind else {
+        panic!(rt; "two crate types");
+    };
+    is_text(rt, "first type", first.as_str(), "cdylib");
+    is_text(rt, "second type", second.as_str(), "rlib");
 }
 
 #[test]
 fn target_kinds(rt: HostRuntime) {
     let types = texts(&rt, rt.alloc(), &["rlib", "cdylib", "rlib"]);
     let library = BuildTargetKindRecord::LibraryOrExample(SortedSet::new(types));
-    let BuildTargetKind::LibraryOrExample([first, second]) = BuildTargetKind::new(&library) else {
-        panic!(rt; "two crate types");
-    };
+    kinds_hold(&rt, &library);
     let proc_macro = BuildTargetKind::new(&BuildTargetKindRecord::ProcMacro);
+    hold(&rt, "proc macro", proc_macro == BuildTargetKind::ProcMacro);
     let binary = BuildTargetKind::new(&BuildTargetKindRecord::Binary);
-    let kinds = [
-        ("first type", first.as_str() == "cdylib"),
-        ("second type", second.as_str() == "rlib"),
-        (
-            "library",
-            BuildTargetKind::new(&library) == BuildTargetKind::new(&library),
-        ),
-        ("proc macro", proc_macro == BuildTargetKind::ProcMacro),
-        ("binary", binary == BuildTargetKind::Binary),
-    ];
-    hold(&rt, &kinds);
+    hold(&rt, "binary", binary == BuildTargetKind::Binary);
 }
