@@ -1,5 +1,5 @@
 //! Searches of small graphs with filters that hand links back.
-ghost use Rattle.std.specs.Prelude.{◌≡◌, ◌<◌, Some, None, All, IfOk, OnErr, filter, length, nat_lt};
+ghost use Rattle.std.specs.Prelude.{◌≡◌, ◌<◌, Some, None, All, IfNone, IfOk, OnErr, length};
 ghost use Rattle.guppy_core_tests.specs.Noting.{Says};
 
 use crate::positions::{assert_of, found, has_positions, set_of};
@@ -48,8 +48,8 @@ enum Asked {
     Filter(usize),
 }
 
-// It hands back those of its links that the graph has at one question, and none at the others. It keeps
-// the questions, and answers an error to the one that has so many before it.
+// It hands back its links, which the graph has, at one question, and none at the others. It keeps the
+// questions, and answers an error to the one that has so many before it.
 #[derive(Drop)]
 struct Recording<'a> {
     at: Asked,
@@ -65,10 +65,10 @@ impl Recording<'_> {
         link_count: usize,
         question: Asked,
     ) -> Result<Vec<usize>, AllocError>
-        ensures says { IfOk result (λ handed. Says self.old.at self.old.links.now link_count
+        ensures says { IfOk result (λ handed. Says self.old.at self.old.links.now
             self.old.fails_after self.old.asked.items question (Some handed.items)
             self.new.asked.items) }
-        ensures error { OnErr result (Says self.old.at self.old.links.now link_count
+        ensures error { OnErr result (Says self.old.at self.old.links.now
             self.old.fails_after self.old.asked.items question None self.new.asked.items) }
         ensures links { IfOk result (λ handed. All (λ n. n < link_count) handed.items) }
         ensures same { (self.new.at ≡ self.old.at) × (self.new.links ≡ self.old.links)
@@ -79,25 +79,32 @@ impl Recording<'_> {
         if is_last {
             return Err(AllocError);
         }
-        if question != self.at {
-            return Ok(Vec::new(alloc));
-        }
-        links_below(alloc, link_count, self.links)
+        let links = if question == self.at { self.links } else { &[] };
+        copy_of(alloc, link_count, links)
     }
 }
 
-fn links_below(alloc: Global, link_count: usize, links: &[usize]) -> Result<Vec<usize>, AllocError>
-    ensures below { IfOk result (λ handed. All (λ n. n < link_count) handed.items) }
-    ensures handed { IfOk result
-        (λ handed. handed.items ≡ filter (λ n. nat_lt n link_count) links.now) }
+// The place of a link that isn't below the count.
+fn first_unknown(links: &[usize], link_count: usize) -> Option<usize>
+    ensures { IfNone result (All (λ n. n < link_count) links.now) }
 {
-    let mut handed = Vec::new(alloc);
-    for link in links {
-        if *link < link_count {
-            handed.push(*link)?;
+    for (number, link) in links.iter().enumerate() {
+        if *link >= link_count {
+            return Some(number);
         }
     }
-    Ok(handed)
+    None
+}
+
+// A copy of the links, all of which are below the count.
+fn copy_of(alloc: Global, link_count: usize, links: &[usize]) -> Result<Vec<usize>, AllocError>
+    ensures below { IfOk result (λ handed. All (λ n. n < link_count) handed.items) }
+    ensures copied { IfOk result (λ handed. handed.items ≡ links.now) }
+{
+    match first_unknown(links, link_count) {
+        None => links.to_vec(alloc),
+        Some(_) => Err(AllocError),
+    }
 }
 
 impl BufferedEdgeFilter<Stages> for Recording<'_> {
@@ -105,11 +112,11 @@ impl BufferedEdgeFilter<Stages> for Recording<'_> {
     ghost use Rattle.guppy_core_tests.specs.Noting.{Says};
     ghost use Rattle.guppy_core_tests.specs.declared.buffered.Asked.TheVariants.{Discover, Filter};
 
-    ghost filters = { λ g s n answer t. Says s.at s.links.now (length g.links) s.fails_after
+    ghost filters = { λ g s n answer t. Says s.at s.links.now s.fails_after
         s.asked.items (Filter n) answer t.asked.items
         × (t.at ≡ s.at) × (t.links ≡ s.links) × (t.fails_after ≡ s.fails_after) };
 
-    ghost discovers = { λ g s p answer t. Says s.at s.links.now (length g.links) s.fails_after
+    ghost discovers = { λ g s p answer t. Says s.at s.links.now s.fails_after
         s.asked.items (Discover p) answer t.asked.items
         × (t.at ≡ s.at) × (t.links ≡ s.links) × (t.fails_after ≡ s.fails_after) };
 
@@ -126,15 +133,6 @@ impl BufferedEdgeFilter<Stages> for Recording<'_> {
 const FORWARD: DependencyDirection = DependencyDirection::Forward;
 
 const NEVER: usize = 4_294_967_295;
-
-fn recording_at(alloc: Global, at: Asked, links: &[usize]) -> Recording<'_> {
-    Recording {
-        at,
-        links,
-        fails_after: NEVER,
-        asked: Vec::new(alloc),
-    }
-}
 
 fn graph_of(
     rt: &impl Abort,
@@ -155,8 +153,8 @@ fn graph_of(
     Graph::from_parts(nodes, links).expect(rt, "a graph")
 }
 
-// A search from one position with a filter that hands links back at one question, and the
-// questions that it is asked.
+// A search from one position with a filter that hands links back at one question, and the questions
+// that it is asked, or none where it is asked each of a ring of four, in any order.
 struct Search {
     name: &'static str,
     node_count: u8,
@@ -166,7 +164,7 @@ struct Search {
     at: Asked,
     handed: &'static [usize],
     included: &'static [usize],
-    asked: &'static [Asked],
+    asked: Option<&'static [Asked]>,
 }
 
 const SEARCHES: &[Search] = &[
@@ -179,7 +177,7 @@ const SEARCHES: &[Search] = &[
         at: Asked::Filter(0),
         handed: &[1],
         included: &[0, 3],
-        asked: &[Asked::Discover(0), Asked::Filter(0), Asked::Discover(3)],
+        asked: Some(&[Asked::Discover(0), Asked::Filter(0), Asked::Discover(3)]),
     },
     Search {
         name: "discover_hands_back",
@@ -190,7 +188,7 @@ const SEARCHES: &[Search] = &[
         at: Asked::Discover(0),
         handed: &[1],
         included: &[0, 2],
-        asked: &[Asked::Discover(0), Asked::Filter(0), Asked::Discover(2)],
+        asked: Some(&[Asked::Discover(0), Asked::Filter(0), Asked::Discover(2)]),
     },
     Search {
         name: "far_end_in_reverse",
@@ -201,40 +199,25 @@ const SEARCHES: &[Search] = &[
         at: Asked::Filter(0),
         handed: &[1],
         included: &[1, 2],
-        asked: &[Asked::Discover(1), Asked::Filter(0), Asked::Discover(2)],
+        asked: Some(&[Asked::Discover(1), Asked::Filter(0), Asked::Discover(2)]),
     },
 ];
 
-// What the filter lets a search from the position include.
-fn searched(
-    rt: &impl Abort,
-    graph: &Graph<Stages>,
-    start: usize,
-    direction: DependencyDirection,
-    filter: &mut Recording<'_>,
-) -> Result<IxSet<Stages>, AllocError> {
-    let start = set_of(rt, graph, &[start]);
-    reachable_buffered_mut(graph, &start, direction, filter)
-}
-
-fn search_of(rt: &impl Abort, alloc: Global, search: &Search) {
-    let graph = graph_of(rt, alloc, search.node_count, search.ends);
-    let mut filter = recording_at(alloc, search.at, search.handed);
-    let set = searched(rt, &graph, search.start, search.direction, &mut filter);
-    assert_of(rt, search.name, found(set, search.included));
-    assert_of(rt, search.name, filter.asked.as_slice() == search.asked);
-}
-
-#[test]
-fn searches(rt: HostRuntime) {
-    for search in SEARCHES {
-        search_of(&rt, rt.alloc(), search);
-    }
-}
-
 const RING: &[(usize, usize)] = &[(0, 1), (1, 2), (2, 3), (3, 0)];
 
-// Whether each of a ring's eight questions was asked once.
+// All of its links are handed back at the first position.
+const ROUND_THE_RING: &Search = &Search {
+    name: "hands_back_everything",
+    node_count: 4,
+    ends: RING,
+    start: 0,
+    direction: FORWARD,
+    at: Asked::Discover(0),
+    handed: &[0, 1, 2, 3],
+    included: &[0, 1, 2, 3],
+    asked: None,
+};
+
 fn is_each_once(asked: &[Asked]) -> bool {
     for number in 0..4 {
         if !asked.contains(&Asked::Discover(number)) || !asked.contains(&Asked::Filter(number)) {
@@ -244,42 +227,69 @@ fn is_each_once(asked: &[Asked]) -> bool {
     asked.len() == 8
 }
 
-// The filter hands back these links at the ring's first position, and so all of its links.
-fn ring_is_asked_once(rt: &impl Abort, graph: &Graph<Stages>, links: &[usize]) {
-    let mut filter = recording_at(graph.alloc(), Asked::Discover(0), links);
-    let set = searched(rt, graph, 0, FORWARD, &mut filter);
-    assert!(rt; found(set, &[0, 1, 2, 3]));
-    assert!(rt; is_each_once(filter.asked.as_slice()));
+// A filter that fails isn't asked again.
+fn is_asked(filter: &Recording<'_>, wanted: Option<&[Asked]>) -> bool {
+    let asked = filter.asked.as_slice();
+    if filter.fails_after < NEVER {
+        return asked.len() == filter.fails_after + 1;
+    }
+    match wanted {
+        Some(questions) => asked == questions,
+        None => is_each_once(asked),
+    }
 }
 
-// The links of the ring, a thousand times.
-fn many_links(rt: &impl Abort, alloc: Global) -> Vec<usize> {
-    let mut many = Vec::new(alloc);
-    for number in 0..4000 {
-        many.push(number % 4).expect(rt, "links");
+fn is_found(set: Result<IxSet<Stages>, AllocError>, wanted: &[usize], fails: bool) -> bool {
+    match set {
+        Ok(set) => !fails && has_positions(&set, wanted),
+        Err(_) => fails,
     }
-    many
+}
+
+fn search_in(rt: &impl Abort, graph: &Graph<Stages>, search: &Search, filter: &mut Recording<'_>) {
+    let start = set_of(rt, graph, &[search.start]);
+    let set = reachable_buffered_mut(graph, &start, search.direction, filter);
+    let fails = filter.fails_after < NEVER;
+    assert_of(rt, search.name, is_found(set, search.included, fails));
+    assert_of(rt, search.name, is_asked(filter, search.asked));
+}
+
+// The filter hands back these links, and answers an error behind so many questions.
+fn search_of(rt: &impl Abort, alloc: Global, search: &Search, links: &[usize], fails_after: usize) {
+    let graph = graph_of(rt, alloc, search.node_count, search.ends);
+    let mut filter = Recording {
+        at: search.at,
+        links,
+        fails_after,
+        asked: Vec::new(alloc),
+    };
+    search_in(rt, &graph, search, &mut filter);
 }
 
 #[test]
-fn hands_back_everything(rt: HostRuntime) {
-    let graph = graph_of(&rt, rt.alloc(), 4, RING);
-    ring_is_asked_once(&rt, &graph, &[0, 1, 2, 3]);
-    ring_is_asked_once(&rt, &graph, many_links(&rt, rt.alloc()).as_slice());
+fn searches(rt: HostRuntime) {
+    for search in SEARCHES {
+        search_of(&rt, rt.alloc(), search, search.handed, NEVER);
+    }
 }
 
-fn ends_after(rt: &impl Abort, graph: &Graph<Stages>, count: usize) {
-    let mut filter = recording_at(graph.alloc(), Asked::Discover(0), &[0, 1, 2, 3]);
-    filter.fails_after = count;
-    let set = searched(rt, graph, 0, FORWARD, &mut filter);
-    assert!(rt; set.is_err() && filter.asked.len() == count.saturating_add(1));
+// Each link once, and all a thousand times.
+#[test]
+fn hands_back_everything(rt: HostRuntime) {
+    let mut many = Vec::new(rt.alloc());
+    for number in 0..4000 {
+        many.push(number % 4).expect(&rt, "links");
+    }
+    let links = ROUND_THE_RING.handed;
+    search_of(&rt, rt.alloc(), ROUND_THE_RING, links, NEVER);
+    search_of(&rt, rt.alloc(), ROUND_THE_RING, many.as_slice(), NEVER);
 }
 
 #[test]
 fn an_error_ends_the_search(rt: HostRuntime) {
-    let graph = graph_of(&rt, rt.alloc(), 4, RING);
+    let links = ROUND_THE_RING.handed;
     for count in 0..8 {
-        ends_after(&rt, &graph, count);
+        search_of(&rt, rt.alloc(), ROUND_THE_RING, links, count);
     }
 }
 
@@ -293,7 +303,8 @@ fn simple_filters(rt: HostRuntime) {
         link % 2 == 1
     });
     let set = reachable_buffered(&graph, &start, FORWARD, is_odd);
-    assert!(rt; found(set, &[0, 2, 3]) && calls == 3);
+    assert_of(&rt, "simple_filters", found(set, &[0, 2, 3]));
+    assert_of(&rt, "simple_filters", calls == 3);
 }
 
 fn resolved(set: Result<ResolveCore<Stages>, AllocError>, wanted: &[usize]) -> bool {
@@ -303,37 +314,53 @@ fn resolved(set: Result<ResolveCore<Stages>, AllocError>, wanted: &[usize]) -> b
     }
 }
 
-fn resolve_with_recording(rt: &impl Abort, graph: &Graph<Stages>, start: &IxSet<Stages>)
+fn resolve_with_recording(
+    rt: &impl Abort,
+    graph: &Graph<Stages>,
+    start: &IxSet<Stages>,
+    filter: &mut Recording<'_>,
+)
     requires { length start.now ≡ length graph.now.nodes }
 {
-    let mut filter = recording_at(graph.alloc(), Asked::Filter(2), &[2, 0]);
-    let set = ResolveCore::with_buffered_edge_filter(graph, start, FORWARD, &mut filter);
-    assert!(rt; resolved(set, &[1, 2, 3]) && filter.asked.len() == 6);
-    let set = ResolveCore::with_buffered_edge_filter_mut(graph, start, FORWARD, &mut filter);
-    assert!(rt; resolved(set, &[1, 2, 3]) && filter.asked.len() == 12);
+    let name = "resolves_with_filters";
+    let set = ResolveCore::with_buffered_edge_filter(graph, start, FORWARD, &mut *filter);
+    assert_of(rt, name, resolved(set, &[1, 2, 3]));
+    assert_of(rt, name, filter.asked.len() == 6);
+    let set = ResolveCore::with_buffered_edge_filter_mut(graph, start, FORWARD, filter);
+    assert_of(rt, name, resolved(set, &[1, 2, 3]));
+    assert_of(rt, name, filter.asked.len() == 12);
 }
 
 fn resolve_with_closures(rt: &impl Abort, graph: &Graph<Stages>, start: &IxSet<Stages>)
     requires { length start.now ≡ length graph.now.nodes }
 {
+    let name = "resolves_with_filters";
     let mut calls = 0_usize;
     let set = ResolveCore::with_edge_filter(graph, start, FORWARD, |link| {
         calls = calls.wrapping_add(1);
         link != 0
     });
-    assert!(rt; resolved(set, &[0, 2, 3]) && calls == 3);
+    assert_of(rt, name, resolved(set, &[0, 2, 3]));
+    assert_of(rt, name, calls == 3);
     let mut counting = |link| {
         calls = calls.wrapping_add(1);
         link != 0
     };
     let set = ResolveCore::with_edge_filter_mut(graph, start, FORWARD, &mut counting);
-    assert!(rt; resolved(set, &[0, 2, 3]) && calls == 6);
+    assert_of(rt, name, resolved(set, &[0, 2, 3]));
+    assert_of(rt, name, calls == 6);
 }
 
 #[test]
 fn resolves_with_filters(rt: HostRuntime) {
     let graph = graph_of(&rt, rt.alloc(), 4, RING);
     let start = set_of(&rt, &graph, &[2]);
-    resolve_with_recording(&rt, &graph, &start);
     resolve_with_closures(&rt, &graph, &start);
+    let mut filter = Recording {
+        at: Asked::Filter(2),
+        links: &[2, 0],
+        fails_after: NEVER,
+        asked: Vec::new(rt.alloc()),
+    };
+    resolve_with_recording(&rt, &graph, &start, &mut filter);
 }

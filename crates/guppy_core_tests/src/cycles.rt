@@ -56,13 +56,6 @@ fn graph_of(rt: &impl Abort, alloc: Global, ends: &[(usize, usize, bool)]) -> Gr
     Graph::from_parts(nodes, links).expect(rt, "a graph")
 }
 
-// A cycle, and how many links were looked at.
-fn found_in(graph: &Graph<DevLinks>) -> Result<(Option<Vec<PackageIx>>, u64), AllocError> {
-    let mut counted = CountedGraph::new(graph);
-    let found = find_cycle(&mut counted, |is_dev_only: &bool| !*is_dev_only)?;
-    Ok((found, counted.looks()))
-}
-
 fn is_turn(cycle: &[PackageIx], turns: &[&[usize]]) -> bool {
     for turn in turns {
         if are_positions(cycle, turn) {
@@ -72,19 +65,22 @@ fn is_turn(cycle: &[PackageIx], turns: &[&[usize]]) -> bool {
     false
 }
 
-fn cycle_of(rt: &impl Abort, alloc: Global, cyclic: &Cyclic) {
-    let graph = graph_of(rt, alloc, cyclic.links);
-    let (found, looks) = found_in(&graph).expect(rt, cyclic.name);
-    let holds = match &found {
-        Some(cycle) => is_turn(cycle.as_slice(), cyclic.turns),
-        None => cyclic.turns.is_empty(),
+// Whether the cycle that is found is one of the turns, and no more links are looked at than there are.
+fn finds(graph: &Graph<DevLinks>, turns: &[&[usize]]) -> Result<bool, AllocError> {
+    let mut counted = CountedGraph::new(graph);
+    let found = find_cycle(&mut counted, |is_dev_only: &bool| !*is_dev_only)?;
+    let is_right = match &found {
+        Some(cycle) => is_turn(cycle.as_slice(), turns),
+        None => turns.is_empty(),
     };
-    assert_of(rt, cyclic.name, holds && looks <= cyclic.links.len() as u64);
+    Ok(is_right && counted.looks() <= graph.link_count() as u64)
 }
 
 #[test]
 fn cycles(rt: HostRuntime) {
     for cyclic in CYCLIC {
-        cycle_of(&rt, rt.alloc(), cyclic);
+        let graph = graph_of(&rt, rt.alloc(), cyclic.links);
+        let holds = finds(&graph, cyclic.turns).expect(&rt, cyclic.name);
+        assert_of(&rt, cyclic.name, holds);
     }
 }

@@ -7,7 +7,7 @@ use crate::tables::by_table;
 use guppy_core::dfs::{LinkVisitor, reachable, reachable_recorded, reachable_with_fn};
 use guppy_core::graph_core::Graph;
 use guppy_core::ix::{DependencyDirection, IxSet};
-use std::alloc::{AllocError, Global};
+use std::alloc::AllocError;
 use std::process::Abort;
 
 // From a link number on, it refuses the first link that it is shown. It accepts every other.
@@ -87,16 +87,12 @@ fn reached(
     }
 }
 
-fn search_of(rt: &impl Abort, alloc: Global, search: &Search) {
-    let graph = graph_of(rt, alloc, 4, search.links);
-    let set = reached(rt, &graph, search);
-    assert_of(rt, search.name, found(set, search.included));
-}
-
 #[test]
 fn searches(rt: HostRuntime) {
     for search in SEARCHES {
-        search_of(&rt, rt.alloc(), search);
+        let graph = graph_of(&rt, rt.alloc(), 4, search.links);
+        let set = reached(&rt, &graph, search);
+        assert_of(&rt, search.name, found(set, search.included));
     }
 }
 
@@ -121,7 +117,7 @@ fn refuses_second(graph: &Graph<DevLinks>, start: &IxSet<DevLinks>) -> bool
 fn second_link_refused(rt: HostRuntime) {
     let graph = graph_of(&rt, rt.alloc(), 3, &[(0, 1), (1, 2)]);
     let start = set_of(&rt, &graph, &[0]);
-    assert!(rt; refuses_second(&graph, &start));
+    assert_of(&rt, "second_link_refused", refuses_second(&graph, &start));
 }
 
 // Two searches share a visitor, which accepts every second link that it is shown.
@@ -143,5 +139,6 @@ fn shares_a_visitor(graph: &Graph<DevLinks>, start: &IxSet<DevLinks>) -> bool
 fn counting_visitor_is_lent(rt: HostRuntime) {
     let graph = graph_of(&rt, rt.alloc(), 4, &CHAIN);
     let start = set_of(&rt, &graph, &[3]);
-    assert!(rt; shares_a_visitor(&graph, &start));
+    let name = "counting_visitor_is_lent";
+    assert_of(&rt, name, shares_a_visitor(&graph, &start));
 }

@@ -93,7 +93,7 @@ fn sets_of_positions(rt: HostRuntime) {
         set_made(&rt, rt.alloc(), made);
     }
     let empty = IxSet::empty(rt.alloc(), 130).expect(&rt, "an_empty_set");
-    assert!(rt; has_members(&empty, 130, &[]));
+    assert_of(&rt, "an_empty_set", has_members(&empty, 130, &[]));
 }
 
 // Each operation changes what the one before it left.
@@ -127,9 +127,10 @@ fn operations_over_words(rt: HostRuntime) {
 #[test]
 fn an_index_prints_its_number(rt: HostRuntime) {
     let position = PackageIx::new(1042);
-    assert!(rt; position.index() == 1042);
-    let text = format!(in rt.alloc(); "{position}").expect(&rt, "a text");
-    assert!(rt; text.as_str() == "1042");
+    let name = "an_index_prints_its_number";
+    assert_of(&rt, name, position.index() == 1042);
+    let text = format!(in rt.alloc(); "{position}").expect(&rt, name);
+    assert_of(&rt, name, text.as_str() == "1042");
 }
 
 #[test]
@@ -139,9 +140,13 @@ fn directions(rt: HostRuntime) {
         to: 8,
         edge: 'a',
     };
-    assert!(rt; FORWARD.opposite() == REVERSE && REVERSE.opposite() == FORWARD);
-    assert!(rt; link.near_end(FORWARD) == 3 && link.far_end(FORWARD) == 8);
-    assert!(rt; link.near_end(REVERSE) == 8 && link.far_end(REVERSE) == 3);
+    let name = "directions";
+    assert_of(&rt, name, FORWARD.opposite() == REVERSE);
+    assert_of(&rt, name, REVERSE.opposite() == FORWARD);
+    assert_of(&rt, name, link.near_end(FORWARD) == 3);
+    assert_of(&rt, name, link.far_end(FORWARD) == 8);
+    assert_of(&rt, name, link.near_end(REVERSE) == 8);
+    assert_of(&rt, name, link.far_end(REVERSE) == 3);
 }
 
 // The graph of the numbers and of the links by from, to and letter.
@@ -219,30 +224,37 @@ fn small_graph_holds(graph: &Graph<Letters>) -> bool {
 fn a_small_graph(rt: HostRuntime) {
     let links = [(0, 1, 'a'), (1, 2, 'b'), (0, 2, 'c'), (2, 2, 'd')];
     let graph = graph_of(&rt, rt.alloc(), &[100, 200, 300], &links).expect(&rt, "a_small_graph");
-    assert!(rt; small_graph_holds(&graph));
+    assert_of(&rt, "a_small_graph", small_graph_holds(&graph));
 }
 
 #[test]
 fn repeated_link(rt: HostRuntime) {
+    let name = "repeated_link";
     let links = [(0, 1, 'a'), (0, 1, 'b'), (0, 2, 'c')];
-    let made = graph_of(&rt, rt.alloc(), &[100, 200], &links[..2]);
-    assert!(rt; made.err() == Some(GraphFault::RepeatedLink(1)));
-    let made = graph_of(&rt, rt.alloc(), &[100, 200], &links);
-    assert!(rt; made.err() == Some(GraphFault::UnknownEnd(2)));
+    let fault = graph_of(&rt, rt.alloc(), &[100, 200], &links[..2]).err();
+    assert_of(&rt, name, fault == Some(GraphFault::RepeatedLink(1)));
+    let fault = graph_of(&rt, rt.alloc(), &[100, 200], &links).err();
+    assert_of(&rt, name, fault == Some(GraphFault::UnknownEnd(2)));
+}
+
+// A link from the first position to each, and one more to the eighth.
+fn star(rt: &impl Abort, alloc: Global, count: usize) -> Vec<(usize, usize, char)> {
+    let mut links = Vec::new(alloc);
+    for to in 0..count {
+        links.push((0, to, 'a')).expect(rt, "links");
+    }
+    links.push((0, 7, 'b')).expect(rt, "links");
+    links
 }
 
 // Quadratic time would show here.
 #[test]
 fn a_wide_star(rt: HostRuntime) {
-    let count = 200_000;
-    let nodes = vec![in rt.alloc(); 0; count].expect(&rt, "nodes");
-    let mut links = Vec::new(rt.alloc());
-    for to in 0..count {
-        links.push((0, to, 'a')).expect(&rt, "links");
-    }
-    links.push((0, 7, 'b')).expect(&rt, "links");
+    let links = star(&rt, rt.alloc(), 200_000);
+    let nodes = vec![in rt.alloc(); 0; 200_000].expect(&rt, "nodes");
     let fault = graph_of(&rt, rt.alloc(), nodes.as_slice(), links.as_slice()).err();
-    assert!(rt; fault == Some(GraphFault::RepeatedLink(count)));
+    let is_found = fault == Some(GraphFault::RepeatedLink(200_000));
+    assert_of(&rt, "a_wide_star", is_found);
 }
 
 // Whether two links leave and two lead to each of a thousand positions.
@@ -278,5 +290,6 @@ fn sevens(rt: &impl Abort, alloc: Global) -> Vec<(usize, usize, char)> {
 fn thousand_by_sevens(rt: HostRuntime) {
     let links = sevens(&rt, rt.alloc());
     let graph = graph_of(&rt, rt.alloc(), &[0; 1000], links.as_slice());
-    assert!(rt; thousand_by_sevens_holds(&graph.expect(&rt, "thousand_by_sevens")));
+    let graph = graph.expect(&rt, "thousand_by_sevens");
+    assert_of(&rt, "thousand_by_sevens", thousand_by_sevens_holds(&graph));
 }

@@ -21,8 +21,8 @@ pub(crate) fn set_of<G: GraphSpec>(
 {
     let mut set = IxSet::empty(graph.alloc(), graph.node_count()).expect(rt, "a set");
     for position in positions {
-        if *position < graph.node_count() && *position < 4_294_967_295 {
-            set.insert(G::Ix::new(*position));
+        if *position < set.node_count() && *position < 4_294_967_295 {
+            set.insert_position(*position);
         }
     }
     set

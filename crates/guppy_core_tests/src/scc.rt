@@ -250,7 +250,11 @@ fn components_hold(sccs: &Sccs<PackageIx>) -> bool
 fn components_of_a_chain_with_a_ring(rt: HostRuntime) {
     let graph = graph_of(&rt, rt.alloc(), 4, &[(0, 1), (1, 2), (2, 3), (2, 1)]);
     let ordered = make_ordered(&graph).expect(&rt, "components_of_a_chain_with_a_ring");
-    assert!(rt; components_hold(&ordered.sccs));
+    assert_of(
+        &rt,
+        "components_of_a_chain_with_a_ring",
+        components_hold(&ordered.sccs),
+    );
 }
 
 // Whether there is one component, of so many nodes.
@@ -275,12 +279,12 @@ fn is_ring(graph: &Graph<DevLinks>, ordered: &Ordered, positions: &[usize]) -> b
 
 fn ring_holds(rt: &impl Abort, graph: &Graph<DevLinks>, positions: &[usize]) {
     let ordered = make_ordered(graph).expect(rt, "ring_1000");
-    assert!(rt; is_ring(graph, &ordered, positions));
+    assert_of(rt, "ring_1000", is_ring(graph, &ordered, positions));
     let forward = DependencyDirection::Forward;
     let all = links_inside(rt, graph, &ordered.sccs, positions, forward);
-    assert!(rt; all.len() == 1000);
+    assert_of(rt, "ring_1000", all.len() == 1000);
     let none = links_inside(rt, graph, &ordered.sccs, &[0, 2], forward);
-    assert!(rt; none.is_empty());
+    assert_of(rt, "ring_1000", none.is_empty());
 }
 
 // The ends of the links of a ring, and its positions.
