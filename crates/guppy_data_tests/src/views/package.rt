@@ -170,7 +170,7 @@ fn source_holds(rt: &impl Abort, source: PackageSource<'_>, wanted: &Source) {
     hold(rt, name, source.external_source() == wanted.external);
     hold(rt, name, source.parse_external() == wanted.parsed);
     let member = PackageSource::Workspace(Utf8Path::new(wanted.member));
-    hold(rt, name, (source == member) == is_member);
+    assert!(rt; (source == member) == is_member, "equal_sources: {name}");
 }
 
 #[test]
