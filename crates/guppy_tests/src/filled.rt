@@ -1,7 +1,7 @@
 //! Records with each field filled.
-use crate::records::{Records, path, text};
+use crate::records::{path, text};
 use guppy::graph::{
-    LinkRecord, NamedFeatureDep, PackagePublishRecord, PackageRecord, WorkspaceRecord,
+    LinkRecord, NamedFeatureDep, PackagePublishRecord, PackageRecord, Records, WorkspaceRecord,
 };
 use guppy::{JsonValue, Version};
 use std::alloc::Global;

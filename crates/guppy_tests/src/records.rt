@@ -25,20 +25,12 @@
 //! `filled` fills each field of the first package, the first link and the workspace.
 use crate::filled::fill;
 use guppy::graph::{
-    BuildTargetKindRecord, BuildTargetRecord, DependencyReqImpl, LinkRecord, OwnedBuildTargetId,
-    PackageRecord, PackageSourceRecord, WorkspaceRecord,
+    BuildTargetKindRecord, BuildTargetRecord, DependencyReqImpl, IntoGraph, LinkRecord,
+    OwnedBuildTargetId, PackageRecord, PackageSourceRecord, Records, WorkspaceRecord,
 };
 use guppy::{Error, PackageGraph, PackageId, SortedSet, Utf8PathBuf, Version, VersionReq};
 use std::alloc::{AllocError, Global};
 use std::process::Abort;
-
-/// The records of a graph.
-#[derive(Drop)]
-pub(super) struct Records {
-    pub(super) packages: Vec<PackageRecord>,
-    pub(super) links: Vec<LinkRecord>,
-    pub(super) workspace: WorkspaceRecord,
-}
 
 pub(super) fn text(rt: &impl Abort, alloc: Global, text: &str) -> String {
     String::from_str(alloc, text).expect(rt, text)
@@ -74,69 +66,82 @@ fn section(alloc: Global, is_present: bool) -> DependencyReqImpl {
     }
 }
 
-// Where a package is from: a member's place, another one's, or crates.io.
-#[derive(Clone, Copy)]
-enum Origin<'w> {
-    Member(&'w str),
-    Local(&'w str),
-    CratesIo,
-}
-
-fn source_of(rt: &impl Abort, alloc: Global, origin: Origin<'_>) -> PackageSourceRecord {
-    match origin {
-        Origin::Member(place) => PackageSourceRecord::Workspace(path(rt, alloc, place)),
-        Origin::Local(place) => PackageSourceRecord::Path(path(rt, alloc, place)),
-        Origin::CratesIo => {
-            let source = "registry+https://github.com/rust-lang/crates.io-index";
-            PackageSourceRecord::External(text(rt, alloc, source))
-        }
+// Where the package of a word without its version is from.
+fn source_of(rt: &impl Abort, alloc: Global, word: &str) -> PackageSourceRecord {
+    if let Some((_, place)) = word.split_once('@') {
+        PackageSourceRecord::Workspace(path(rt, alloc, place))
+    } else if word.starts_with('%') {
+        let source = "registry+https://github.com/rust-lang/crates.io-index";
+        PackageSourceRecord::External(text(rt, alloc, source))
+    } else {
+        let place = word.strip_prefix('$').unwrap_or("");
+        PackageSourceRecord::Path(path(rt, alloc, place))
     }
 }
 
-// Adds a package of this ID, name and origin.
+// The ID and name of a package without its version.
+fn names_of(word: &str) -> (&str, &str) {
+    let word = word
+        .trim_start_matches('@')
+        .trim_start_matches('%')
+        .trim_start_matches('$');
+    let (id, name) = word.split_once('=').unwrap_or((word, word));
+    let (name, _place) = name.split_once('@').unwrap_or((name, ""));
+    (id, name)
+}
+
+// Adds the package of a word without its version.
 fn add_package(
     rt: &impl Abort,
     alloc: Global,
     packages: &mut Vec<PackageRecord>,
-    parts: (&str, &str, Origin<'_>),
+    word: &str,
     version: Version,
 ) {
-    let (id_text, name, origin) = parts;
-    let id = id(rt, alloc, id_text);
-    let package_name = text(rt, alloc, name);
-    let source = source_of(rt, alloc, origin);
-    let edition = String::new(alloc);
+    let (id_text, name) = names_of(word);
     let package = PackageRecord::new(
         alloc,
-        id,
-        package_name,
+        id(rt, alloc, id_text),
+        text(rt, alloc, name),
         version,
-        source,
+        source_of(rt, alloc, word),
         no_path(alloc),
-        edition,
+        String::new(alloc),
     );
     packages.push(package).expect(rt, name);
 }
 
-// The build target of a word without its plus. A library has its own name where one is written.
-fn target_of(rt: &impl Abort, alloc: Global, word: &str) -> BuildTargetRecord {
-    let (kind, name) = word.split_once('=').unwrap_or((word, ""));
-    let own_name = text(rt, alloc, name);
-    let (id, lib_name) = match kind {
-        "bin" => (OwnedBuildTargetId::Binary(own_name), None),
-        "test" | "misfit" => (OwnedBuildTargetId::Test(own_name), None),
-        _ if name.is_empty() => (OwnedBuildTargetId::Library, None),
-        _ => (OwnedBuildTargetId::Library, Some(own_name)),
-    };
-    let kind = match kind {
+fn target_id(rt: &impl Abort, alloc: Global, kind: &str, name: &str) -> OwnedBuildTargetId {
+    match kind {
+        "bin" => OwnedBuildTargetId::Binary(text(rt, alloc, name)),
+        "test" | "misfit" => OwnedBuildTargetId::Test(text(rt, alloc, name)),
+        _ => OwnedBuildTargetId::Library,
+    }
+}
+
+fn target_kind(alloc: Global, kind: &str) -> BuildTargetKindRecord {
+    match kind {
         "macro" => BuildTargetKindRecord::ProcMacro,
         "misfit" => BuildTargetKindRecord::LibraryOrExample(SortedSet::new(Vec::new(alloc))),
         _ => BuildTargetKindRecord::Binary,
-    };
+    }
+}
+
+// A library has its own name where one is written.
+fn lib_name(rt: &impl Abort, alloc: Global, kind: &str, name: &str) -> Option<String> {
+    match (kind, name) {
+        ("bin" | "test" | "misfit", _) | (_, "") => None,
+        _ => Some(text(rt, alloc, name)),
+    }
+}
+
+// The build target of a word without its plus.
+fn target_of(rt: &impl Abort, alloc: Global, word: &str) -> BuildTargetRecord {
+    let (kind, name) = word.split_once('=').unwrap_or((word, ""));
     BuildTargetRecord {
-        id,
-        kind,
-        lib_name,
+        id: target_id(rt, alloc, kind, name),
+        kind: target_kind(alloc, kind),
+        lib_name: lib_name(rt, alloc, kind, name),
         required_features: Vec::new(alloc),
         path: no_path(alloc),
         edition: String::new(alloc),
@@ -146,34 +151,21 @@ fn target_of(rt: &impl Abort, alloc: Global, word: &str) -> BuildTargetRecord {
     }
 }
 
-// The ID, name and origin of a package without its version.
-fn parts_of(word: &str) -> (&str, &str, Origin<'_>) {
-    if let Some(place) = word.strip_prefix('@') {
-        (place, place, Origin::Member(place))
-    } else if let Some(name) = word.strip_prefix('%') {
-        (name, name, Origin::CratesIo)
-    } else if let Some(place) = word.strip_prefix('$') {
-        (place, place, Origin::Local(place))
-    } else {
-        let (id, name) = word.split_once('=').unwrap_or((word, word));
-        match name.split_once('@') {
-            Some((name, place)) => (id, name, Origin::Member(place)),
-            None => (id, name, Origin::Local("")),
-        }
+fn push_target(rt: &impl Abort, alloc: Global, targets: &mut Vec<BuildTargetRecord>, word: &str) {
+    targets.push(target_of(rt, alloc, word)).expect(rt, word);
+}
+
+// Adds the build target to the last package.
+fn add_target(rt: &impl Abort, alloc: Global, packages: &mut Vec<PackageRecord>, word: &str) {
+    if let Some(package) = packages.last_mut() {
+        push_target(rt, alloc, &mut package.build_targets, word);
     }
 }
 
 fn add_package_word(rt: &impl Abort, alloc: Global, packages: &mut Vec<PackageRecord>, word: &str) {
-    if let Some(target) = word.strip_prefix('+') {
-        if let Some(package) = packages.last_mut() {
-            let target = target_of(rt, alloc, target);
-            package.build_targets.push(target).expect(rt, word);
-        }
-    } else {
-        let (word, version) = word.split_once('#').unwrap_or((word, "1.2.3"));
-        let version = Version::parse(alloc, version).expect(rt, version);
-        add_package(rt, alloc, packages, parts_of(word), version);
-    }
+    let (word, version) = word.split_once('#').unwrap_or((word, "1.2.3"));
+    let version = Version::parse(alloc, version).expect(rt, version);
+    add_package(rt, alloc, packages, word, version);
 }
 
 // The parts of a link without its requirement, and in which sections it is: normal, build, dev.
@@ -198,14 +190,18 @@ fn add_link(
     version_req: VersionReq,
 ) {
     let (from, to, [normal, build, dev]) = ends;
-    let from_id = id(rt, alloc, from);
-    let to_id = id(rt, alloc, to);
-    let dep_name = String::new(alloc);
-    let resolved_name = String::new(alloc);
-    let mut link = LinkRecord::new(alloc, from_id, to_id, dep_name, resolved_name, version_req);
-    link.normal = section(alloc, normal);
-    link.build = section(alloc, build);
-    link.dev = section(alloc, dev);
+    let link = LinkRecord {
+        from: id(rt, alloc, from),
+        to: id(rt, alloc, to),
+        dep_name: String::new(alloc),
+        resolved_name: String::new(alloc),
+        version_req,
+        registry: None,
+        path: None,
+        normal: section(alloc, normal),
+        build: section(alloc, build),
+        dev: section(alloc, dev),
+    };
     links.push(link).expect(rt, from);
 }
 
@@ -215,30 +211,37 @@ fn add_link_word(rt: &impl Abort, alloc: Global, links: &mut Vec<LinkRecord>, wo
     add_link(rt, alloc, links, ends_of(ends), requirement);
 }
 
-/// The links of this shape between so many positions: from, to, and whether it is dev-only. A chain that is
-/// listed backwards begins at the last position.
+fn link_count(shape: &str, count: usize) -> usize {
+    match shape {
+        "complete" => count.saturating_mul(count),
+        "ring" => count,
+        _ => count.saturating_sub(1),
+    }
+}
+
+// The ends of the link of this number. A chain that is listed backwards begins at the last position.
+fn shape_ends(shape: &str, count: usize, number: usize) -> (usize, usize) {
+    let next = number.saturating_add(1);
+    match shape {
+        "complete" => (number / count.max(1), number % count.max(1)),
+        "backwards" => (next, number),
+        _ => (number, next % count.max(1)),
+    }
+}
+
+/// The links of this shape between so many positions: from, to, and that it isn't dev-only.
 pub(super) fn shape_of(
     rt: &impl Abort,
     alloc: Global,
     shape: &str,
     count: usize,
 ) -> Vec<(usize, usize, bool)> {
-    let link_count = match shape {
-        "complete" => count.saturating_mul(count),
-        "ring" => count,
-        _ => count.saturating_sub(1),
-    };
-    let mut ends = Vec::new(alloc);
-    for number in 0..link_count {
-        let next = number.saturating_add(1);
-        let (from, to) = match shape {
-            "complete" => (number / count.max(1), number % count.max(1)),
-            "backwards" => (next, number),
-            _ => (number, next % count.max(1)),
-        };
-        ends.push((from, to, false)).expect(rt, shape);
+    let mut links = Vec::new(alloc);
+    for number in 0..link_count(shape, count) {
+        let (from, to) = shape_ends(shape, count, number);
+        links.push((from, to, false)).expect(rt, shape);
     }
-    ends
+    links
 }
 
 pub(super) fn numbered_name(rt: &impl Abort, alloc: Global, position: usize) -> String {
@@ -256,56 +259,78 @@ pub(super) fn numbered_ids(rt: &impl Abort, alloc: Global, count: usize) -> Vec<
     ids
 }
 
-impl Records {
-    // p0 and so on, so many, and links with these ends.
-    fn add_between(
-        &mut self,
-        rt: &impl Abort,
-        alloc: Global,
-        count: usize,
-        links: &[(usize, usize, bool)],
-    ) {
-        for position in 0..count {
-            let name = numbered_name(rt, alloc, position);
-            let parts = (name.as_str(), name.as_str(), Origin::Local(""));
-            add_package(rt, alloc, &mut self.packages, parts, Version::new(1, 2, 3));
-        }
-        for (from, to, is_dev_only) in links {
-            let from = numbered_name(rt, alloc, *from);
-            let to = numbered_name(rt, alloc, *to);
-            let ends = (
-                from.as_str(),
-                to.as_str(),
-                [!*is_dev_only, false, *is_dev_only],
-            );
-            add_link(rt, alloc, &mut self.links, ends, VersionReq::star(alloc));
-        }
+// Adds p0 and so on, so many.
+fn add_numbered(rt: &impl Abort, alloc: Global, packages: &mut Vec<PackageRecord>, count: usize) {
+    for position in 0..count {
+        let name = numbered_name(rt, alloc, position);
+        add_package(rt, alloc, packages, name.as_str(), Version::new(1, 2, 3));
     }
+}
 
-    fn add_word(&mut self, rt: &impl Abort, alloc: Global, word: &str) {
-        if let Some(member) = word.strip_prefix('!') {
-            let member = id(rt, alloc, member);
-            self.workspace.default_members.push(member).expect(rt, word);
-        } else if let Some((shape, count)) = word.split_once('*') {
-            let count = count.parse().unwrap_or(0);
-            self.add_between(rt, alloc, count, &shape_of(rt, alloc, shape, count));
-        } else {
-            add_package_word(rt, alloc, &mut self.packages, word);
-        }
+fn add_numbered_link(
+    rt: &impl Abort,
+    alloc: Global,
+    links: &mut Vec<LinkRecord>,
+    link: (usize, usize, bool),
+) {
+    let (from, to, is_dev_only) = link;
+    let from = numbered_name(rt, alloc, from);
+    let to = numbered_name(rt, alloc, to);
+    let sections = [!is_dev_only, false, is_dev_only];
+    let ends = (from.as_str(), to.as_str(), sections);
+    add_link(rt, alloc, links, ends, VersionReq::star(alloc));
+}
+
+// Adds p0 and so on, so many, and links with these ends.
+fn add_between(
+    rt: &impl Abort,
+    alloc: Global,
+    records: &mut Records,
+    count: usize,
+    links: &[(usize, usize, bool)],
+) {
+    add_numbered(rt, alloc, &mut records.packages, count);
+    for link in links {
+        add_numbered_link(rt, alloc, &mut records.links, *link);
     }
+}
 
-    fn add(&mut self, rt: &impl Abort, alloc: Global, line: &str) {
-        let (packages, links) = line.split_once(':').unwrap_or((line, ""));
-        for word in packages.split_whitespace() {
-            self.add_word(rt, alloc, word);
-        }
-        for word in links.split_whitespace() {
-            if word == "filled" {
-                fill(rt, alloc, self);
-            } else {
-                add_link_word(rt, alloc, &mut self.links, word);
-            }
-        }
+fn add_shape(rt: &impl Abort, alloc: Global, records: &mut Records, shape: &str, count: usize) {
+    let links = shape_of(rt, alloc, shape, count);
+    add_between(rt, alloc, records, count, links.as_slice());
+}
+
+fn add_default_member(rt: &impl Abort, alloc: Global, members: &mut Vec<PackageId>, member: &str) {
+    members.push(id(rt, alloc, member)).expect(rt, member);
+}
+
+fn add_word(rt: &impl Abort, alloc: Global, records: &mut Records, word: &str) {
+    if let Some(member) = word.strip_prefix('!') {
+        add_default_member(rt, alloc, &mut records.workspace.default_members, member);
+    } else if let Some(target) = word.strip_prefix('+') {
+        add_target(rt, alloc, &mut records.packages, target);
+    } else if let Some((shape, count)) = word.split_once('*') {
+        add_shape(rt, alloc, records, shape, count.parse().unwrap_or(0));
+    } else {
+        add_package_word(rt, alloc, &mut records.packages, word);
+    }
+}
+
+fn add_behind_colon(rt: &impl Abort, alloc: Global, records: &mut Records, word: &str) {
+    if word == "filled" {
+        fill(rt, alloc, records);
+    } else {
+        add_link_word(rt, alloc, &mut records.links, word);
+    }
+}
+
+fn add_line(rt: &impl Abort, alloc: Global, records: &mut Records, line: &str) {
+    let (packages, links) = line.split_once(':').unwrap_or((line, ""));
+    for word in packages.split_whitespace() {
+        add_word(rt, alloc, records, word);
+    }
+    for word in links.split_whitespace() {
+        add_behind_colon(rt, alloc, records, word);
     }
 }
 
@@ -320,8 +345,8 @@ fn no_records(alloc: Global) -> Records {
 /// The graph that the line says.
 pub(super) fn graph_of(rt: &impl Abort, alloc: Global, line: &str) -> Result<PackageGraph, Error> {
     let mut records = no_records(alloc);
-    records.add(rt, alloc, line);
-    PackageGraph::from_records(records.packages, records.links, records.workspace)
+    add_line(rt, alloc, &mut records, line);
+    records.into_graph()
 }
 
 /// The graph of p0 and so on, so many, with links between these positions.
@@ -332,7 +357,6 @@ pub(super) fn numbered_graph(
     links: &[(usize, usize, bool)],
 ) -> PackageGraph {
     let mut records = no_records(alloc);
-    records.add_between(rt, alloc, count, links);
-    let graph = PackageGraph::from_records(records.packages, records.links, records.workspace);
-    graph.expect(rt, "a graph")
+    add_between(rt, alloc, &mut records, count, links);
+    records.into_graph().expect(rt, "a graph")
 }
