@@ -1,6 +1,7 @@
 -- The declared dependencies that were resolved to one, from the first of them on, and its usages.
-use Rattle.std.proofs.Common.{◌≡◌, ◌∙◌, ℕ, Bool, true, false, ◌&&◌, cond, List, [], ◌∷◌, filter, Some, IfSome, slice_get, refl, sym, ap, subst}
+use Rattle.std.proofs.Common.{◌≡◌, ◌∙◌, ℕ, Bool, true, false, ◌&&◌, cond, List, [], ◌∷◌, filter, None, Some, IfSome, slice_get, refl, sym, ap, subst}
 use Rattle.std.specs.List.{list_any}
+use Rattle.std.proofs.lemmas.Option.{none-some}
 use Rattle.std.specs.Prelude.{unwrap_or}
 use Rattle.guppy_metadata.specs.declared.types.Declared.{Declared}
 use Rattle.guppy_metadata.specs.declared.types.Resolved.{Resolved}
@@ -9,6 +10,11 @@ use Rattle.guppy_metadata.specs.declared.types.Package.{Package}
 use Rattle.guppy_metadata.specs.Fits.{fits, same_usage, is_matched, are_matched}
 
 module _ {A : Type 0} (p : A → Bool) where
+  -- of a list with no first item a test picks nothing
+  pub none_picked : (xs : List A) → None ≡ slice_get xs 0 → filter p xs ≡ []
+  none_picked [] is = refl
+  none_picked (y ∷ xs) is = absurd (none-some y is)
+
   -- what a test picks of a list that begins with what it picks
   pub picked_first : (xs : List A) (x : A) → Some x ≡ slice_get xs 0 → IfSome (slice_get xs 0) (λ first. p first ≡ true) → (others : List A) × (filter p xs ≡ x ∷ others)
   picked_first [] x is picks = absurd (subst (λ o. IfSome o (λ _. ⊥)) (sym is) tt)

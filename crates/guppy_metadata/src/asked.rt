@@ -1,5 +1,6 @@
 //! Members of objects that are asked for by their names.
 ghost use Rattle.std.specs.Prelude.{◌≡◌, ◌<◌, true, false, Some, OnSome, IfSome, MatchOption, All, length, map, position};
+ghost use Rattle.std.specs.List.{list_any};
 ghost use Rattle.std.specs.Option.{option_copied};
 ghost use Rattle.std.specs.Str.{bytes_eq};
 ghost use Rattle.json.specs.Json.{Json, null, value};
@@ -10,6 +11,18 @@ ghost use Rattle.guppy_metadata.specs.Told.{IsWith};
 
 use json::{Reader, Token, Value};
 use std::alloc::Global;
+
+/// Whether the name is one of these.
+pub(crate) fn is_one_of(names: &[&str], name: &str) -> bool
+    ensures { result ≡ list_any (λ other. bytes_eq name.now other.now) names.now }
+{
+    for other in names {
+        if name == *other {
+            return true;
+        }
+    }
+    false
+}
 
 fn first_place_of(names: &[&str], name: &str) -> Option<usize>
     ensures { result ≡ position (λ other. bytes_eq name.now other.now) names.now }

@@ -15,7 +15,7 @@ use crate::package::package_records;
 use crate::told::told_in;
 use crate::types::{Package, Told};
 use crate::workspace::{member_ids, workspace_record};
-use guppy_data::{LinkRecord, Records};
+use guppy_data::{LinkRecord, Records, Utf8Path};
 use json::{Reader, Scratch, Value};
 use std::alloc::Global;
 
@@ -31,11 +31,11 @@ fn records_with(
         → AreRecordsWith details d r.packages.items r.links.items r.workspace) }
 {
     let alloc = metadata.alloc;
-    let workspace = workspace_record(metadata)?;
     let members = member_ids(metadata)?;
     check_members(alloc, packages.as_slice(), members.as_slice())?;
-    let root = workspace.root.as_path();
+    let root = Utf8Path::new(metadata.text("workspace_root")?);
     let packages = package_records(alloc, packages, members.as_slice(), root)?;
+    let workspace = workspace_record(metadata)?;
     Ok(Records {
         packages,
         links,

@@ -7,6 +7,7 @@ ghost use Rattle.guppy_metadata.specs.Package.{IsTold, IsLibrary, AreAlike, is_a
 ghost use Rattle.guppy_metadata.specs.Parts.{TellsParts};
 ghost use Rattle.guppy_metadata.specs.Told.{IsWith};
 
+use crate::asked::is_one_of;
 use crate::declared::read_dependencies;
 use crate::object::Object;
 use crate::package::package_with;
@@ -15,21 +16,25 @@ use crate::types::{Package, Parts};
 use json::{MAX_DEPTH, Reader, Token, Value};
 use std::alloc::Global;
 
+// The names of the members that are asked for without details, but for the dependencies and the build targets.
+const PLAIN: [&str; 10] = [
+    "id",
+    "name",
+    "version",
+    "source",
+    "manifest_path",
+    "edition",
+    "description",
+    "license",
+    "repository",
+    "publish",
+];
+
 // Whether the member of this name is asked for: without details, whether it is none.
 fn is_asked(name: &str, details: bool) -> bool
     ensures { result ≡ is_asked details name.now }
 {
-    details
-        || name == "id"
-        || name == "name"
-        || name == "version"
-        || name == "source"
-        || name == "manifest_path"
-        || name == "edition"
-        || name == "description"
-        || name == "license"
-        || name == "repository"
-        || name == "publish"
+    details || is_one_of(&PLAIN, name)
 }
 
 // Reads the member of this name, whose value comes next.

@@ -7,6 +7,7 @@ ghost use Rattle.guppy_metadata.specs.Members.{data_of, is_among, AreTexts};
 ghost use Rattle.guppy_metadata.specs.Package.{AreTargets, IsLibrary};
 ghost use Rattle.guppy_metadata.specs.Target.{IsTargetId, IsLibraryOf, IsTargetKind, IsTarget, is_library_kind, IsLibraryName, IsFirstLibrary, IsLibraryAmong};
 
+use crate::asked::is_one_of;
 use crate::fault::Misfit;
 use crate::object::Object;
 use crate::read::read_object;
@@ -124,15 +125,14 @@ pub(crate) fn build_targets(json: Object<'_, '_>) -> Result<Vec<BuildTargetRecor
     Ok(targets)
 }
 
+// The kinds of targets that are no libraries.
+const OTHER_KINDS: [&str; 5] = ["custom-build", "bin", "example", "test", "bench"];
+
 // Whether a target of this kind is a library.
 fn is_library_kind(kind: &str) -> bool
     ensures { result ≡ is_library_kind kind.now }
 {
-    !(kind == "custom-build"
-        || kind == "bin"
-        || kind == "example"
-        || kind == "test"
-        || kind == "bench")
+    !is_one_of(&OTHER_KINDS, kind)
 }
 
 // The name of a target that is a library.

@@ -11,8 +11,8 @@ returns c details d same left links =
     let packages = c.args.packages.items in
     let ids = map (λ id. id.now) c.in_ok-members.members.items in
     let known : are_known packages ids ≡ true = rw (sym c.as_slice.ensures.value, sym c.as_slice-2.ensures.value) c.in_ok-check_members.ensures in record {
-      packages_are = packages_are details d c.in_ok-workspace.workspace.root _ ids left.whole _ c.as_path-root.ensures
-          (sym (same (codes "workspace_root") (refl, refl)) ∙ c.in_ok-workspace.ensures.root) (sym (same (codes "workspace_members") (refl, refl)) ∙ c.in_ok-members.ensures)
+      packages_are = packages_are details d c.in_ok-text.field-0.now _ ids left.whole _ c.new-root.ensures
+          (sym (same (codes "workspace_root") (refl, refl)) ∙ c.in_ok-text.ensures) (sym (same (codes "workspace_members") (refl, refl)) ∙ c.in_ok-members.ensures)
           left.told (subst (λ own. are_among own ids ≡ true) (sym (ids_kept left.whole packages left.left)) known)
           (records_of_whole _ (is_among ids) left.whole packages _ left.left (rw (sym c.as_slice-3.ensures.value) c.in_ok-packages.ensures));
       links_are = links;
