@@ -11,12 +11,14 @@ ghost use Rattle.json.specs.Value.{value_view};
 ghost use Rattle.guppy_metadata.specs.declared.types.Declared.{Declared};
 ghost use Rattle.guppy_metadata.specs.Fault.{LacksMemory, NoneIs};
 ghost use Rattle.guppy_metadata.specs.Fits.{stands_for, is_named, has_name, same_usage, is_used, fits, is_matched, are_matched};
+ghost use Rattle.guppy_metadata.specs.Key.{name_key};
 ghost use Rattle.guppy_metadata.specs.Gathered.{status_at, asked_too, asks_for, IsSection, IsGathered, IsNamedAs, IsLinkOf};
 ghost use Rattle.guppy_metadata.specs.Links.{HasTexts, Joins, IsResolved, IsUnasked, IsLink, AreLinksFrom, AreLinksOf, AreLinksOfAll};
 ghost use Rattle.guppy_metadata.specs.Members.{data_of, IsListOf};
 ghost use Rattle.guppy_metadata.specs.Package.{with_id, are_known, ArePositions};
 
 use crate::fault::{Misfit, TextFault};
+use crate::key::name_key;
 use crate::object::{Object, optional_copy};
 use crate::package::positions_of;
 use crate::resolved::{read_resolved, resolved_of};
@@ -30,6 +32,18 @@ use json::{Reader, Token, Value};
 use semver::VersionReq;
 use std::alloc::{AllocError, Global};
 use std::collections::BTreeMap;
+
+// What declared dependencies are held against: a dependency of the package with the ID `from` that was resolved to the
+// needed package.
+#[derive(Drop)]
+struct Wanted<'w, 'r, 'p> {
+    from: &'w str,
+    resolved: &'w Resolved<'r>,
+    needed: &'w Package<'p>,
+    // the key of the needed package's name
+    key: u32,
+    ghost keyed: { key ≡ name_key (string_bytes needed.now.record.name) },
+}
 
 /// The packages, and the position of each behind its ID.
 #[derive(Clone, Copy)]
@@ -108,41 +122,34 @@ fn is_used(declared: &Declared<'_>, usages: &[Usage<'_>]) -> bool
 // Whether the dependency asks for a package of this name. The names' keys are compared first, which lie beside the
 // names' places.
 #[inline(always)]
-fn asks_for_name(declared: &Declared<'_>, needed: &Package<'_>) -> bool
-    ensures { result ≡ bytes_eq declared.now.name.now (string_bytes needed.now.record.name) }
+fn asks_for_name(declared: &Declared<'_>, wanted: &Wanted<'_, '_, '_>) -> bool
+    ensures { result ≡ bytes_eq declared.now.name.now (string_bytes wanted.now.needed.now.record.name) }
 {
-    declared.key == needed.key && declared.name == needed.record.name.as_str()
+    declared.key == wanted.key && declared.name == wanted.needed.record.name.as_str()
 }
 
 // Whether what a package declares is among the dependencies that were resolved to this one. One on itself
 // is resolved with the name of its library, whatever its own is.
 #[inline(always)]
-fn fits(declared: &Declared<'_>, from: &str, resolved: &Resolved<'_>, needed: &Package<'_>) -> bool
-    ensures { result ≡ fits from.now resolved.now needed.now declared.now }
+fn fits(declared: &Declared<'_>, wanted: &Wanted<'_, '_, '_>) -> bool
+    ensures { result ≡ fits wanted.now.from.now wanted.now.resolved.now wanted.now.needed.now declared.now }
 {
-    asks_for_name(declared, needed)
-        && (has_name(declared, needed, resolved.name) || from == resolved.id)
-        && declared.takes(&needed.record.version)
-        && is_used(declared, resolved.usages.as_slice())
+    asks_for_name(declared, wanted)
+        && (has_name(declared, wanted.needed, wanted.resolved.name)
+            || wanted.from == wanted.resolved.id)
+        && declared.takes(&wanted.needed.record.version)
+        && is_used(declared, wanted.resolved.usages.as_slice())
 }
 
 // Whether the usage is that of one of the declared dependencies that were resolved so, as the first one was.
-fn is_matched(
-    usage: &Usage<'_>,
-    declared: &[Declared<'_>],
-    from: &str,
-    resolved: &Resolved<'_>,
-    needed: &Package<'_>,
-) -> bool
+fn is_matched(usage: &Usage<'_>, declared: &[Declared<'_>], wanted: &Wanted<'_, '_, '_>) -> bool
     requires { IfSome (slice_get declared.now 0)
-        (λ first. fits from.now resolved.now needed.now first ≡ true) }
+        (λ first. fits wanted.now.from.now wanted.now.resolved.now wanted.now.needed.now first ≡ true) }
     ensures { result
-        ≡ is_matched from.now resolved.now needed.now declared.now usage.now }
+        ≡ is_matched wanted.now.from.now wanted.now.resolved.now wanted.now.needed.now declared.now usage.now }
 {
     for (index, dependency) in declared.iter().enumerate() {
-        if is_same_usage(dependency, usage)
-            && (index == 0 || fits(dependency, from, resolved, needed))
-        {
+        if is_same_usage(dependency, usage) && (index == 0 || fits(dependency, wanted)) {
             return true;
         }
     }
@@ -150,20 +157,14 @@ fn is_matched(
 }
 
 // Whether each usage is.
-fn are_matched(
-    usages: &[Usage<'_>],
-    declared: &[Declared<'_>],
-    from: &str,
-    resolved: &Resolved<'_>,
-    needed: &Package<'_>,
-) -> bool
+fn are_matched(usages: &[Usage<'_>], declared: &[Declared<'_>], wanted: &Wanted<'_, '_, '_>) -> bool
     requires { IfSome (slice_get declared.now 0)
-        (λ first. fits from.now resolved.now needed.now first ≡ true) }
+        (λ first. fits wanted.now.from.now wanted.now.resolved.now wanted.now.needed.now first ≡ true) }
     ensures { result
-        ≡ are_matched from.now resolved.now needed.now declared.now usages.now }
+        ≡ are_matched wanted.now.from.now wanted.now.resolved.now wanted.now.needed.now declared.now usages.now }
 {
     for usage in usages {
-        if !is_matched(usage, declared, from, resolved, needed) {
+        if !is_matched(usage, declared, wanted) {
             return false;
         }
     }
@@ -366,17 +367,15 @@ fn copied_requirement(requirement: &VersionReq) -> Result<VersionReq, AllocError
 // The declared dependencies from the first one on that was resolved to the package.
 fn from_first_fitting<'d, 'a>(
     declared: &'d [Declared<'a>],
-    from: &str,
-    resolved: &Resolved<'_>,
-    needed: &Package<'_>,
+    wanted: &Wanted<'_, '_, '_>,
 ) -> &'d [Declared<'a>]
-    ensures all { filter (fits from.now resolved.now needed.now) result.now
-        ≡ filter (fits from.now resolved.now needed.now) declared.now }
+    ensures all { filter (fits wanted.now.from.now wanted.now.resolved.now wanted.now.needed.now) result.now
+        ≡ filter (fits wanted.now.from.now wanted.now.resolved.now wanted.now.needed.now) declared.now }
     ensures first { IfSome (slice_get result.now 0)
-        (λ first. fits from.now resolved.now needed.now first ≡ true) }
+        (λ first. fits wanted.now.from.now wanted.now.resolved.now wanted.now.needed.now first ≡ true) }
 {
     for (index, dependency) in declared.iter().enumerate() {
-        if fits(dependency, from, resolved, needed) {
+        if fits(dependency, wanted) {
             return &declared[index..];
         }
     }
@@ -388,20 +387,18 @@ fn add_fitting(
     alloc: Global,
     link: &mut LinkRecord,
     declared: &[Declared<'_>],
-    from: &str,
-    resolved: &Resolved<'_>,
-    needed: &Package<'_>,
+    wanted: &Wanted<'_, '_, '_>,
 ) -> Result<(), AllocError>
     requires { IfSome (slice_get declared.now 0)
-        (λ first. fits from.now resolved.now needed.now first ≡ true) }
+        (λ first. fits wanted.now.from.now wanted.now.resolved.now wanted.now.needed.now first ≡ true) }
     ensures joins { (one other name : List ℕ)
         → Joins one other name link.old → Joins one other name link.new }
     ensures named { (first : Declared) → IsNamedAs first link.old → IsNamedAs first link.new }
     ensures gathered { OnOk result (IsGathered [] link.old
-        → IsGathered (filter (fits from.now resolved.now needed.now) declared.now) link.new) }
+        → IsGathered (filter (fits wanted.now.from.now wanted.now.resolved.now wanted.now.needed.now) declared.now) link.new) }
 {
     for (index, dependency) in declared.iter().enumerate() {
-        if index == 0 || fits(dependency, from, resolved, needed) {
+        if index == 0 || fits(dependency, wanted) {
             add_declared(alloc, link, dependency)?;
         }
     }
@@ -426,18 +423,24 @@ fn add_link_between(
         IsLinkOf (filter (fits from.now resolved.now needed.now) asking.now.declared.items) link
         × (are_matched from.now resolved.now needed.now asking.now.declared.items resolved.now.usages.items ≡ true))) }
 {
-    let declared = from_first_fitting(asking.declared.as_slice(), from, resolved, needed);
+    let wanted = Wanted {
+        from,
+        resolved,
+        needed,
+        key: name_key(needed.record.name.as_str()),
+    };
+    let declared = from_first_fitting(asking.declared.as_slice(), &wanted);
     let usages = resolved.usages.as_slice();
     let Some(first) = declared.first() else {
         return Err(Misfit::bad_text(alloc, "pkg", TextFault::NoDependency));
     };
-    if !are_matched(usages, declared, from, resolved, needed) {
+    if !are_matched(usages, declared, &wanted) {
         return Err(Misfit::bad_text(alloc, "pkg", TextFault::NoDependency));
     }
     let requirement = copied_requirement(&first.requirement)?;
     let texts = link_texts(alloc, from, resolved, first.dep_name())?;
     let link = links.push_mut(bare_link(alloc, texts, requirement))?;
-    Ok(add_fitting(alloc, link, declared, from, resolved, needed)?)
+    Ok(add_fitting(alloc, link, declared, &wanted)?)
 }
 
 // The link that is asked for in no section.

@@ -1,5 +1,5 @@
 //! Packages.
-ghost use Rattle.std.specs.Prelude.{◌≡◌, true, Some, IfOk, IfErr, OnOk, MatchResult, map, option_map, string_bytes, codes, Bool};
+ghost use Rattle.std.specs.Prelude.{◌≡◌, ◌++◌, ◌∷◌, [], true, Some, IfOk, IfErr, OnOk, MatchResult, map, string_bytes, codes};
 ghost use Rattle.std.specs.List.{AllZip};
 ghost use Rattle.std.specs.Option.{option_copied};
 ghost use Rattle.json.specs.Json.{Json, string};
@@ -14,7 +14,6 @@ ghost use Rattle.guppy_metadata.specs.Package.{IsFrom, IsNamed, IsKnown, IsShown
 use crate::declared::{declared_dependencies, optional_names};
 use crate::fault::Misfit;
 use crate::feature::named_features;
-use crate::key::name_key;
 use crate::object::{Object, optional_copy, version_of};
 use crate::path::folder_from;
 use crate::target::{build_targets, first_library};
@@ -173,16 +172,6 @@ fn show(made: &mut PackageRecord, json: Object<'_, '_>) -> Result<(), Misfit>
     Ok(())
 }
 
-// The record of the package, without details and build targets.
-fn named_record(json: Object<'_, '_>) -> Result<PackageRecord, Misfit>
-    ensures named { IsRead (IsNamed (data_of json.entry)) result }
-    ensures plain { IfOk result IsPlain }
-{
-    let mut record = known_record(json)?;
-    show(&mut record, json)?;
-    Ok(record)
-}
-
 // The build targets that are told of a package, or none of them where details are left out.
 fn asked_targets(json: Object<'_, '_>, details: bool) -> Result<Vec<BuildTargetRecord>, Misfit>
     ensures { MatchResult result (λ targets. AreAskedTargets details (data_of json.entry) targets.items)
@@ -218,76 +207,75 @@ fn add_details(
     }
 }
 
-// The package of its record so far, its library and dependencies, with details or without.
-fn filled_package<'a>(
+/// Adds the package that an object tells with this ID, source, library and dependencies, with details or without. Its
+/// record is made in its place.
+pub(crate) fn add_package<'a>(
+    packages: &mut Vec<Package<'a>>,
     json: Object<'_, 'a>,
     id: &'a str,
     source: Option<&'a str>,
-    library: Option<String>,
+    library: Option<&'a str>,
     declared: Vec<Declared<'a>>,
-    mut made: PackageRecord,
     details: bool,
-) -> Result<Package<'a>, Misfit>
-    ensures told { IfOk result (λ p. (d : Json) → AreAlike details (data_of json.entry) d
+) -> Result<(), Misfit>
+    ensures added { OnOk result ((p : Package) × (packages.new.items ≡ packages.old.items ++ p ∷ [])
+        × ((d : Json) → AreAlike details (data_of json.entry) d
         → get (codes "id") (data_of json.entry) ≡ Some (string id.now)
         → IsText (codes "source") (data_of json.entry) (option_copied source.entry)
-        → IsNamed (data_of json.entry) made → IsPlain made
-        → IsLibrary d (option_map string_bytes library) → AreDeclared details d declared.entry.items → IsTold details d p) }
-    ensures refused { IfErr result (NoneIs (λ (r : PackageRecord). AreAskedTargets details (data_of json.entry) r.build_targets.items
-        × IsDetailed details (data_of json.entry) r)) }
+        → IsLibrary d (option_copied library.entry) → AreDeclared details d declared.entry.items → IsTold details d p)) }
+    ensures refused { IfErr result (NoneIs (λ (r : PackageRecord). IsNamed (data_of json.entry) r
+        × AreAskedTargets details (data_of json.entry) r.build_targets.items × IsDetailed details (data_of json.entry) r)) }
 {
-    add_details(&mut made, json, declared.as_slice(), details)?;
-    Ok(Package {
+    let library = optional_copy(json.alloc, library)?;
+    let record = known_record(json)?;
+    let package = packages.push_mut(Package {
         id,
         source,
         library,
         declared,
-        key: name_key(made.name.as_str()),
-        record: made,
-    })
+        record,
+    })?;
+    show(&mut package.record, json)?;
+    add_details(
+        &mut package.record,
+        json,
+        package.declared.as_slice(),
+        details,
+    )
 }
 
-/// The package that an object tells with this library and these dependencies, with details or without.
-pub(crate) fn package_with<'a>(
+/// Adds the package that an object tells, with details or without.
+pub(crate) fn package_of<'a>(
+    packages: &mut Vec<Package<'a>>,
     json: Object<'_, 'a>,
-    library: Option<&'a str>,
-    declared: Vec<Declared<'a>>,
     details: bool,
-) -> Result<Package<'a>, Misfit>
-    ensures { IfOk result (λ made. (d : Json) → AreAlike details (data_of json.entry) d
-        → IsLibrary d (option_copied library.entry) → AreDeclared details d declared.entry.items → IsTold details d made) }
-{
-    let id = json.text("id")?;
-    let source = json.optional_text("source")?;
-    let library = optional_copy(json.alloc, library)?;
-    let record = named_record(json)?;
-    filled_package(json, id, source, library, declared, record, details)
-}
-
-/// The package that an object tells, with details or without.
-pub(crate) fn package_of<'a>(json: Object<'_, 'a>, details: bool) -> Result<Package<'a>, Misfit>
-    ensures { IsRead (IsTold details (data_of json.entry)) result }
+) -> Result<(), Misfit>
+    ensures added { OnOk result ((p : Package) × (packages.new.items ≡ packages.old.items ++ p ∷ [])
+        × IsTold details (data_of json.entry) p) }
+    ensures refused { IfErr result (NoneIs (IsTold details (data_of json.entry))) }
 {
     let id = json.text("id")?;
     let source = json.optional_text("source")?;
     let declared = declared_dependencies(json, details)?;
-    let library = optional_copy(json.alloc, first_library(json)?)?;
-    let record = named_record(json)?;
-    filled_package(json, id, source, library, declared, record, details)
+    let library = first_library(json)?;
+    add_package(packages, json, id, source, library, declared, details)
 }
 
-/// The package that the item of the list `packages` at this index is, with details or without.
+/// Adds the package that the item of the list `packages` at this index is, with details or without.
 pub(crate) fn package_at<'a>(
+    packages: &mut Vec<Package<'a>>,
     alloc: Global,
     index: usize,
     item: &Value<'a>,
     details: bool,
-) -> Result<Package<'a>, Misfit>
-    ensures { IsRead (IsTold details (value_view item.now)) result }
+) -> Result<(), Misfit>
+    ensures added { OnOk result ((p : Package) × (packages.new.items ≡ packages.old.items ++ p ∷ [])
+        × IsTold details (value_view item.now) p) }
+    ensures refused { IfErr result (NoneIs (IsTold details (value_view item.now))) }
 {
     let json = Object::of_item(alloc, "packages", index, item)?;
-    match package_of(json, details) {
-        Ok(package) => Ok(package),
+    match package_of(packages, json, details) {
+        Ok(()) => Ok(()),
         Err(fault) => Err(fault.within_item(alloc, "packages", index)),
     }
 }
@@ -304,7 +292,7 @@ pub(crate) fn packages_of<'a>(
     let items = metadata.list("packages")?;
     let mut packages = Vec::with_capacity(alloc, items.len())?;
     for (index, item) in items.iter().enumerate() {
-        packages.push(package_at(alloc, index, item, details)?)?;
+        package_at(&mut packages, alloc, index, item, details)?;
     }
     Ok(packages)
 }
@@ -347,37 +335,22 @@ fn source_of(
     }
 }
 
-// The record of a package that comes from there.
-fn record_from(package: Package<'_>, source: PackageSourceRecord) -> PackageRecord
-    ensures source { result.source ≡ source }
-    ensures named { (d : Json) → IsNamed d «package».entry.record → IsNamed d result }
-    ensures detailed { (details : Bool) (d : Json) → IsDetailed details d «package».entry.record → IsDetailed details d result }
-    ensures targets { result.build_targets ≡ «package».entry.record.build_targets }
-    ensures optional { result.optional_deps ≡ «package».entry.record.optional_deps }
-    ensures manifest_path { result.manifest_path ≡ «package».entry.record.manifest_path }
-{
-    let mut record = package.record;
-    record.source = source;
-    record
-}
-
-// The record of a package of a workspace with these members.
-fn record_of(
+// Adds the record of a package of a workspace with these members.
+fn add_record(
+    records: &mut Vec<PackageRecord>,
     alloc: Global,
     package: Package<'_>,
     members: &IndexSet<&str>,
     root: Utf8Path<'_>,
-) -> Result<PackageRecord, AllocError>
-    ensures { IfOk result (IsRecordOf (path_text root.entry) (is_in_set members.now) «package».entry) }
+) -> Result<(), AllocError>
+    ensures { OnOk result ((r : PackageRecord) × (records.new.items ≡ records.old.items ++ r ∷ [])
+        × IsRecordOf (path_text root.entry) (is_in_set members.now) «package».entry r) }
 {
-    let source = source_of(
-        alloc,
-        members.contains(package.id),
-        package.source,
-        package.record.manifest_path.as_path(),
-        root,
-    )?;
-    Ok(record_from(package, source))
+    let is_member = members.contains(package.id);
+    let told = package.source;
+    let record = records.push_mut(package.record)?;
+    record.source = source_of(alloc, is_member, told, record.manifest_path.as_path(), root)?;
+    Ok(())
 }
 
 // The records of the packages of a workspace with these members at this root.
@@ -392,7 +365,7 @@ fn records_of(
 {
     let mut records = Vec::with_capacity(alloc, packages.len())?;
     for package in packages {
-        records.push(record_of(alloc, package, members, root)?)?;
+        add_record(&mut records, alloc, package, members, root)?;
     }
     Ok(records)
 }

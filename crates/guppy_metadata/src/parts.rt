@@ -1,5 +1,5 @@
 //! A package, read member by member.
-ghost use Rattle.std.specs.Prelude.{◌≡◌, true, false, Some, IfSome, OnSome};
+ghost use Rattle.std.specs.Prelude.{◌≡◌, ◌++◌, ◌∷◌, [], true, false, Some, IfSome, OnSome};
 ghost use Rattle.std.specs.Option.{option_copied};
 ghost use Rattle.json.specs.Json.{Json, value};
 ghost use Rattle.guppy_metadata.specs.Members.{data_of};
@@ -10,7 +10,7 @@ ghost use Rattle.guppy_metadata.specs.Told.{IsWith};
 use crate::asked::is_one_of;
 use crate::declared::read_dependencies;
 use crate::object::Object;
-use crate::package::package_with;
+use crate::package::add_package;
 use crate::target::{first_library, read_library};
 use crate::types::{Package, Parts};
 use json::{MAX_DEPTH, Reader, Token, Value};
@@ -98,9 +98,15 @@ fn library_told<'a>(
     if has_targets { Some(library) } else { None }
 }
 
-// The package that is told, where nothing is missing or wrong.
-fn package_told<'a>(alloc: Global, parts: Parts<'a>, details: bool) -> Option<Package<'a>>
-    ensures { IfSome result (λ made. (d : Json) → TellsParts details d parts.entry → IsTold details d made) }
+// Adds the package that is told, where nothing is missing or wrong.
+fn package_told<'a>(
+    packages: &mut Vec<Package<'a>>,
+    alloc: Global,
+    parts: Parts<'a>,
+    details: bool,
+) -> Option<()>
+    ensures { OnSome result ((p : Package) × (packages.new.items ≡ packages.old.items ++ p ∷ [])
+        × ((d : Json) → TellsParts details d parts.entry → IsTold details d p)) }
 {
     let Parts {
         declared,
@@ -115,18 +121,21 @@ fn package_told<'a>(alloc: Global, parts: Parts<'a>, details: bool) -> Option<Pa
         value: &value,
     };
     let library = library_told(json, library, has_targets, details)?;
-    package_with(json, library, declared, details).ok()
+    let id = json.text("id").ok()?;
+    let source = json.optional_text("source").ok()?;
+    add_package(packages, json, id, source, library, declared, details).ok()
 }
 
-/// The package that the object that comes next tells, with details or without.
+/// Adds the package that the object that comes next tells, with details or without.
 pub(crate) fn read_package<'a>(
+    packages: &mut Vec<Package<'a>>,
     alloc: Global,
     reader: &mut Reader<'a>,
     details: bool,
-) -> Option<Package<'a>>
-    ensures { IfSome result (λ made. (told : Json)
-        × (value 126 reader.old ≡ Some (told, reader.new)) × IsTold details told made) }
+) -> Option<()>
+    ensures { OnSome result ((told : Json) × (value 126 reader.old ≡ Some (told, reader.new))
+        × (p : Package) × (packages.new.items ≡ packages.old.items ++ p ∷ []) × IsTold details told p) }
 {
     let parts = read_parts(alloc, reader, details)?;
-    package_told(alloc, parts, details)
+    package_told(packages, alloc, parts, details)
 }

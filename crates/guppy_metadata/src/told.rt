@@ -31,8 +31,7 @@ fn read_packages<'a>(
     };
     let mut packages = Vec::new(alloc);
     while !reader.take_end_array() {
-        let package = read_package(alloc, reader, details)?;
-        packages.push(package).ok()?;
+        read_package(&mut packages, alloc, reader, details)?;
     }
     Some(packages)
 }

@@ -1,5 +1,5 @@
 //! What is read, before records are made of it.
-ghost use Rattle.std.specs.Prelude.{◌≡◌, string_bytes};
+ghost use Rattle.std.specs.Prelude.{◌≡◌};
 ghost use Rattle.guppy_metadata.specs.Key.{name_key};
 
 use guppy_data::{DependencyKind, LinkRecord, PackageId, PackageRecord};
@@ -67,11 +67,8 @@ pub(crate) struct Package<'a> {
     pub(crate) library: Option<String>,
     /// The dependencies that it declares.
     pub(crate) declared: Vec<Declared<'a>>,
-    /// The key of its name.
-    pub(crate) key: u32,
     /// Its record, but for where it comes from.
     pub(crate) record: PackageRecord,
-    ghost keyed: { key ≡ name_key (string_bytes record.name) },
 }
 
 /// A section and the platforms that a resolved dependency is used for.

@@ -3,7 +3,11 @@ use Rattle.guppy_metadata.specs.Fault.{NoneIs}
 use Rattle.guppy_metadata.specs.Package.{IsTold}
 use Rattle.guppy_metadata.proofs.package.package_at.Goals as goal
 
-pub returns-in-Err : goal.returns-in-Err
-returns-in-Err c =
-    let none = subst (λ d. NoneIs (IsTold c.args.details d) c.in-Err.fault) c.in_ok-json.ensures c.in-Err.ensures in
-    λ other. none (λ lacks. other (c.within_item.ensures lacks))
+pub returns-in-Ok-clause-added : goal.returns-in-Ok-clause-added
+returns-in-Ok-clause-added c =
+    let added = c.in-Ok.ensures.added in (added.0, added.1, subst (λ d. IsTold c.args.details d added.0) c.in_ok-json.ensures added.2)
+
+pub returns-in-Err-clause-refused : goal.returns-in-Err-clause-refused
+returns-in-Err-clause-refused c other =
+    let none = subst (λ d. NoneIs (IsTold c.args.details d) c.in-Err.fault) c.in_ok-json.ensures c.in-Err.ensures.refused in
+    none (λ lacks. other (c.within_item.ensures lacks))

@@ -6,4 +6,5 @@ use Rattle.guppy_metadata.proofs.package.records_of.Goals as goal
 
 pub loop-package-preserved : goal.loop-package-preserved
 loop-package-preserved c =
-    rw c.in_ok-push.ensures.items (AllZip-push (IsRecordOf (path_text c.args.root) (is_in_set c.args.members.now)) _ _ _ _ c.loop-package.invariant c.in_ok-record_of.ensures)
+    let added = c.in_ok-add_record.ensures in
+    rw added.1 (AllZip-push (IsRecordOf (path_text c.args.root) (is_in_set c.args.members.now)) _ _ _ _ c.loop-package.invariant added.2)

@@ -1,4 +1,4 @@
-use Rattle.std.proofs.Common.{◌≡◌, ◌∙◌, [], ◌∷◌, ◌++◌, if◌then◌else◌, refl, sym, ap, subst, arith}
+use Rattle.std.proofs.Common.{[], ◌∷◌, ◌++◌, refl, sym, subst, arith}
 use Rattle.std.specs.List.{AllZip}
 use Rattle.indexmap.proofs.SetLemmas.{AllZip-push}
 use Rattle.json.specs.Json.{array}
@@ -14,17 +14,15 @@ pub loop-alloc-preserved : goal.loop-alloc-preserved
 loop-alloc-preserved c =
     let l = c.loop-alloc in
     let were = l.invariant in
-    let more = c.in_ok-package.ensures in
-    let items = l.packages.items ++ c.in_ok-package.package ∷ [] in
-    let pushed : c.push.new.self.items ≡ items = c.push.ensures.items ∙ ap (λ well. if well then items else l.packages.items) (sym c.in_ok-ok.ensures.variant) in (
+    let more = c.in_ok-read_package.ensures in (
       were.0 ++ more.0 ∷ [],
       next_read 126 _ were.0 l.reader _ _ more.0 were.1 c.loop-alloc-test.ensures more.1,
-      subst (AllZip (IsTold c.args.details) (were.0 ++ more.0 ∷ [])) (sym pushed) (AllZip-push (IsTold c.args.details) _ _ _ _ were.2 more.2),
+      subst (AllZip (IsTold c.args.details) (were.0 ++ more.0 ∷ [])) (sym more.3) (AllZip-push (IsTold c.args.details) _ _ _ _ were.2 more.4),
     )
 
 pub loop-alloc-smaller : goal.loop-alloc-smaller
 loop-alloc-smaller c =
-    let more = c.in_ok-package.ensures in
+    let more = c.in_ok-read_package.ensures in
     item_takes 126 c.loop-alloc.reader _ _ more.0 c.loop-alloc-test.ensures more.1
 
 pub returns : goal.returns
