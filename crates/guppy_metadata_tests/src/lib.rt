@@ -1,5 +1,5 @@
-//! Tests of `guppy_metadata` through its public calls alone, each caller of `guppy_callers` once, and `sections_on` of
-//! `guppy_target`, for which a graph is read.
+//! Tests of `guppy_metadata` through its public calls alone, each caller of `guppy_callers` once, and `guppy_sections`,
+//! for which a graph is read.
 #![tactic(auto)]
 
 #[cfg(test)]

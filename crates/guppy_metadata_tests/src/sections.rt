@@ -3,7 +3,8 @@
 use guppy::IntoGraph;
 use guppy::platform::{EnabledTernary, PlatformSpec};
 use guppy_metadata::records_of;
-use guppy_target::{CfgEval, Platform, SectionsOn, sections_on};
+use guppy_sections::{SectionsOn, sections_on};
+use guppy_target::{CfgEval, Platform};
 use std::process::Abort;
 
 // A link that is normal on Windows, optional to build on Unix, and for development where nobody can tell.

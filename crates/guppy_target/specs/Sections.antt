@@ -1,9 +1,9 @@
 -- What the sections of a link say of platforms.
 use Rattle.std.specs.Prelude.{ℕ, List, Bool, Option}
-use Rattle.guppy.specs.DataTypes.platform.ternary.EnabledTernary.{EnabledTernary}
-use Rattle.guppy.specs.DataTypes.records.DependencyReqImpl.{DependencyReqImpl}
-use Rattle.guppy.specs.Platform.{Question, recorded_status, status_value}
-use Rattle.guppy.specs.Ternary.{greater}
+use Rattle.guppy_data.specs.declared.platform.ternary.EnabledTernary.{EnabledTernary}
+use Rattle.guppy_data.specs.declared.records.DependencyReqImpl.{DependencyReqImpl}
+use Rattle.guppy_data.specs.Platform.{Question, recorded_status, status_value}
+use Rattle.guppy_data.specs.Ternary.{greater}
 
 -- whether the section asks for the dependency, as a required or as an optional one, on the platforms in question
 abbrev pub section_value : {P : Type 0} → (List ℕ → P → Option Bool) → Question P → DependencyReqImpl

@@ -9,7 +9,7 @@ ghost use Rattle.guppy_target.specs.Answer.{Says, answer_of};
 use crate::platform::Platform;
 use crate::predicate::predicate_at;
 use crate::text::after_spaces;
-use guppy::platform::{TargetEval, TargetSpec};
+use guppy_data::{TargetEval, TargetSpec};
 
 // How many levels a predicate may have.
 const MAX_LEVELS: usize = 128;

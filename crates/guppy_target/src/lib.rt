@@ -5,8 +5,7 @@
 //! - `text`: words, quoted texts and marks at the front of a text;
 //! - `fault` and `platform`: what a compiler says of a platform;
 //! - `predicate`: whether the predicate at the front of a text holds;
-//! - `eval`: [`CfgEval`], and `laws` on it;
-//! - `sections`: which sections of a link are on on a platform.
+//! - `eval`: [`CfgEval`], and `laws` on it.
 #![tactic(auto)]
 
 mod eval;
@@ -14,10 +13,8 @@ mod fault;
 pub mod laws;
 mod platform;
 mod predicate;
-mod sections;
 mod text;
 
 pub use crate::eval::CfgEval;
 pub use crate::fault::PlatformFault;
 pub use crate::platform::{Platform, are_settings};
-pub use crate::sections::{SectionsOn, sections_on};

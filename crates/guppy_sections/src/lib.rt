@@ -1,4 +1,13 @@
-//! Which sections of a link are on on a platform.
+//! Which sections of a link are on on a platform, above `guppy`'s public calls alone.
+//!
+//! ```
+//! let on = guppy_sections::sections_on(link, &PlatformSpec::one(alloc, platform)?, &CfgEval);
+//! if on.build != EnabledTernary::Disabled {
+//!     println!(rt; "{} needs {} to build", link.from().name(), link.to().name())?;
+//! }
+//! ```
+#![tactic(auto)]
+
 ghost use Rattle.std.specs.Prelude.{◌≡◌};
 ghost use Rattle.guppy.specs.Platform.{question_of};
 ghost use Rattle.guppy.specs.Views.{OfLink};
