@@ -4,7 +4,7 @@ use Rattle.guppy_data.specs.declared.texts.error.Error.TheVariants.{OutOfMemory}
 use Rattle.guppy_data.specs.declared.records.LinkRecord.{LinkRecord}
 use Rattle.guppy_data.specs.declared.records.PackageRecord.{PackageRecord}
 use Rattle.guppy_data.specs.declared.records.WorkspaceRecord.{WorkspaceRecord}
-use Rattle.guppy_program.specs.declared.fault.Fault.TheVariants.{Library}
+use Rattle.guppy_command.specs.declared.fault.Fault.TheVariants.{Library}
 use Rattle.guppy_program.specs.Format.{IsReadingFault}
 use Rattle.guppy_cargo.specs.declared.fault.CargoFault.{CargoFault}
 use Rattle.guppy_cargo.specs.declared.fault.CargoFault.TheVariants.{Program}

@@ -7,8 +7,9 @@ ghost use Rattle.guppy_cargo.specs.Words.{IsJsonAnswer};
 ghost use Rattle.guppy_c.specs.Answer.{AreRecords, AreRefused, IsRefusal, Refuses};
 
 use guppy_cargo::{CargoFault, Json, answer_json};
+use guppy_command::Fault;
 use guppy_data::Error;
-use guppy_program::{Fault, Format};
+use guppy_program::Format;
 use guppy_wire::records_text;
 use std::alloc::Global;
 

@@ -1,7 +1,7 @@
 -- What the arguments ask.
 use Rattle.std.specs.Prelude.{ℕ, List, [], ◌∷◌, Option, None, codes, if◌then◌else◌}
 use Rattle.std.specs.Str.{bytes_eq}
-use Rattle.guppy_program.specs.Command.{Asked, Command, affected_of, asked_by, command_of as plain_command_of}
+use Rattle.guppy_command.specs.Command.{Asked, Command, affected_of, asked_by, command_of as plain_command_of}
 
 -- `affected`, with the paths of what changed and folders to leave out behind it, or a command of
 -- `guppy-run`

@@ -3,8 +3,8 @@ use Rattle.std.specs.Prelude.{◌≡◌, ℕ, Bool, false, List, None, Some, cod
 use Rattle.std.specs.List.{list_any, starts_with}
 use Rattle.std.specs.Str.{bytes_eq}
 use Rattle.guppy_data.specs.declared.texts.error.Error.TheVariants.{OutOfMemory}
-use Rattle.guppy_program.specs.Options.{options_of}
-use Rattle.guppy_program.specs.declared.fault.Fault.TheVariants.{Library}
+use Rattle.guppy_command.specs.Options.{options_of}
+use Rattle.guppy_command.specs.declared.fault.Fault.TheVariants.{Library}
 use Rattle.guppy_cargo.specs.Command.{asked_of}
 use Rattle.guppy_cargo.specs.Nearest.{IsNearest}
 use Rattle.guppy_cargo.specs.declared.fault.CargoFault.{CargoFault}

@@ -6,9 +6,9 @@ use Rattle.guppy_data.specs.Texts.{error_text}
 use Rattle.guppy_metadata.specs.Fault.{fault_text as metadata_text}
 use Rattle.guppy_metadata.specs.declared.fault.MetadataFault.{MetadataFault}
 use Rattle.guppy_metadata.specs.declared.fault.MetadataFault.TheVariants.{OutOfMemory as MetadataMemory}
-use Rattle.guppy_program.specs.Cause.{Cause, library, bad_arguments, ambiguous, bad_input}
-use Rattle.guppy_program.specs.Shown.{cause_shown}
-use Rattle.guppy_program.specs.declared.fault.Fault.TheVariants.{Library, BadArguments, NoWalk, InputFailed, OutputFailed}
+use Rattle.guppy_command.specs.Cause.{Cause, library, bad_arguments, ambiguous, bad_input}
+use Rattle.guppy_command.specs.Shown.{cause_shown}
+use Rattle.guppy_command.specs.declared.fault.Fault.TheVariants.{Library, BadArguments, NoWalk, InputFailed, OutputFailed}
 use Rattle.guppy_cargo.specs.declared.fault.CargoFault.{CargoFault}
 use Rattle.guppy_cargo.specs.declared.fault.CargoFault.TheVariants.{Program, Ambiguous, Unknown, NoCommand, Metadata, NoText, PathsFailed, CfgsFailed, BadCfg}
 

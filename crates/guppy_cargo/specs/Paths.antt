@@ -1,8 +1,8 @@
 -- Paths that a file has.
 use Rattle.std.specs.Prelude.{ℕ, ◌==◌, List, ◌++◌, map, codes, not, if◌then◌else◌}
 use Rattle.std.specs.List.{filter, slice_split}
-use Rattle.guppy_program.specs.Command.{is_dashed}
-use Rattle.guppy_program.specs.Text.{is_empty}
+use Rattle.guppy_command.specs.Command.{is_dashed}
+use Rattle.guppy_command.specs.Text.{is_empty}
 
 -- the argument that is the path, and no option
 abbrev pub given_as : List ℕ → List ℕ

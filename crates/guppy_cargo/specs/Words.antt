@@ -2,7 +2,7 @@
 use Rattle.std.specs.Prelude.{◌≡◌, ◌⊎◌, ◌==◌, ℕ, List}
 use Rattle.std.specs.List.{slice_split}
 use Rattle.std.specs.Str.{IsUtf8}
-use Rattle.guppy_program.specs.declared.fault.Fault.TheVariants.{BadArguments}
+use Rattle.guppy_command.specs.declared.fault.Fault.TheVariants.{BadArguments}
 use Rattle.guppy_program.specs.Run.{IsAnswered, IsAnswerFault}
 use Rattle.guppy_cargo.specs.declared.fault.CargoFault.{CargoFault}
 use Rattle.guppy_cargo.specs.declared.fault.CargoFault.TheVariants.{Program}

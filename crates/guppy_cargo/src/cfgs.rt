@@ -2,7 +2,7 @@
 
 use crate::fault::CargoFault;
 use guppy::Error;
-use guppy_program::Fault;
+use guppy_command::Fault;
 use guppy_target::{Platform, PlatformFault};
 use std::alloc::Global;
 use std::rt::Files;

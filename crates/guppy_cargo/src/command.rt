@@ -1,11 +1,11 @@
 //! What the arguments ask.
 ghost use Rattle.std.specs.Prelude.{◌≡◌, map, string_bytes, option_map};
-ghost use Rattle.guppy_program.specs.Shown.{asked_shown, command_shown};
+ghost use Rattle.guppy_command.specs.Shown.{asked_shown, command_shown};
 ghost use Rattle.guppy_cargo.specs.Command.{asked_of, command_of};
 
-use guppy_program::command::{affected_of, command_of as plain_command_of};
-use guppy_program::options::options_of;
-use guppy_program::{Asked, Command};
+use guppy_command::command::{affected_of, command_of as plain_command_of};
+use guppy_command::options::options_of;
+use guppy_command::{Asked, Command};
 
 // The command that the words give: `affected [--ignore FOLDER].. PATH..`, or one of `guppy-run`.
 fn command_of(words: &[String]) -> Option<Command<'_>>

@@ -5,7 +5,7 @@ ghost use Rattle.guppy_cargo.specs.Commands.{is_name, IsMisnamed, TellsMisnamed}
 use crate::command::asked_of;
 use crate::fault::CargoFault;
 use crate::nearest::nearest_of;
-use guppy_program::options::options_of;
+use guppy_command::options::options_of;
 use std::alloc::Global;
 
 /// What the commands are called.

@@ -1,12 +1,12 @@
 //! Why there is no answer.
 ghost use Rattle.std.specs.Prelude.{◌≡◌};
 ghost use Rattle.guppy_data.specs.declared.texts.error.Error.TheVariants.{OutOfMemory};
-ghost use Rattle.guppy_program.specs.declared.fault.Fault.TheVariants.{Library};
+ghost use Rattle.guppy_command.specs.declared.fault.Fault.TheVariants.{Library};
 ghost use Rattle.guppy_cargo.specs.declared.fault.CargoFault.TheVariants.{Program};
 
 use guppy::Error;
+use guppy_command::{Fault, ProgramFault};
 use guppy_metadata::MetadataFault;
-use guppy_program::{Fault, ProgramFault};
 use std::alloc::{AllocError, AllocFailed};
 use std::fmt;
 

@@ -10,10 +10,11 @@ use crate::fault::CargoFault;
 use crate::names::Names;
 use crate::unknown::unknown;
 use guppy::{PackageGraph, PackageId};
+use guppy_command::Asked;
 use guppy_data::{PackageRecord, Records};
 use guppy_metadata::plain_records_of;
+use guppy_program::Format;
 use guppy_program::format::has_package;
-use guppy_program::{Asked, Format};
 use simdutf8::basic::from_utf8;
 use std::alloc::{AllocError, Global};
 

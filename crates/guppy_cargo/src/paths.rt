@@ -1,14 +1,14 @@
 //! Paths that a file has, as git writes them: each ended by a NUL.
 ghost use Rattle.std.specs.Prelude.{◌≡◌, ◌⊎◌, ◌++◌, ◌∷◌, [], map, string_bytes, OnOk, IfErr};
 ghost use Rattle.guppy_data.specs.declared.texts.error.Error.TheVariants.{OutOfMemory};
-ghost use Rattle.guppy_program.specs.declared.fault.Fault.TheVariants.{Library, BadArguments};
+ghost use Rattle.guppy_command.specs.declared.fault.Fault.TheVariants.{Library, BadArguments};
 ghost use Rattle.guppy_cargo.specs.declared.fault.CargoFault.TheVariants.{Program};
 ghost use Rattle.guppy_cargo.specs.Paths.{given_as, paths_of};
 
 use crate::fault::CargoFault;
 use guppy::Error;
-use guppy_program::Fault;
-use guppy_program::options::options_of;
+use guppy_command::Fault;
+use guppy_command::options::options_of;
 use std::alloc::{AllocError, Global};
 use std::rt::Files;
 use std::{fs, io, str};

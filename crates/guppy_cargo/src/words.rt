@@ -7,7 +7,8 @@ ghost use Rattle.guppy_cargo.specs.Words.{arguments_in, IsJsonAnswer, IsJsonFaul
 use crate::fault::CargoFault;
 use crate::input::Json;
 use crate::options::options_first;
-use guppy_program::{Fault, answer_bytes};
+use guppy_command::Fault;
+use guppy_program::answer_bytes;
 use std::alloc::{AllocError, Global};
 use std::str;
 

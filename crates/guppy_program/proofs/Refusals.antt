@@ -4,8 +4,8 @@ use Rattle.std.specs.Prelude.{Result, IfOk, All}
 use Rattle.std.specs.List.{AllZip}
 use Rattle.guppy_data.specs.declared.records.PackageRecord.{PackageRecord}
 use Rattle.guppy_data.specs.declared.texts.error.Error.TheVariants.{PackageGraphConstructError, UnknownPackageId, UnknownFeatureId, UnknownWorkspacePath, UnknownWorkspaceName, PackageGraphInternalError, FeatureGraphInternalError, OutOfMemory}
-use Rattle.guppy_program.specs.Cause.{Cause, library, bad_arguments, ambiguous, no_walk, bad_input, input_failed, output_failed}
-use Rattle.guppy_program.specs.Command.{Command}
+use Rattle.guppy_command.specs.Cause.{Cause, library, bad_arguments, ambiguous, no_walk, bad_input, input_failed, output_failed}
+use Rattle.guppy_command.specs.Command.{Command}
 use Rattle.guppy_program.specs.Format.{Format, IsUnclear}
 use Rattle.guppy.specs.Graph.{GraphData}
 use Rattle.guppy_program.specs.Answer.{Means, IsClear, IsWordFault, IsCommandFault, words_of}

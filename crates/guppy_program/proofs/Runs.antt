@@ -6,9 +6,9 @@ use Rattle.guppy_data.specs.declared.texts.error.Error.TheVariants.{PackageGraph
 use Rattle.guppy.specs.Accepted.{distinct_ids}
 use Rattle.guppy.specs.Graph.{GraphData}
 use Rattle.guppy.specs.Ids.{DistinctBelow}
-use Rattle.guppy_program.specs.Cause.{Cause, library, bad_arguments, ambiguous, no_walk, bad_input, input_failed, output_failed, OrMemory}
-use Rattle.guppy_program.specs.declared.options.Kinds.{Kinds}
-use Rattle.guppy_program.specs.Command.{Asked}
+use Rattle.guppy_command.specs.Cause.{Cause, library, bad_arguments, ambiguous, no_walk, bad_input, input_failed, output_failed, OrMemory}
+use Rattle.guppy_command.specs.declared.options.Kinds.{Kinds}
+use Rattle.guppy_command.specs.Command.{Asked}
 use Rattle.guppy_program.specs.Format.{Format}
 use Rattle.guppy_program.specs.Loaded.{IsLoaded}
 use Rattle.guppy_program.specs.Answer.{IsCommandFault}

@@ -28,10 +28,10 @@ use Rattle.guppy_affected.specs.Affected.{AreAffectedIds}
 use Rattle.guppy_duplicates.specs.Duplicates.{AreDuplicates}
 use Rattle.guppy_publish.specs.Publishing.{ArePublishIds}
 use Rattle.guppy_why.specs.Walk.{NoWalk, Between}
-use Rattle.guppy_program.specs.declared.options.Kinds.{Kinds}
-use Rattle.guppy_program.specs.declared.options.Options.{Options}
-use Rattle.guppy_program.specs.Cause.{Cause, library, ambiguous, no_walk}
-use Rattle.guppy_program.specs.Command.{Command, reach, depends, why, order, roots, links, cycles, duplicates, verify, publish_order, dot, affected}
+use Rattle.guppy_command.specs.declared.options.Kinds.{Kinds}
+use Rattle.guppy_command.specs.declared.options.Options.{Options}
+use Rattle.guppy_command.specs.Cause.{Cause, library, ambiguous, no_walk}
+use Rattle.guppy_command.specs.Command.{Command, reach, depends, why, order, roots, links, cycles, duplicates, verify, publish_order, dot, affected, from_root}
 use Rattle.guppy_program.specs.Dot.{Drawing, IsDrawing, among}
 use Rattle.guppy_program.specs.Format.{Format, alternatives}
 use Rattle.guppy_program.specs.Publish.{is_publishable}
@@ -165,10 +165,6 @@ pub record IsPublishAnswer (g : GraphData) (publishable : Bool) (answer : Answer
   pub exact : ArePublishIds g ids
   pub told : answer ≡ package_list
       (if publishable then filter (is_publishable g.packages) ids else ids)
-
--- the path without a `./` at its front
-abbrev pub from_root : List ℕ → List ℕ
-from_root path = if bytes_eq (take 2 path) (codes "./") then drop 2 path else path
 
 -- the members that changes at the paths affect
 pub record IsAffectedAnswer (g : GraphData) (ignored paths : List (List ℕ))

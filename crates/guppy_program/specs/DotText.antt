@@ -1,19 +1,10 @@
 -- The text of a drawing, as Graphviz reads it.
-use Rattle.std.specs.Prelude.{ℕ, ◌==◌, ◌||◌, List, [], ◌∷◌, ◌++◌, codes, if◌then◌else◌}
+use Rattle.std.specs.Prelude.{ℕ, List, [], ◌++◌, codes, if◌then◌else◌}
 use Rattle.std.specs.List.{flat_map}
+use Rattle.guppy_command.specs.Quoted.{quoted}
 use Rattle.guppy_program.specs.declared.dot.LinkStyle.{LinkStyle}
 use Rattle.guppy_program.specs.declared.dot.LinkStyle.TheVariants.{Solid, Dotted, Dashed}
 use Rattle.guppy_program.specs.Dot.{Node, Edge, Drawing}
-
--- a quotation mark or a backslash gets a backslash in front
-abbrev pub escape : ℕ → List ℕ
-escape b = if (b == 34) || (b == 92) then 92 ∷ b ∷ [] else b ∷ []
-
-abbrev pub escaped : List ℕ → List ℕ
-escaped text = flat_map escape text
-
-abbrev pub quoted : List ℕ → List ℕ
-quoted text = 34 ∷ escaped text ++ 34 ∷ []
 
 -- a member is a box, and what is on a cycle is red
 abbrev pub node_attributes : Node → List ℕ

@@ -6,8 +6,8 @@ use Rattle.guppy_data.specs.declared.records.PackageRecord.{PackageRecord}
 use Rattle.guppy_data.specs.declared.records.LinkRecord.{LinkRecord}
 use Rattle.guppy_data.specs.declared.records.WorkspaceRecord.{WorkspaceRecord}
 use Rattle.guppy_data.specs.declared.texts.error.Error.TheVariants.{UnknownPackageId, OutOfMemory}
-use Rattle.guppy_program.specs.Cause.{Cause, library, ambiguous, bad_input, OrMemory}
-use Rattle.guppy_program.specs.Command.{Asked}
+use Rattle.guppy_command.specs.Cause.{Cause, library, ambiguous, bad_input, OrMemory}
+use Rattle.guppy_command.specs.Command.{Asked}
 
 pub record Format (Fault : Type 0) : Type 1 where
   -- the input says these records

@@ -1,8 +1,3 @@
-pub mod Device
-pub mod Cause
-pub mod Platforms
-pub mod Options
-pub mod Command
 pub mod Shown
 pub mod Format
 pub mod Loaded
@@ -13,10 +8,4 @@ pub mod DotText
 pub mod Answer
 pub mod Printed
 pub mod Run
-pub mod Process
-pub mod Text
-pub mod Stated
-pub mod RunFault
-pub mod Records
-pub mod Reading
 pub mod Lines

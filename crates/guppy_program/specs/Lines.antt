@@ -1,15 +1,14 @@
 -- The lines of an input, as `guppy-run` reads them.
-use Rattle.std.specs.Prelude.{ℕ, List, [], ◌∷◌, string_bytes, if◌then◌else◌}
+use Rattle.std.specs.Prelude.{ℕ, List, [], ◌∷◌, if◌then◌else◌}
 use Rattle.guppy_data.specs.declared.records.PackageRecord.{PackageRecord}
 use Rattle.guppy_data.specs.declared.records.LinkRecord.{LinkRecord}
 use Rattle.guppy_data.specs.declared.records.WorkspaceRecord.{WorkspaceRecord}
-use Rattle.guppy_program.specs.declared.lines.fault.RunFault.{RunFault}
-use Rattle.guppy_program.specs.declared.lines.fault.RunFault.TheVariants.{Library, BadArguments, NoWalk, BadLine, InputFailed, OutputFailed}
-use Rattle.guppy_program.specs.Cause.{Cause, library, bad_arguments, no_walk, bad_input, input_failed, output_failed}
-use Rattle.guppy_program.specs.Command.{asked_by, command_of}
+use Rattle.guppy_command.specs.declared.lines.fault.RunFault.{RunFault}
+use Rattle.guppy_command.specs.declared.lines.fault.RunFault.TheVariants.{BadLine}
+use Rattle.guppy_command.specs.Command.{asked_by, command_of}
 use Rattle.guppy_program.specs.Format.{Format, has_id}
-use Rattle.guppy_program.specs.Text.{IsAllGood, IsFirstBadLine, statements_of}
-use Rattle.guppy_program.specs.Records.{AreRecordsOf}
+use Rattle.guppy_command.specs.Text.{IsAllGood, IsFirstBadLine, statements_of}
+use Rattle.guppy_command.specs.Records.{AreRecordsOf}
 
 -- every line is good, and these are the records that they say
 pub record SayRecords (input : List ℕ) (packages : List PackageRecord) (links : List LinkRecord)
@@ -35,11 +34,3 @@ lines_format = record {
   text = λ packages id. id;
   meant = meant_by_id;
 }
-
-abbrev pub cause_of : RunFault → Cause
-cause_of (Library error) = library error
-cause_of BadArguments = bad_arguments
-cause_of (NoWalk from to) = no_walk (string_bytes from) (string_bytes to)
-cause_of (BadLine number) = bad_input
-cause_of InputFailed = input_failed
-cause_of OutputFailed = output_failed

@@ -9,10 +9,10 @@ use Rattle.guppy.specs.Accepted.{IsAccepted}
 use Rattle.guppy.specs.Graph.{GraphData, Holds}
 use Rattle.guppy.specs.Refused.{IsRefusal}
 use Rattle.guppy_target.specs.Platform.{PlatformData}
-use Rattle.guppy_program.specs.Cause.{Cause, library, bad_input, OrMemory}
-use Rattle.guppy_program.specs.declared.options.Kinds.{Kinds}
-use Rattle.guppy_program.specs.Options.{kept_links}
-use Rattle.guppy_program.specs.Platforms.{IsPlatform}
+use Rattle.guppy_command.specs.Cause.{Cause, library, bad_input, OrMemory}
+use Rattle.guppy_command.specs.declared.options.Kinds.{Kinds}
+use Rattle.guppy_command.specs.Options.{kept_links}
+use Rattle.guppy_command.specs.Platforms.{IsPlatform}
 use Rattle.guppy_program.specs.Format.{Format}
 
 -- the input says records, and P holds of them with the links of these kinds, or all, that count on the

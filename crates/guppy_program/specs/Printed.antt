@@ -1,27 +1,12 @@
 -- How an answer is printed.
-use Rattle.std.specs.Prelude.{◌≡◌, ◌↔◌, ℕ, Bool, List, [], ◌∷◌, ◌++◌, map, Contains, codes, if◌then◌else◌}
-use Rattle.std.specs.List.{flat_map, join_by}
+use Rattle.std.specs.Prelude.{◌≡◌, ◌↔◌, ℕ, List, ◌∷◌, map, Contains, codes, if◌then◌else◌}
 use Rattle.std.specs.List.Sorted.{IsStrictlySortedBy}
 use Rattle.std.specs.Ordering.{nat_cmp}
 use Rattle.std.specs.Cmp.Lexicographic.{slice_cmp}
-use Rattle.guppy_program.specs.declared.options.Options.{Options}
+use Rattle.guppy_command.specs.declared.options.Options.{Options}
 use Rattle.guppy_program.specs.Answer.{Answer, package_set, package_list, package_rows, package_steps, truth, all_well, drawing}
 use Rattle.guppy_program.specs.DotText.{dot_text}
-use Rattle.guppy_program.specs.Steps.{kind_names}
-
-abbrev pub line_of : List ℕ → List ℕ
-line_of text = text ++ 10 ∷ []
-
--- these texts, one a line
-abbrev pub lines_of : List (List ℕ) → List ℕ
-lines_of texts = flat_map line_of texts
-
--- these texts, parted by spaces
-abbrev pub joined : List (List ℕ) → List ℕ
-joined texts = join_by (λ text. text) (32 ∷ []) texts
-
-abbrev pub truth_line : Bool → List ℕ
-truth_line answer = line_of (if answer then codes "true" else codes "false")
+use Rattle.guppy_command.specs.Printed.{line_of, lines_of, joined, truth_line, kind_names}
 
 -- strictly ascending by bytes
 abbrev pub IsAscending : List (List ℕ) → Type 0

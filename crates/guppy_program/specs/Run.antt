@@ -2,8 +2,8 @@
 use Rattle.std.specs.Prelude.{◌≡◌, ◌↔◌, ◌⊎◌, ℕ, Bool, List, ◌++◌, Option, Some, None, IfSome, IsNone, Result, Err, OnOk}
 use Rattle.std.specs.Io.KnownBytes.{IsAtEnd, Appends}
 use Rattle.guppy.specs.Graph.{GraphData}
-use Rattle.guppy_program.specs.Cause.{Cause, library, bad_arguments, ambiguous, no_walk, bad_input, input_failed, output_failed, OrMemory, caused, is_input_fault, is_output_fault}
-use Rattle.guppy_program.specs.Command.{Asked}
+use Rattle.guppy_command.specs.Cause.{Cause, library, bad_arguments, ambiguous, no_walk, bad_input, input_failed, output_failed, OrMemory, caused, is_input_fault, is_output_fault}
+use Rattle.guppy_command.specs.Command.{Asked}
 use Rattle.guppy_program.specs.Format.{Format}
 use Rattle.guppy_program.specs.Loaded.{IsLoaded, AreRefused}
 use Rattle.guppy_program.specs.Answer.{Answer, IsAnswer, IsCommandFault, shown}

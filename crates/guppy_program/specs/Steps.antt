@@ -1,12 +1,12 @@
 -- The packages that a walk of links leads through.
-use Rattle.std.specs.Prelude.{◌≡◌, ℕ, false, not, List, [], ◌∷◌, ◌++◌, length, codes, slice_get, IsSomeAnd, if◌then◌else◌}
+use Rattle.std.specs.Prelude.{◌≡◌, ℕ, false, not, List, ◌∷◌, length, slice_get, IsSomeAnd}
 use Rattle.std.specs.List.{AllZip}
 use Rattle.guppy_data.specs.declared.records.LinkRecord.{LinkRecord}
 use Rattle.guppy.specs.DevOnly.{is_absent}
 use Rattle.guppy.specs.Graph.{GraphData}
 use Rattle.guppy.specs.Ids.{HasId}
 use Rattle.guppy_why.specs.Walk.{IsWalk, NoneShorter, Between}
-use Rattle.guppy_program.specs.declared.options.Kinds.{Kinds}
+use Rattle.guppy_command.specs.declared.options.Kinds.{Kinds}
 
 -- the kinds of the sections that the link has
 abbrev pub section_kinds : LinkRecord → Kinds
@@ -18,11 +18,6 @@ section_kinds r = record {
 
 abbrev pub no_kinds : Kinds
 no_kinds = record { normal = false; build = false; dev = false }
-
--- the names of the kinds
-abbrev pub kind_names : Kinds → List (List ℕ)
-kind_names kinds = (if kinds.normal then codes "normal" ∷ [] else [])
-    ++ (if kinds.build then codes "build" ∷ [] else []) ++ (if kinds.dev then codes "dev" ∷ [] else [])
 
 -- the link with the number leads to the package with the ID, and has sections of these kinds
 abbrev pub LeadsTo : GraphData → ℕ → List ℕ × Kinds → Type 0

@@ -7,21 +7,22 @@ ghost use Rattle.guppy.specs.Query.{IncludesId};
 ghost use Rattle.guppy.specs.Refused.{NamesId, IsFirstUnknown};
 ghost use Rattle.guppy.specs.Verified.{TellsVerifyFault, IsVerifyFault as IsGraphFault};
 ghost use Rattle.guppy.specs.Views.{link_data};
-ghost use Rattle.guppy_program.specs.Cause.{Cause, library};
-ghost use Rattle.guppy_program.specs.Command.{ignored_in, paths_in};
-ghost use Rattle.guppy_program.specs.Answer.{Means, IsReached, AreReached, IsReachAnswer, TellsDependence, IsDependsAnswer, IsOrderAnswer, IsRootsAnswer, IsLinksAnswer, IsCyclesAnswer, IsDuplicatesAnswer, IsVerifyAnswer, IsDotAnswer, IsAffectedAnswer, IsAnswer, IsWordFault, IsVerifyFault, IsCommandFault, from_root, end_ids};
-ghost use Rattle.guppy_program.specs.Shown.{answer_shown, command_shown};
+ghost use Rattle.guppy_command.specs.Cause.{Cause, library};
+ghost use Rattle.guppy_command.specs.Command.{ignored_in, paths_in};
+ghost use Rattle.guppy_program.specs.Answer.{Means, IsReached, AreReached, IsReachAnswer, TellsDependence, IsDependsAnswer, IsOrderAnswer, IsRootsAnswer, IsLinksAnswer, IsCyclesAnswer, IsDuplicatesAnswer, IsVerifyAnswer, IsDotAnswer, IsAffectedAnswer, IsAnswer, IsWordFault, IsVerifyFault, IsCommandFault, end_ids};
+ghost use Rattle.guppy_command.specs.Shown.{command_shown};
+ghost use Rattle.guppy_program.specs.Shown.{answer_shown};
 
-use crate::command::{Command, is_ignore};
 use crate::dot::{Drawing, drawing_of};
-use crate::fault::{ProgramFault, passed_on, want_of_memory};
 use crate::format::Format;
-use crate::options::Kinds;
 use crate::publish::published;
 use crate::why::why;
 use guppy::graph::DependencyDirection;
 use guppy::{CycleIds, Error, PackageGraph, PackageId, PackageLink, PackageSet};
 use guppy_affected::affected;
+use guppy_command::command::parted;
+use guppy_command::fault::{passed_on, want_of_memory};
+use guppy_command::{Command, Kinds, ProgramFault};
 use guppy_duplicates::duplicates;
 use std::alloc::{AllocError, Global};
 
@@ -260,38 +261,6 @@ fn dot<'g, F: Format>(
     let ids = all_meant::<F>(alloc, graph, names, words)?;
     let drawing = passed_on(drawing_of(alloc, graph, &ids))?;
     Ok(Answer::Drawing(drawing))
-}
-
-// The path without a `./` at its front.
-fn from_root(path: &str) -> &str
-    ensures { result.now ≡ from_root path.now }
-{
-    match path.strip_prefix("./") {
-        Some(rest) => rest,
-        None => path,
-    }
-}
-
-// The folders behind `--ignore`, and the other paths, without a `./` at their fronts.
-fn parted(alloc: Global, words: &[String]) -> Result<(Vec<String>, Vec<String>), AllocError>
-    ensures ignored { IfOk result (λ parted. map string_bytes parted.0.items
-        ≡ map from_root (ignored_in (map string_bytes words.now))) }
-    ensures paths { IfOk result (λ parted. map string_bytes parted.1.items
-        ≡ map from_root (paths_in (map string_bytes words.now))) }
-{
-    let mut ignored = Vec::new(alloc);
-    let mut paths = Vec::new(alloc);
-    let mut rest = words;
-    while let [word, after @ ..] = rest {
-        rest = after;
-        if !is_ignore(word.as_str()) {
-            paths.push(String::from_str(alloc, from_root(word.as_str()))?)?;
-        } else if let [folder, after @ ..] = rest {
-            ignored.push(String::from_str(alloc, from_root(folder.as_str()))?)?;
-            rest = after;
-        }
-    }
-    Ok((ignored, paths))
 }
 
 // The members to test.

@@ -1,57 +1,17 @@
 //! A drawing's text, as Graphviz reads it.
-ghost use Rattle.std.specs.Prelude.{◌≡◌, ◌++◌, ℕ, List, IfOk, OnOk, string_bytes, map};
-ghost use Rattle.std.specs.Char.{encode_utf8};
+ghost use Rattle.std.specs.Prelude.{◌≡◌, ◌++◌, List, IfOk, OnOk, string_bytes, map};
 ghost use Rattle.std.specs.List.{flat_map};
 ghost use Rattle.guppy_data.specs.declared.records.PackageRecord.{PackageRecord};
 ghost use Rattle.guppy_program.specs.Dot.{drawing_shown, edge_shown, node_shown};
-ghost use Rattle.guppy_program.specs.DotText.{dot_text, edge_attributes, edge_line, escaped, node_attributes, node_line, quoted};
+ghost use Rattle.guppy_program.specs.DotText.{dot_text, edge_attributes, edge_line, node_attributes, node_line};
 ghost use Rattle.guppy_program.specs.Printed.{called};
 
 use crate::dot::{Drawing, Edge, LinkStyle, Node};
 use crate::format::Format;
-use crate::options::Options;
 use crate::print::text_of;
+use guppy_command::Options;
+use guppy_command::quoted::push_quoted;
 use std::alloc::{AllocError, Global};
-
-// Adds the character, behind a backslash where it is a quotation mark or a backslash.
-fn push_character(text: &mut String, character: char) -> Result<(), AllocError>
-    ensures { OnOk result (string_bytes text.new
-        ≡ string_bytes text.old ++ escaped (encode_utf8 character)) }
-{
-    if character == '"' {
-        text.push_str("\\\"")
-    } else if character == '\\' {
-        text.push_str("\\\\")
-    } else {
-        text.push(character)
-    }
-}
-
-// Adds the text, with a backslash before each quotation mark and each backslash.
-fn push_escaped(text: &mut String, added: &str) -> Result<(), AllocError>
-    ensures { OnOk result (string_bytes text.new ≡ string_bytes text.old ++ escaped added.now) }
-{
-    for character in added.chars() {
-        push_character(text, character)?;
-    }
-    Ok(())
-}
-
-// Adds the text in quotation marks.
-fn push_quoted(text: &mut String, added: &str) -> Result<(), AllocError>
-    ensures { OnOk result (string_bytes text.new ≡ string_bytes text.old ++ quoted added.now) }
-{
-    text.push('"')?;
-    push_escaped(text, added)?;
-    text.push('"')
-}
-
-/// Behind a quoted text a text goes on at one place, and the quoted one is quoted from one text alone: so what is
-/// read from the front is what was written.
-pub fn quoted_reads_back()
-    ensures { (a b rest more : List ℕ) → quoted a ++ rest ≡ quoted b ++ more
-        → (a ≡ b) × (rest ≡ more) }
-{}
 
 fn node_attributes(node: Node<'_>) -> &'static str
     ensures { result.now ≡ node_attributes (node_shown node.entry) }

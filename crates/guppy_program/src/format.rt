@@ -3,11 +3,10 @@ ghost use Rattle.std.specs.Prelude.{◌≡◌, ◌∷◌, [], List, map, string_
 ghost use Rattle.guppy_data.specs.declared.records.PackageRecord.{PackageRecord as PackageData};
 ghost use Rattle.guppy.specs.Ids.{IsKnown};
 ghost use Rattle.guppy_program.specs.Format.{Format as FormatOf, IsReadingFault, IsUnclear, has_id};
-ghost use Rattle.guppy_program.specs.Shown.{asked_shown};
+ghost use Rattle.guppy_command.specs.Shown.{asked_shown};
 
-use crate::command::Asked;
-use crate::fault::ProgramFault;
 use guppy::{Error, PackageGraph, PackageId};
+use guppy_command::{Asked, ProgramFault};
 use guppy_data::{PackageRecord, Records};
 use std::alloc::{AllocError, Global};
 

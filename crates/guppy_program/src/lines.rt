@@ -1,22 +1,16 @@
 //! What `guppy-run` reads: lines, each of which says a package or a link. A package is called by its ID.
 ghost use Rattle.std.specs.Prelude.{◌≡◌, false, map, string_bytes};
-ghost use Rattle.guppy_program.specs.Lines.{lines_format, cause_of};
+ghost use Rattle.guppy_command.specs.RunFault.{cause_of};
+ghost use Rattle.guppy_program.specs.Lines.{lines_format};
 ghost use Rattle.guppy_program.specs.Run.{IsRun};
 
-pub mod fault;
-pub mod input;
-pub mod records;
-pub mod statements;
-
-use crate::command::{Asked, command_of};
-use crate::device::{Sink, Source};
 use crate::format::{Format, has_package};
-use crate::lines::fault::RunFault;
-use crate::lines::input::records_of;
-use crate::lines::records::id_of;
-use crate::options::options_of;
 use crate::program::run_of;
 use guppy::{Error, PackageGraph, PackageId};
+use guppy_command::command::command_of;
+use guppy_command::lines::records::id_of;
+use guppy_command::options::options_of;
+use guppy_command::{Asked, RunFault, Sink, Source, records_of};
 use guppy_data::{PackageRecord, Records};
 use std::alloc::{AllocError, Global};
 

@@ -7,8 +7,8 @@ ghost use Rattle.guppy_program.specs.Shown.{answer_shown, step_shown};
 
 use crate::answer::{Answer, Step};
 use crate::dot::{Edge, Node};
-use crate::options::Options;
 use guppy::{Error, PackageGraph, PackageId, PackageSet};
+use guppy_command::Options;
 
 // Whether the package with the ID is one of the members.
 fn is_member(members: &PackageSet<'_>, id: &PackageId) -> bool

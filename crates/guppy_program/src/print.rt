@@ -1,15 +1,16 @@
 //! How an answer is printed.
-ghost use Rattle.std.specs.Prelude.{◌≡◌, ◌∷◌, ◌++◌, [], List, map, string_bytes, codes, IfOk, OnOk, if◌then◌else◌};
+ghost use Rattle.std.specs.Prelude.{◌≡◌, ◌∷◌, [], List, map, string_bytes, IfOk};
 ghost use Rattle.guppy_data.specs.declared.records.PackageRecord.{PackageRecord};
-ghost use Rattle.guppy_program.specs.Printed.{line_of, lines_of, joined, truth_line, called, AreSortedLines, IsPrinted};
+ghost use Rattle.guppy_command.specs.Printed.{joined, kind_names, lines_of};
+ghost use Rattle.guppy_program.specs.Printed.{AreSortedLines, IsPrinted, called};
 ghost use Rattle.guppy_program.specs.Shown.{answer_shown, step_shown};
-ghost use Rattle.guppy_program.specs.Steps.{kind_names};
 
 use crate::answer::{Answer, Step};
 use crate::dot_text::dot_text;
 use crate::format::Format;
-use crate::options::{Kinds, Options};
 use guppy::{PackageId, SortedSet};
+use guppy_command::Options;
+use guppy_command::print::{lines_of, push_pair, push_step, truth_line};
 use std::alloc::{AllocError, Global};
 
 // What is printed for the package with this ID.
@@ -47,18 +48,6 @@ fn texts_of<'a, F: Format>(
     Ok(texts)
 }
 
-// These texts, one a line.
-fn lines_of(alloc: Global, texts: &[&str]) -> Result<String, AllocError>
-    ensures { IfOk result (λ lines. string_bytes lines ≡ lines_of (map (λ text. text.now) texts.now)) }
-{
-    let mut lines = String::new(alloc);
-    for text in texts {
-        lines.push_str(text)?;
-        lines.push('\n')?;
-    }
-    Ok(lines)
-}
-
 // These texts, each once, in the order of their bytes, one a line.
 fn sorted_lines(alloc: Global, texts: Vec<&str>) -> Result<String, AllocError>
     ensures { IfOk result (λ lines.
@@ -66,17 +55,6 @@ fn sorted_lines(alloc: Global, texts: Vec<&str>) -> Result<String, AllocError>
 {
     let sorted = SortedSet::new(texts);
     lines_of(alloc, sorted.as_slice())
-}
-
-// Adds the texts of the two packages, parted by a space, on a line.
-fn push_pair(text: &mut String, from: &str, to: &str) -> Result<(), AllocError>
-    ensures { OnOk result (string_bytes text.new ≡ string_bytes text.old
-        ++ line_of (joined (from.now ∷ to.now ∷ []))) }
-{
-    text.push_str(from)?;
-    text.push(' ')?;
-    text.push_str(to)?;
-    text.push('\n')
 }
 
 fn lines_of_pairs<F: Format>(
@@ -132,30 +110,6 @@ fn lines_of_rows<F: Format>(
     Ok(text)
 }
 
-// Adds a space and the name of a kind, if it is one of those that are told.
-fn push_kind(text: &mut String, is_told: bool, name: &str) -> Result<(), AllocError>
-    ensures { OnOk result (string_bytes text.new ≡ string_bytes text.old
-        ++ (if is_told then codes " " ++ name.now else [])) }
-{
-    if is_told {
-        text.push(' ')?;
-        text.push_str(name)?;
-    }
-    Ok(())
-}
-
-// Adds what a package is called, and the names of the kinds, on a line.
-fn push_step(text: &mut String, called: &str, kinds: Kinds) -> Result<(), AllocError>
-    ensures { OnOk result (string_bytes text.new ≡ string_bytes text.old
-        ++ line_of (joined (called.now ∷ kind_names kinds))) }
-{
-    text.push_str(called)?;
-    push_kind(text, kinds.normal, "normal")?;
-    push_kind(text, kinds.build, "build")?;
-    push_kind(text, kinds.dev, "dev")?;
-    text.push('\n')
-}
-
 fn lines_of_steps<F: Format>(
     alloc: Global,
     options: &Options,
@@ -172,12 +126,6 @@ fn lines_of_steps<F: Format>(
         push_step(&mut text, text_of::<F>(options, names, step.id), step.kinds)?;
     }
     Ok(text)
-}
-
-fn truth_line(holds: bool) -> &'static str
-    ensures { result.now ≡ truth_line holds }
-{
-    if holds { "true\n" } else { "false\n" }
 }
 
 /// The answer's text, with each package by its ID where the options have it so, else as the names of the graph's

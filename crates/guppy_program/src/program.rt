@@ -4,25 +4,24 @@ ghost use Rattle.std.specs.Io.KnownBytes.{Appends};
 ghost use Rattle.std.specs.List.{AllZip};
 ghost use Rattle.guppy_data.specs.declared.texts.error.Error.TheVariants.{OutOfMemory};
 ghost use Rattle.guppy.specs.Ids.{DistinctBelow};
-ghost use Rattle.guppy_program.specs.Cause.{Cause, library, bad_arguments, output_failed, caused, is_input_fault, is_output_fault};
+ghost use Rattle.guppy_command.specs.Cause.{Cause, library, bad_arguments, output_failed, caused, is_input_fault, is_output_fault};
 ghost use Rattle.guppy_program.specs.Loaded.{IsLoaded, IsLoadFault};
 ghost use Rattle.guppy_program.specs.Answer.{IsAnswer, IsCommandFault};
-ghost use Rattle.guppy_program.specs.Platforms.{IsPlatform};
+ghost use Rattle.guppy_command.specs.Platforms.{IsPlatform};
 ghost use Rattle.guppy_program.specs.Printed.{IsPrinted};
-ghost use Rattle.guppy_program.specs.Shown.{asked_shown};
+ghost use Rattle.guppy_command.specs.Shown.{asked_shown};
 ghost use Rattle.guppy_program.specs.Run.{IsAnswerTo, IsAnswerOf, IsAnswerFault, IsFaultOf, IsSourceFault, IsAnswered, IsBegun, IsRun, IsRunFault, OfWholeInput, WritesNothing};
 
 use crate::answer::answer_of;
-use crate::command::Asked;
-use crate::device::{Sink, Source};
-use crate::fault::{Fault, ProgramFault, passed_on, want_of_memory};
 use crate::format::Format;
 use crate::members::shown;
-use crate::options::{keep_links, platforms_in};
-use crate::platforms::platforms_of;
 use crate::print::printed;
-use crate::transfer::{read_all, write_all};
 use guppy::{IntoGraph, PackageGraph};
+use guppy_command::fault::{passed_on, want_of_memory};
+use guppy_command::options::{keep_links, platforms_in};
+use guppy_command::platforms::platforms_of;
+use guppy_command::transfer::{read_all, write_text};
+use guppy_command::{Asked, Fault, ProgramFault, Sink, Source};
 use guppy_target::Platform;
 use std::alloc::Global;
 use std::mem;
@@ -137,21 +136,6 @@ fn answer_source<F: Format, R: Source>(
 {
     let input = read_all::<R, F::Fault>(alloc, reader)?;
     answer_input::<F>(alloc, asked, input.as_slice())
-}
-
-// Writes the text, or a beginning of it where a write fails.
-fn write_text<W: Sink, F: ProgramFault>(writer: &mut W, text: &str) -> Result<(), F>
-    requires { W.has_failed writer.old ≡ false }
-    ensures ok { OnOk result (Appends (W.written writer.old) (W.written writer.new) text.now) }
-    ensures begun { (front rest : List ℕ) × (text.now ≡ front ++ rest)
-        × Appends (W.written writer.old) (W.written writer.new) front }
-    ensures err { IfErr result (λ fault. F.cause fault ≡ output_failed) }
-    ensures failed { W.has_failed writer.new ≡ is_output_fault (caused F.cause result) }
-{
-    match write_all(writer, text.as_bytes()) {
-        Ok(()) => Ok(()),
-        Err(_) => Err(F::of(Fault::OutputFailed)),
-    }
 }
 
 /// Reads the whole input, and writes what is asked by `args` of its package graph, with the links that are asked

@@ -7,16 +7,15 @@ ghost use Rattle.guppy.specs.Ids.{IsKnown};
 ghost use Rattle.guppy.specs.Views.{OfLink, link_graph, link_number};
 ghost use Rattle.guppy_why.specs.Walk.{NoWalk, Between};
 ghost use Rattle.guppy_program.specs.Answer.{IsWhyAnswer, IsCommandFault};
-ghost use Rattle.guppy_program.specs.Cause.{library, no_walk};
-ghost use Rattle.guppy_program.specs.Command.{why};
-ghost use Rattle.guppy_program.specs.Shown.{answer_shown, cause_shown, step_shown};
+ghost use Rattle.guppy_command.specs.Command.{why};
+ghost use Rattle.guppy_program.specs.Shown.{answer_shown, step_shown};
 ghost use Rattle.guppy_program.specs.Steps.{section_kinds, LeadsTo, AreStepsAlong, AreSteps};
 
 use crate::answer::{Answer, Step};
-use crate::fault::{Fault, ProgramFault, passed_on, want_of_memory};
 use crate::format::Format;
-use crate::options::Kinds;
 use guppy::{Error, PackageGraph, PackageId, PackageLink};
+use guppy_command::Kinds;
+use guppy_command::fault::{no_walk, passed_on};
 use guppy_data::DependencyReq;
 use guppy_why::shortest_walk;
 use std::alloc::{AllocError, Global};
@@ -99,19 +98,6 @@ fn shortest_steps<'g>(
         Some(walk) => Ok(Some(steps_along(alloc, graph, from, walk.as_slice())?)),
         None => Ok(None),
     }
-}
-
-// That no links lead from the one word's package to the other's, unless memory is wanted.
-fn no_walk<F: ProgramFault>(alloc: Global, from: &str, to: &str) -> F
-    ensures { (F.cause result ≡ no_walk from.now to.now) ⊎ (F.cause result ≡ library OutOfMemory) }
-{
-    let Ok(from) = String::from_str(alloc, from) else {
-        return want_of_memory();
-    };
-    let Ok(to) = String::from_str(alloc, to) else {
-        return want_of_memory();
-    };
-    F::of(Fault::NoWalk { from, to })
 }
 
 /// A shortest walk of links from the package that the first word means to that of the second.

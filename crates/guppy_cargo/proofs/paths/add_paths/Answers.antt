@@ -3,7 +3,7 @@ use Rattle.std.specs.Prelude.{not, ◌==◌}
 use Rattle.std.specs.List.{slice_split}
 use Rattle.std.proofs.lemmas.Iterator.Consumers.{YieldsList-end}
 use Rattle.std.proofs.lemmas.Iterator.Splits.{YieldsList-from_str_split}
-use Rattle.guppy_program.specs.Text.{is_empty}
+use Rattle.guppy_command.specs.Text.{is_empty}
 use Rattle.guppy_cargo.specs.Paths.{given_as}
 use Rattle.guppy_cargo.proofs.paths.add_paths.Goals as goal
 

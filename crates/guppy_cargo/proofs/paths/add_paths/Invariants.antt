@@ -1,6 +1,6 @@
 use Rattle.std.proofs.Common.{◌≡◌, ◌++◌, map, string_bytes, filter}
 use Rattle.std.specs.Prelude.{not}
-use Rattle.guppy_program.specs.Text.{is_empty}
+use Rattle.guppy_command.specs.Text.{is_empty}
 use Rattle.guppy_cargo.specs.Paths.{given_as}
 use Rattle.guppy_cargo.proofs.paths.add_paths.Given as goal
 

@@ -4,7 +4,7 @@ use Rattle.std.proofs.lemmas.Result.{err_from_is_err_and}
 use Rattle.guppy.specs.Ids.{IsKnown}
 use Rattle.guppy_program.specs.Answer.{Means}
 use Rattle.guppy_program.proofs.Refusals.{all_clear, unclear_word}
-use Rattle.guppy_program.proofs.FirstItems.{cut_at, fits_with}
+use Rattle.guppy_command.proofs.FirstItems.{cut_at, fits_with}
 use Rattle.guppy_program.proofs.answer.all_meant.Goals as goal
 
 pub returns-in_err-id-clause-err : goal.returns-in_err-id-clause-err

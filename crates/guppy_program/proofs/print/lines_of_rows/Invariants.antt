@@ -1,6 +1,7 @@
 use Rattle.std.proofs.Common.{◌≡◌, List, map, take, string_bytes}
 use Rattle.guppy_data.specs.declared.records.PackageRecord.{PackageRecord}
-use Rattle.guppy_program.specs.Printed.{called, lines_of, joined}
+use Rattle.guppy_command.specs.Printed.{lines_of, joined}
+use Rattle.guppy_program.specs.Printed.{called}
 use Rattle.guppy_program.proofs.print.lines_of_rows.Given as goal
 
 abbrev pub invariant-loop-row : goal.invariant-loop-row

@@ -1,8 +1,9 @@
 use Rattle.std.proofs.Common.{◌≡◌, ◌∷◌, List, map, take, string_bytes}
 use Rattle.guppy_data.specs.declared.records.PackageRecord.{PackageRecord}
-use Rattle.guppy_program.specs.Printed.{called, lines_of, joined}
+use Rattle.guppy_command.specs.Printed.{lines_of, joined}
+use Rattle.guppy_program.specs.Printed.{called}
 use Rattle.guppy_program.specs.Shown.{step_shown}
-use Rattle.guppy_program.specs.Steps.{kind_names}
+use Rattle.guppy_command.specs.Printed.{kind_names}
 use Rattle.guppy_program.proofs.print.lines_of_steps.Given as goal
 
 abbrev pub invariant-loop-step : goal.invariant-loop-step

@@ -3,7 +3,7 @@ use Rattle.std.proofs.lemmas.Result.{IfOk-weaker}
 use Rattle.std.specs.Ordering.{nat_cmp}
 use Rattle.std.specs.Cmp.Lexicographic.{slice_cmp}
 use Rattle.std.proofs.lemmas.Slice.Eq.{bytes_eq-Decides}
-use Rattle.guppy_program.specs.Printed.{lines_of}
+use Rattle.guppy_command.specs.Printed.{lines_of}
 use Rattle.guppy_program.proofs.ReachedIds.{kept_ids, IsStrictlySortedBy-map}
 use Rattle.guppy_program.proofs.print.sorted_lines.Goals as goal
 

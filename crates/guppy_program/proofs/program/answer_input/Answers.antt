@@ -1,5 +1,5 @@
 use Rattle.std.proofs.lemmas.Result.{IfOk-weaker, IfErr-weaker}
-use Rattle.guppy_program.specs.Shown.{asked_shown}
+use Rattle.guppy_command.specs.Shown.{asked_shown}
 use Rattle.guppy_program.proofs.Runs.{command_fault, loaded_distinct}
 use Rattle.guppy_program.proofs.program.answer_input.Goals as goal
 

@@ -1,6 +1,6 @@
 use Rattle.std.proofs.Common.{rules}
 use Rattle.std.proofs.lemmas.Result.{IfErr-weaker}
-use Rattle.guppy_program.specs.Shown.{asked_shown}
+use Rattle.guppy_command.specs.Shown.{asked_shown}
 use Rattle.guppy_program.proofs.Runs.{source_fault}
 use Rattle.guppy_program.proofs.program.answer_source.Goals as goal
 

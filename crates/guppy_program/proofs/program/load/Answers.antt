@@ -5,7 +5,7 @@ use Rattle.guppy.specs.Accepted.{IsAccepted}
 use Rattle.guppy.specs.Graph.{Holds}
 use Rattle.guppy.specs.Refused.{IsRefusal}
 use Rattle.guppy_program.specs.Loaded.{IsLoadFault}
-use Rattle.guppy_program.specs.Shown.{asked_shown}
+use Rattle.guppy_command.specs.Shown.{asked_shown}
 use Rattle.guppy_program.proofs.Runs.{OrMemory-holds}
 use Rattle.guppy_program.proofs.program.load.Goals as goal
 

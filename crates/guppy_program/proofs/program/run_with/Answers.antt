@@ -1,6 +1,6 @@
 use Rattle.std.proofs.Common.{◌∙◌, sym, string_bytes, map}
 use Rattle.std.specs.Io.KnownBytes.{Appends}
-use Rattle.guppy_program.specs.Shown.{asked_shown}
+use Rattle.guppy_command.specs.Shown.{asked_shown}
 use Rattle.guppy_program.proofs.Runs.{begun}
 use Rattle.guppy_program.proofs.program.run_with.Goals as goal
 

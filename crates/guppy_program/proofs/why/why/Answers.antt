@@ -1,6 +1,6 @@
 use Rattle.std.proofs.Common.{◌∷◌, [], refl}
 use Rattle.std.proofs.lemmas.Result.{err_from_is_err_and}
-use Rattle.guppy_program.specs.Command.{why}
+use Rattle.guppy_command.specs.Command.{why}
 use Rattle.guppy_program.proofs.Refusals.{command_word, one_clear, unclear_word}
 use Rattle.guppy_program.proofs.why.why.Goals as goal
 

@@ -1,0 +1,14 @@
+pub mod Device
+pub mod Cause
+pub mod Platforms
+pub mod Options
+pub mod Command
+pub mod Shown
+pub mod Text
+pub mod Stated
+pub mod RunFault
+pub mod Records
+pub mod Reading
+pub mod Process
+pub mod Printed
+pub mod Quoted

@@ -1,0 +1,79 @@
+//! Why a program gives no answer.
+ghost use Rattle.std.specs.Prelude.{◌≡◌, ◌⊎◌, ℕ, Ok, Err, IfOk, IfErr};
+ghost use Rattle.guppy_data.specs.declared.texts.error.Error.{Error};
+ghost use Rattle.guppy_data.specs.declared.texts.error.Error.TheVariants.{OutOfMemory};
+ghost use Rattle.guppy_command.specs.Cause.{Cause, library, no_walk};
+ghost use Rattle.guppy_command.specs.Shown.{cause_shown};
+
+use guppy_data::Error;
+use std::alloc::Global;
+use std::fmt;
+
+/// Why a program gives no answer, whatever its input looks like.
+#[derive(Debug, Drop)]
+pub enum Fault {
+    /// The library refused the records or the command, or found no memory.
+    Library(Error),
+    /// The arguments are no command.
+    BadArguments,
+    /// No links lead from the package that the first word means to that of the second.
+    NoWalk {
+        /// The first word, as it was given.
+        from: String,
+        /// The second word.
+        to: String,
+    },
+    /// The input could not be read.
+    InputFailed,
+    /// The output could not be written.
+    OutputFailed,
+}
+
+/// Why a program gives no answer: one of these faults, or one of its own.
+pub trait ProgramFault: fmt::Display + Drop {
+    /// Why, whatever the input looks like.
+    ghost cause: { Self → Cause };
+
+    /// The status that the program ends with.
+    ghost ending: { Self → ℕ };
+
+    /// The program's fault that this one is.
+    fn of(fault: Fault) -> Self
+        ensures { cause result ≡ cause_shown fault };
+
+    /// The status that the program ends with. Takes constant time.
+    fn ending(&self) -> u8
+        ensures { result ≡ ending self.now };
+}
+
+/// Passes a result of the library on as one of a program.
+pub fn passed_on<T: Drop, F: ProgramFault>(given: Result<T, Error>) -> Result<T, F>
+    ensures ok { IfOk result (λ value. given ≡ Ok value) }
+    ensures err { IfErr result (λ fault. (error : Error) × (given ≡ Err error)
+        × (F.cause fault ≡ library error)) }
+{
+    match given {
+        Ok(value) => Ok(value),
+        Err(error) => Err(F::of(Fault::Library(error))),
+    }
+}
+
+/// Memory is wanted.
+pub fn want_of_memory<F: ProgramFault>() -> F
+    ensures { F.cause result ≡ library OutOfMemory }
+{
+    F::of(Fault::Library(Error::OutOfMemory))
+}
+
+/// That no links lead from the one word's package to the other's, unless memory is wanted. Takes memory for copies of the words.
+pub fn no_walk<F: ProgramFault>(alloc: Global, from: &str, to: &str) -> F
+    ensures { (F.cause result ≡ no_walk from.now to.now) ⊎ (F.cause result ≡ library OutOfMemory) }
+{
+    let Ok(from) = String::from_str(alloc, from) else {
+        return want_of_memory();
+    };
+    let Ok(to) = String::from_str(alloc, to) else {
+        return want_of_memory();
+    };
+    F::of(Fault::NoWalk { from, to })
+}

@@ -1,6 +1,0 @@
-use Rattle.std.proofs.Common.{◌≡◌, map, take, string_bytes}
-use Rattle.guppy_program.specs.Printed.{lines_of}
-use Rattle.guppy_program.proofs.print.lines_of.Given as goal
-
-abbrev pub invariant-loop-text : goal.invariant-loop-text
-invariant-loop-text l = string_bytes l.lines ≡ lines_of (map (λ r. r.now) (take l.text-index l.texts))
