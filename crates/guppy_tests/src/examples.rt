@@ -74,59 +74,95 @@ impl Answer {
         }
     }
 
-    // Adds the error's text.
-    fn put_error(&mut self, error: &Error) {
+    /// Adds the error's text.
+    pub(super) fn fail(&mut self, error: Error) {
+        self.put("");
         let taken = write!(self.text, "{error}");
         self.note(taken.is_err());
     }
+
+    /// Adds whether it is so, or the error's text.
+    pub(super) fn put_known(&mut self, answer: Result<bool, Error>) {
+        match answer {
+            Ok(truth) => self.put_truth(truth),
+            Err(error) => self.fail(error),
+        }
+    }
+
+    /// Adds the number, or the error's text.
+    pub(super) fn put_count(&mut self, answer: Result<usize, Error>) {
+        match answer {
+            Ok(number) => self.put_number(number),
+            Err(error) => self.fail(error),
+        }
+    }
+
+    /// Adds the word where this is so.
+    pub(super) fn put_if(&mut self, word: &str, holds: bool) {
+        if holds {
+            self.put(word);
+        }
+    }
 }
 
-// Adds the answer to a question of these words. The IDs are those of the words, place by place.
-fn ask(
-    graph: &PackageGraph,
-    words: &[&str],
-    ids: &[PackageId],
-    out: &mut Answer,
-) -> Result<(), Error> {
-    match (words, ids) {
-        (["package", _, words @ ..], [_, name, ids @ ..]) => {
-            ask_package(graph.metadata(name)?, words, ids, out)
+/// The words of a question, and the IDs of these texts.
+#[derive(Clone, Copy)]
+pub(super) struct Question<'q> {
+    words: &'q [&'q str],
+    ids: &'q [PackageId],
+    // The ID of no text, which no package has.
+    no_id: &'q PackageId,
+}
+
+impl<'q> Question<'q> {
+    /// The word at this place, or no text where the question has none.
+    pub(super) fn word(&self, place: usize) -> &'q str {
+        match self.words.get(place) {
+            Some(word) => word,
+            None => "",
         }
-        (["workspace", words @ ..], _) => ask_workspace(graph, words, out),
-        (["resolve", words @ ..], [_, ids @ ..]) => ask_query(graph, words, ids, out),
-        _ => ask_graph(graph, words, ids, out),
+    }
+
+    /// The ID at this place, or that of no text.
+    pub(super) fn id(&self, place: usize) -> &'q PackageId {
+        self.ids.get(place).unwrap_or(self.no_id)
+    }
+
+    /// The words from this place on.
+    pub(super) fn words_from(&self, place: usize) -> &'q [&'q str] {
+        if place < self.words.len() {
+            &self.words[place..]
+        } else {
+            &[]
+        }
+    }
+
+    /// The IDs from this place on.
+    pub(super) fn ids_from(&self, place: usize) -> &'q [PackageId] {
+        if place < self.ids.len() {
+            &self.ids[place..]
+        } else {
+            &[]
+        }
     }
 }
 
 // Compares the graph with another one.
-fn tell_beside(
-    rt: &impl Abort,
-    graph: &PackageGraph,
-    words: &[&str],
-    ids: &[PackageId],
-    out: &mut Answer,
-) -> Result<(), Error> {
-    if let ([_, other, ..], [_, _, a, b]) = (words, ids) {
-        let other = graph_of(rt, graph.alloc(), other_graph(other))?;
-        beside(graph, &other, a, b, out)?;
+fn tell_beside(rt: &impl Abort, graph: &PackageGraph, question: &Question<'_>, out: &mut Answer) {
+    match graph_of(rt, graph.alloc(), other_graph(question.word(1))) {
+        Ok(other) => beside(graph, &other, question, out),
+        Err(error) => out.fail(error),
     }
-    Ok(())
 }
 
-fn tell(
-    rt: &impl Abort,
-    graph: &PackageGraph,
-    words: &[&str],
-    out: &mut Answer,
-) -> Result<(), Error> {
-    let ids = ids(rt, graph.alloc(), words);
-    match words {
-        ["looks", words @ ..] => {
-            put_looks(rt, graph, words, out);
-            Ok(())
-        }
-        ["beside", ..] => tell_beside(rt, graph, words, &ids, out),
-        _ => ask(graph, words, &ids, out),
+fn tell(rt: &impl Abort, graph: &PackageGraph, question: &Question<'_>, out: &mut Answer) {
+    match question.word(0) {
+        "looks" => put_looks(rt, graph, question, out),
+        "beside" => tell_beside(rt, graph, question, out),
+        "package" => ask_package(graph, question, out),
+        "workspace" => ask_workspace(graph, question, out),
+        "resolve" => ask_query(graph, question, out),
+        _ => ask_graph(graph, question, out),
     }
 }
 
@@ -135,20 +171,24 @@ fn words_of<'t>(rt: &impl Abort, alloc: Global, text: &'t str) -> Vec<&'t str> {
     words.expect(rt, "words")
 }
 
+fn tell_words(rt: &impl Abort, graph: &PackageGraph, text: &str, out: &mut Answer) {
+    let words = words_of(rt, graph.alloc(), text);
+    let ids = ids(rt, graph.alloc(), words.as_slice());
+    let no_id = PackageId::new(String::new(graph.alloc()));
+    let question = Question {
+        words: words.as_slice(),
+        ids: ids.as_slice(),
+        no_id: &no_id,
+    };
+    tell(rt, graph, &question, out);
+}
+
 // Adds the answer to each of the questions, with a comma between.
-fn tell_each(
-    rt: &impl Abort,
-    alloc: Global,
-    graph: &str,
-    questions: &str,
-    out: &mut Answer,
-) -> Result<(), Error> {
-    let graph = graph_of(rt, alloc, graph)?;
+fn tell_each(rt: &impl Abort, graph: &PackageGraph, questions: &str, out: &mut Answer) {
     for question in questions.split(", ") {
         out.put_comma();
-        tell(rt, &graph, &words_of(rt, alloc, question), out)?;
+        tell_words(rt, graph, question, out);
     }
-    Ok(())
 }
 
 fn no_answer(alloc: Global) -> Answer {
@@ -160,8 +200,9 @@ fn no_answer(alloc: Global) -> Answer {
 
 fn tell_all(rt: &impl Abort, alloc: Global, graph: &str, questions: &str) -> Answer {
     let mut out = no_answer(alloc);
-    if let Err(error) = tell_each(rt, alloc, graph, questions, &mut out) {
-        out.put_error(&error);
+    match graph_of(rt, alloc, graph) {
+        Ok(graph) => tell_each(rt, &graph, questions, &mut out),
+        Err(error) => out.fail(error),
     }
     if out.text.is_empty() {
         out.put("nothing");
@@ -189,17 +230,21 @@ fn put_range(first: &str, last: &str, out: &mut Answer) {
     }
 }
 
+fn put_words(part: &str, out: &mut Answer) {
+    for word in part.split(' ') {
+        match word.split_once("..=") {
+            Some((first, last)) => put_range(first, last, out),
+            None => out.put(word),
+        }
+    }
+}
+
 // The wanted text with each range of words written out.
 fn written_out(alloc: Global, wanted: &str) -> Answer {
     let mut out = no_answer(alloc);
     for part in wanted.split(", ") {
         out.put_comma();
-        for word in part.split(' ') {
-            match word.split_once("..=") {
-                Some((first, last)) => put_range(first, last, &mut out),
-                None => out.put(word),
-            }
-        }
+        put_words(part, &mut out);
     }
     out
 }
@@ -213,14 +258,17 @@ fn are_same_words(rt: &impl Abort, alloc: Global, one: &str, other: &str) -> boo
 }
 
 fn is_wanted(rt: &impl Abort, alloc: Global, answer: &str, wanted: &str, is_sorted: bool) -> bool {
+    let wanted = written_out(alloc, wanted);
+    let wanted = wanted.text.as_str();
+    wanted == answer || is_sorted && are_same_words(rt, alloc, wanted, answer)
+}
+
+fn is_one_of(rt: &impl Abort, alloc: Global, answer: &str, wanted: &str, is_sorted: bool) -> bool {
+    let mut is_one = false;
     for text in wanted.split(" or ") {
-        let text = written_out(alloc, text);
-        let text = text.text.as_str();
-        if text == answer || is_sorted && are_same_words(rt, alloc, text, answer) {
-            return true;
-        }
+        is_one = is_one || is_wanted(rt, alloc, answer, text, is_sorted);
     }
-    false
+    is_one
 }
 
 fn assert_answer(rt: &impl Abort, alloc: Global, example: (&str, &str), asked: (&str, &str)) {
@@ -231,7 +279,7 @@ fn assert_answer(rt: &impl Abort, alloc: Global, example: (&str, &str), asked: (
     assert!(rt; !answer.is_cut, "{name}: {questions}: memory was refused");
     let answer = answer.text.as_str();
     assert!(rt;
-        is_wanted(rt, alloc, answer, wanted, sorted.is_some()),
+        is_one_of(rt, alloc, answer, wanted, sorted.is_some()),
         "{name}: {questions} = {answer}"
     );
 }

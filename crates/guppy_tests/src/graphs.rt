@@ -1,5 +1,5 @@
 //! Graphs: what they hold, which records make none, what depends on what, and whether they are verified.
-use crate::examples::Answer;
+use crate::examples::{Answer, Question};
 use crate::lists::{put_affected, put_cycles, put_publish_order};
 use crate::sets::ask_set;
 use guppy::errors::VerifyFault;
@@ -41,110 +41,68 @@ fn put_each(graph: &PackageGraph, out: &mut Answer) {
     out.put_number(packages.len());
 }
 
-fn put_relation(
-    graph: &PackageGraph,
-    relation: &str,
-    from: &PackageId,
-    to: &PackageId,
-    out: &mut Answer,
-) -> Result<(), Error> {
-    let holds = match relation {
-        "direct" => graph.directly_depends_on(from, to)?,
-        "cyclic" => graph.cycles().is_cyclic(from, to)?,
-        _ => graph.depends_on(from, to)?,
-    };
-    out.put_truth(holds);
-    Ok(())
-}
-
-fn put_cached(
-    cache: &mut DependsCache<'_>,
-    asked: &[PackageId],
-    out: &mut Answer,
-) -> Result<(), Error> {
+fn put_cached(cache: &mut DependsCache<'_>, asked: &[PackageId], out: &mut Answer) {
     for pair in asked.chunks_exact(2) {
         if let [from, to] = pair {
-            out.put_truth(cache.depends_on(from, to)?);
+            out.put_known(cache.depends_on(from, to));
         }
     }
-    Ok(())
 }
 
 // What one cache answers to each two in turn.
-fn ask_cache(graph: &PackageGraph, asked: &[PackageId], out: &mut Answer) -> Result<(), Error> {
-    let mut cache = graph.new_depends_cache()?;
-    put_cached(&mut cache, asked, out)
+fn ask_cache(graph: &PackageGraph, asked: &[PackageId], out: &mut Answer) {
+    match graph.new_depends_cache() {
+        Ok(mut cache) => put_cached(&mut cache, asked, out),
+        Err(error) => out.fail(error),
+    }
 }
 
 // Of a cycle that `verify` refuses, how many packages it has, and whether it is one.
-fn put_refused(graph: &PackageGraph, out: &mut Answer) -> Result<(), Error> {
+fn put_refused(graph: &PackageGraph, out: &mut Answer) {
     match graph.verify() {
         Err(Error::PackageGraphInternalError(VerifyFault::Cycle(ids))) => {
             out.put_number(ids.len());
-            out.put_truth(graph.is_cycle_witness(ids.as_slice())?);
-            Ok(())
+            out.put_known(graph.is_cycle_witness(ids.as_slice()));
         }
-        other => other,
+        Err(error) => out.fail(error),
+        Ok(()) => {}
     }
 }
 
-fn put_verified(graph: &PackageGraph, out: &mut Answer) -> Result<(), Error> {
-    graph.verify()?;
-    out.put("ok");
-    Ok(())
-}
-
-fn put_witness(graph: &PackageGraph, listed: &[PackageId], out: &mut Answer) -> Result<(), Error> {
-    out.put_truth(graph.is_cycle_witness(listed)?);
-    Ok(())
-}
-
-// Whether the question is one that has no error, and then its answer.
-fn tells_graph(graph: &PackageGraph, words: &[&str], out: &mut Answer) -> bool {
-    match words {
-        ["counts"] => put_counts(graph, out),
-        ["each"] => put_each(graph, out),
-        ["cycles"] => put_cycles(graph, false, out),
-        ["cycles", "from-back"] => put_cycles(graph, true, out),
-        _ => return false,
+fn put_verified(graph: &PackageGraph, out: &mut Answer) {
+    match graph.verify() {
+        Ok(()) => out.put("ok"),
+        Err(error) => out.fail(error),
     }
-    true
 }
 
 // Answers a question about the whole graph, or else about a set.
-fn ask_whole(
-    graph: &PackageGraph,
-    words: &[&str],
-    ids: &[PackageId],
-    out: &mut Answer,
-) -> Result<(), Error> {
-    match words {
-        ["verify"] => put_verified(graph, out),
-        ["cycle"] => put_refused(graph, out),
-        ["publish"] => put_publish_order(graph, out),
-        ["affected", paths @ ..] => put_affected(graph, paths, &[], out),
-        ["affected-but", ignored, paths @ ..] => put_affected(graph, paths, &[*ignored], out),
-        _ => ask_set(graph, words, ids, out),
+fn ask_whole(graph: &PackageGraph, question: &Question<'_>, out: &mut Answer) {
+    match question.word(0) {
+        "counts" => put_counts(graph, out),
+        "each" => put_each(graph, out),
+        "verify" => put_verified(graph, out),
+        "cycle" => put_refused(graph, out),
+        "cycles" => put_cycles(graph, question.word(1) == "from-back", out),
+        "publish" => put_publish_order(graph, out),
+        "affected" => put_affected(graph, question.words_from(1), &[], out),
+        "affected-but" => {
+            put_affected(graph, question.words_from(2), &[question.word(1)], out);
+        }
+        _ => ask_set(graph, question, out),
     }
 }
 
 /// Answers a question about the graph, or else about a set.
-pub(super) fn ask_graph(
-    graph: &PackageGraph,
-    words: &[&str],
-    ids: &[PackageId],
-    out: &mut Answer,
-) -> Result<(), Error> {
-    if tells_graph(graph, words, out) {
-        return Ok(());
-    }
-    match (words, ids) {
-        ([relation @ ("depends" | "direct" | "cyclic"), ..], [_, from, to]) => {
-            put_relation(graph, relation, from, to, out)
-        }
-        (["cache", ..], [_, asked @ ..]) => ask_cache(graph, asked, out),
-        (["witness", ..], [_, listed @ ..]) => put_witness(graph, listed, out),
-        _ => ask_whole(graph, words, ids, out),
+pub(super) fn ask_graph(graph: &PackageGraph, question: &Question<'_>, out: &mut Answer) {
+    let (one, other) = (question.id(1), question.id(2));
+    match question.word(0) {
+        "depends" => out.put_known(graph.depends_on(one, other)),
+        "direct" => out.put_known(graph.directly_depends_on(one, other)),
+        "cyclic" => out.put_known(graph.cycles().is_cyclic(one, other)),
+        "witness" => out.put_known(graph.is_cycle_witness(question.ids_from(1))),
+        "cache" => ask_cache(graph, question.ids_from(1), out),
+        _ => ask_whole(graph, question, out),
     }
 }
 

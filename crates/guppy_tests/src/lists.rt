@@ -1,11 +1,11 @@
 //! Lists of sets, cycles, the publish order, the members that changes affect, and the looks for the order.
 ghost use Rattle.std.specs.Iterator.{IsFinite};
 
-use crate::examples::Answer;
+use crate::examples::{Answer, Question};
 use crate::records::shape_of;
 use guppy::graph::PackageIx;
 use guppy::positions::{CountedGraph, Graph, GraphSpec, Link, Sccs, TopoWithCycles};
-use guppy::{CycleIds, Error, PackageGraph, PackageId};
+use guppy::{CycleIds, PackageGraph, PackageId};
 use guppy_affected::affected;
 use guppy_publish::publish_order;
 use std::alloc::{AllocError, Global};
@@ -40,18 +40,23 @@ fn put_ids(ids: &[&PackageId], out: &mut Answer) {
     }
 }
 
-pub(super) fn put_publish_order(graph: &PackageGraph, out: &mut Answer) -> Result<(), Error> {
-    let ids = publish_order(graph)?;
-    put_ids(ids.as_slice(), out);
-    Ok(())
+pub(super) fn put_publish_order(graph: &PackageGraph, out: &mut Answer) {
+    match publish_order(graph) {
+        Ok(ids) => put_ids(ids.as_slice(), out),
+        Err(error) => out.fail(error),
+    }
 }
 
-fn owned(alloc: Global, words: &[&str]) -> Result<Vec<String>, AllocError> {
+// Copies of the words.
+fn owned(alloc: Global, words: &[&str], out: &mut Answer) -> Vec<String> {
     let mut texts = Vec::new(alloc);
     for word in words {
-        texts.push(String::from_str(alloc, word)?)?;
+        match String::from_str(alloc, word) {
+            Ok(text) => out.note(texts.push(text).is_err()),
+            Err(_) => out.note(true),
+        }
     }
-    Ok(texts)
+    texts
 }
 
 pub(super) fn put_affected(
@@ -59,12 +64,13 @@ pub(super) fn put_affected(
     paths: &[&str],
     ignored: &[&str],
     out: &mut Answer,
-) -> Result<(), Error> {
-    let paths = owned(graph.alloc(), paths)?;
-    let ignored = owned(graph.alloc(), ignored)?;
-    let ids = affected(graph, paths.as_slice(), ignored.as_slice())?;
-    put_ids(ids.as_slice(), out);
-    Ok(())
+) {
+    let paths = owned(graph.alloc(), paths, out);
+    let ignored = owned(graph.alloc(), ignored, out);
+    match affected(graph, paths.as_slice(), ignored.as_slice()) {
+        Ok(ids) => put_ids(ids.as_slice(), out),
+        Err(error) => out.fail(error),
+    }
 }
 
 pub(super) const LISTS: &str = "
@@ -265,14 +271,18 @@ fn put_sum(rt: &impl Abort, graph: &PackageGraph, ends: &[(usize, usize, bool)],
 }
 
 /// Answers whether the order took at most so many looks, or those of links alone.
-pub(super) fn put_looks(rt: &impl Abort, graph: &PackageGraph, words: &[&str], out: &mut Answer) {
-    match words {
-        ["sum", "backs"] => put_sum(rt, graph, &BACKS, out),
-        ["sum", shape] => {
+pub(super) fn put_looks(
+    rt: &impl Abort,
+    graph: &PackageGraph,
+    question: &Question<'_>,
+    out: &mut Answer,
+) {
+    match (question.word(1), question.word(2)) {
+        ("sum", "backs") => put_sum(rt, graph, &BACKS, out),
+        ("sum", shape) => {
             let ends = shape_of(rt, graph.alloc(), shape, graph.package_count());
-            put_sum(rt, graph, &ends, out);
+            put_sum(rt, graph, ends.as_slice(), out);
         }
-        [most] => out.put_truth(graph.order_looks() <= most.parse().unwrap_or(0)),
-        _ => {}
+        (most, _) => out.put_truth(graph.order_looks() <= most.parse().unwrap_or(0)),
     }
 }

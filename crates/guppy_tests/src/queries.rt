@@ -3,15 +3,15 @@
 //! A resolve is written as `resolve`, its visitor, a direction, and where it starts. The answer is the
 //! set's letters and how many they are, and then each link that was shown, with `+` where it was accepted
 //! and `-` where it was refused, or how often the visitor was called.
-ghost use Rattle.std.specs.Prelude.{◌≡◌, ◌==◌, ℕ, ◌+◌, ◌%◌, ◌^◌, ◌<◌, IsTrue, length};
-ghost use Rattle.guppy.specs.Visitors.{MayVisitAt, StartsFromInitial};
+ghost use Rattle.std.specs.Prelude.{◌≡◌, ◌==◌, ◌+◌, ◌%◌, ◌^◌, IsTrue};
+ghost use Rattle.guppy.specs.Visitors.{StartsFromInitial};
 
-use crate::examples::Answer;
+use crate::examples::{Answer, Question};
 use crate::sets::{direction_of, put_letters};
 use crate::visitors::{First, Odd, RefusesOnce, odd_calls, over_even_links};
 use guppy::{
-    Error, PackageGraph, PackageId, PackageLink, PackageLinkContext, PackageLinkVisitor,
-    PackageQuery, PackageSet,
+    Error, PackageGraph, PackageLink, PackageLinkContext, PackageLinkVisitor, PackageQuery,
+    PackageSet,
 };
 
 // As `Odd`, but it counts in a number that it is lent: it can be read after the visitor was handed over.
@@ -51,158 +51,107 @@ fn put_recorded(
     set: &PackageSet<'_>,
     entries: &[(usize, bool)],
     out: &mut Answer,
-) -> Result<(), Error> {
-    put_letters(graph, set, out)?;
+) {
+    put_letters(graph, set, out);
     for (number, is_accepted) in entries {
         out.put_number(*number);
         out.put_mark(if *is_accepted { "+" } else { "-" });
     }
-    Ok(())
 }
 
-fn ask_first(
+// The set, and how often the visitor was called.
+fn put_counted(
     graph: &PackageGraph,
-    query: PackageQuery<'_>,
-    accepted: usize,
+    set: Result<PackageSet<'_>, Error>,
+    calls: usize,
     out: &mut Answer,
-) -> Result<(), Error> {
-    let (set, recorder) = query.resolve_recorded(First { left: accepted })?;
-    put_recorded(graph, &set, recorder.entries.as_slice(), out)
+) {
+    put_set(graph, set, out);
+    out.put_number(calls);
+}
+
+fn put_set(graph: &PackageGraph, set: Result<PackageSet<'_>, Error>, out: &mut Answer) {
+    match set {
+        Ok(set) => put_letters(graph, &set, out),
+        Err(error) => out.fail(error),
+    }
+}
+
+fn ask_first(graph: &PackageGraph, query: PackageQuery<'_>, accepted: usize, out: &mut Answer) {
+    match query.resolve_recorded(First { left: accepted }) {
+        Ok((set, recorder)) => put_recorded(graph, &set, recorder.entries.as_slice(), out),
+        Err(error) => out.fail(error),
+    }
 }
 
 // The links in the order of their numbers, whichever was shown first.
-fn ask_refuses_once(
-    graph: &PackageGraph,
-    query: PackageQuery<'_>,
-    out: &mut Answer,
-) -> Result<(), Error> {
-    let visitor = RefusesOnce { has_refused: false };
-    let (set, mut recorder) = query.resolve_recorded(visitor)?;
-    recorder.entries.sort_unstable();
-    put_recorded(graph, &set, recorder.entries.as_slice(), out)
+fn ask_refuses_once(graph: &PackageGraph, query: PackageQuery<'_>, out: &mut Answer) {
+    match query.resolve_recorded(RefusesOnce { has_refused: false }) {
+        Ok((set, mut recorder)) => {
+            recorder.entries.sort_unstable();
+            put_recorded(graph, &set, recorder.entries.as_slice(), out);
+        }
+        Err(error) => out.fail(error),
+    }
 }
 
-fn ask_visitor<V: PackageLinkVisitor + Drop>(
-    graph: &PackageGraph,
-    query: PackageQuery<'_>,
-    visitor: V,
-    out: &mut Answer,
-) -> Result<(), Error>
-    requires { (n : ℕ) → n < length query.graph.links → MayVisitAt V.can_visit query visitor n }
-{
-    let set = query.resolve_with(visitor)?;
-    put_letters(graph, &set, out)
-}
-
-fn ask_odd_moved(
-    graph: &PackageGraph,
-    query: PackageQuery<'_>,
-    out: &mut Answer,
-) -> Result<(), Error> {
+fn ask_odd_moved(graph: &PackageGraph, query: PackageQuery<'_>, out: &mut Answer) {
     let mut calls = 0;
-    ask_visitor(graph, query, OddIn { calls: &mut calls }, out)?;
-    out.put_number(calls);
-    Ok(())
+    let set = query.resolve_with(OddIn { calls: &mut calls });
+    put_counted(graph, set, calls, out);
 }
 
-fn ask_odd_lent(
-    graph: &PackageGraph,
-    query: PackageQuery<'_>,
-    out: &mut Answer,
-) -> Result<(), Error> {
+fn ask_odd_lent(graph: &PackageGraph, query: PackageQuery<'_>, out: &mut Answer) {
     let mut counter = Odd { calls: 0 };
-    ask_visitor(graph, query, &mut counter, out)?;
-    out.put_number(counter.calls);
-    Ok(())
+    let set = query.resolve_with(&mut counter);
+    put_counted(graph, set, counter.calls, out);
 }
 
-fn ask_odd_behind_dyn(
-    graph: &PackageGraph,
-    query: PackageQuery<'_>,
-    out: &mut Answer,
-) -> Result<(), Error> {
+fn ask_odd_behind_dyn(graph: &PackageGraph, query: PackageQuery<'_>, out: &mut Answer) {
     let mut counter = Odd { calls: 0 };
     let visitor: &mut dyn PackageLinkVisitor = &mut counter;
-    ask_visitor(graph, query, visitor, out)?;
-    out.put_number(counter.calls);
-    Ok(())
+    let set = query.resolve_with(visitor);
+    put_counted(graph, set, counter.calls, out);
 }
 
-fn ask_odd_closure(
-    graph: &PackageGraph,
-    query: PackageQuery<'_>,
-    out: &mut Answer,
-) -> Result<(), Error> {
+fn ask_odd_closure(graph: &PackageGraph, query: PackageQuery<'_>, out: &mut Answer) {
     let mut calls = 0_usize;
     let set = query.resolve_with_fn(|_cx, _link| {
         calls = calls.wrapping_add(1);
         calls % 2 == 1
-    })?;
-    put_letters(graph, &set, out)?;
-    out.put_number(calls);
-    Ok(())
+    });
+    put_counted(graph, set, calls, out);
 }
 
-// How many calls the visitor accepts, if it accepts its first ones.
-fn first_accepted(visitor: &str) -> Option<usize> {
+// How many calls the visitor accepts, if it accepts its first ones. An unknown one accepts none.
+fn first_accepted(visitor: &str) -> usize {
     match visitor {
-        "none" => Some(0),
-        "first" => Some(1),
-        "all" => Some(usize::MAX),
-        _ => None,
+        "all" => usize::MAX,
+        "first" => 1,
+        _ => 0,
     }
 }
 
-// Answers what a resolve gives that accepts its odd calls, by the way in which it counts them.
-fn ask_odd(
-    graph: &PackageGraph,
-    query: PackageQuery<'_>,
-    visitor: &str,
-    out: &mut Answer,
-) -> Result<(), Error> {
+fn ask_resolve(graph: &PackageGraph, query: PackageQuery<'_>, visitor: &str, out: &mut Answer) {
     match visitor {
+        "refuses-once" => ask_refuses_once(graph, query, out),
+        "even-links" => put_set(graph, over_even_links(query), out),
+        "from-initials" => put_set(graph, query.resolve_with(FromInitials), out),
         "odd-lent" => ask_odd_lent(graph, query, out),
         "odd-moved" => ask_odd_moved(graph, query, out),
         "odd-behind-dyn" => ask_odd_behind_dyn(graph, query, out),
         "odd-closure" => ask_odd_closure(graph, query, out),
-        "odd-calls" => {
-            out.put_number(odd_calls(query)?);
-            Ok(())
-        }
-        _ => {
-            out.put("unknown visitor");
-            Ok(())
-        }
+        "odd-calls" => out.put_count(odd_calls(query)),
+        _ => ask_first(graph, query, first_accepted(visitor), out),
     }
 }
 
-fn ask_even_links(
-    graph: &PackageGraph,
-    query: PackageQuery<'_>,
-    out: &mut Answer,
-) -> Result<(), Error> {
-    put_letters(graph, &over_even_links(query)?, out)
-}
-
 /// Answers what a resolve with a visitor gives.
-pub(super) fn ask_query(
-    graph: &PackageGraph,
-    words: &[&str],
-    ids: &[PackageId],
-    out: &mut Answer,
-) -> Result<(), Error> {
-    let ([visitor, direction, ..], [_, _, starts @ ..]) = (words, ids) else {
-        out.put("unknown question");
-        return Ok(());
-    };
-    let accepted = first_accepted(visitor);
-    let query = graph.query_directed(starts.iter(), direction_of(direction))?;
-    match (accepted, *visitor) {
-        (Some(accepted), _) => ask_first(graph, query, accepted, out),
-        (_, "refuses-once") => ask_refuses_once(graph, query, out),
-        (_, "even-links") => ask_even_links(graph, query, out),
-        (_, "from-initials") => ask_visitor(graph, query, FromInitials, out),
-        (_, visitor) => ask_odd(graph, query, visitor, out),
+pub(super) fn ask_query(graph: &PackageGraph, question: &Question<'_>, out: &mut Answer) {
+    let direction = direction_of(question.word(2));
+    match graph.query_directed(question.ids_from(3).iter(), direction) {
+        Ok(query) => ask_resolve(graph, query, question.word(1), out),
+        Err(error) => out.fail(error),
     }
 }
 

@@ -9,9 +9,12 @@ ghost use Rattle.guppy.specs.Ids.{ids_of};
 ghost use Rattle.std.specs.Iterator.{IsFinite};
 ghost use Rattle.std.specs.Prelude.{◌≡◌};
 
-use crate::examples::Answer;
+use crate::examples::{Answer, Question};
 use guppy::graph::{DependencyDirection, IndexType};
-use guppy::{Error, PackageGraph, PackageId, PackageMetadata, PackageQuery, PackageSet};
+use guppy::{
+    Error, PackageGraph, PackageId, PackageMetadata, PackageQuery, PackageSet, RootIds,
+    RootPackages, WalkedLinks,
+};
 use std::alloc::Global;
 use std::process::Abort;
 
@@ -45,6 +48,22 @@ fn onwards<'g>(graph: &'g PackageGraph, id: &PackageId) -> Result<PackageSet<'g>
     query.resolve()
 }
 
+// A query that starts at these IDs.
+fn query_from<'g, 'i, I: Iterator<Item = &'i PackageId> + Drop>(
+    graph: &'g PackageGraph,
+    question: &str,
+    ids: I,
+) -> Result<PackageQuery<'g>, Error>
+    requires can { I.can_next ids }
+    requires ends { IsFinite (I.remaining ids) }
+{
+    match question {
+        "forward" => graph.query_forward(ids),
+        "reverse" => graph.query_reverse(ids),
+        _ => graph.query_directed(ids, DependencyDirection::Reverse),
+    }
+}
+
 // What a query leads to that starts at these IDs, or the set of them.
 fn set_from<'g, 'i, I: Iterator<Item = &'i PackageId> + Drop>(
     graph: &'g PackageGraph,
@@ -54,54 +73,54 @@ fn set_from<'g, 'i, I: Iterator<Item = &'i PackageId> + Drop>(
     requires can { I.can_next ids }
     requires ends { IsFinite (I.remaining ids) }
 {
-    match question {
-        "forward" => graph.query_forward(ids)?.resolve(),
-        "reverse" => graph.query_reverse(ids)?.resolve(),
-        "directed" => {
-            let query = graph.query_directed(ids, DependencyDirection::Reverse)?;
-            query.resolve()
-        }
-        _ => graph.resolve_ids(ids),
+    if question == "ids" {
+        return graph.resolve_ids(ids);
+    }
+    query_from(graph, question, ids)?.resolve()
+}
+
+// The set whose words begin at this place.
+fn set_of<'g>(
+    graph: &'g PackageGraph,
+    question: &Question<'_>,
+    place: usize,
+) -> Result<PackageSet<'g>, Error> {
+    let behind = place.saturating_add(1);
+    match question.word(place) {
+        "all" => graph.resolve_all(),
+        "none" => graph.resolve_none(),
+        "query" => all_again(graph),
+        "name" => graph.resolve_package_name(question.word(behind)),
+        "only" => only(graph, question.id(behind)),
+        "onwards" => onwards(graph, question.id(behind)),
+        "forward" => set_from(graph, "forward", question.ids_from(behind).iter()),
+        "reverse" => set_from(graph, "reverse", question.ids_from(behind).iter()),
+        _ => set_from(graph, "ids", question.ids_from(place).iter()),
     }
 }
 
-fn set_of<'g>(
-    graph: &'g PackageGraph,
-    words: &[&str],
-    ids: &[PackageId],
-) -> Result<PackageSet<'g>, Error> {
-    match (words, ids) {
-        (["all"], _) => graph.resolve_all(),
-        (["none"], _) => graph.resolve_none(),
-        (["query"], _) => all_again(graph),
-        (["name", name], _) => graph.resolve_package_name(name),
-        (["only", _], [_, id]) => only(graph, id),
-        (["onwards", _], [_, id]) => onwards(graph, id),
-        ([question @ ("forward" | "reverse"), ..], [_, starts @ ..]) => {
-            set_from(graph, question, starts.iter())
+// The letter, if the package that it names is in the set.
+fn put_letter(graph: &PackageGraph, set: &PackageSet<'_>, letter: &str, out: &mut Answer) {
+    for id in graph.package_ids() {
+        if id.repr() == letter {
+            match set.contains(id) {
+                Ok(true) => out.put_mark(letter),
+                Ok(false) => {}
+                Err(error) => out.fail(error),
+            }
         }
-        _ => set_from(graph, "ids", ids.iter()),
     }
 }
 
 // Those of the letters whose packages are in the set, and how many packages it has.
-pub(super) fn put_letters(
-    graph: &PackageGraph,
-    set: &PackageSet<'_>,
-    out: &mut Answer,
-) -> Result<(), Error> {
-    for letter in &LETTERS {
-        for id in graph.package_ids() {
-            if id.repr() == *letter && set.contains(id)? {
-                out.put_mark(letter);
-            }
-        }
+pub(super) fn put_letters(graph: &PackageGraph, set: &PackageSet<'_>, out: &mut Answer) {
+    for letter in LETTERS {
+        put_letter(graph, set, letter, out);
     }
     out.put_number(set.len());
     if set.is_empty() {
         out.put("empty");
     }
-    Ok(())
 }
 
 /// The positions of the packages.
@@ -134,43 +153,56 @@ fn put_list(set: &PackageSet<'_>, direction: DependencyDirection, out: &mut Answ
     }
 }
 
-// The names of the roots, how many IDs they have, the first of these, and how many are left then.
-fn put_roots(
-    set: &PackageSet<'_>,
-    direction: DependencyDirection,
-    out: &mut Answer,
-) -> Result<(), Error> {
-    for package in set.root_packages(direction)? {
+fn put_root_names(roots: RootPackages<'_>, out: &mut Answer) {
+    for package in roots {
         out.put(package.name());
     }
-    let mut ids = set.root_ids(direction)?;
+}
+
+// How many IDs there are, the first, and how many are left then.
+fn put_root_ids(mut ids: RootIds<'_>, out: &mut Answer) {
     out.put_number(ids.len());
     if let Some(id) = ids.next() {
         out.put(id.repr());
     }
     out.put_number(ids.len());
-    Ok(())
+}
+
+fn put_roots(set: &PackageSet<'_>, direction: DependencyDirection, out: &mut Answer) {
+    match set.root_packages(direction) {
+        Ok(roots) => put_root_names(roots, out),
+        Err(error) => out.fail(error),
+    }
+    match set.root_ids(direction) {
+        Ok(ids) => put_root_ids(ids, out),
+        Err(error) => out.fail(error),
+    }
+}
+
+fn put_numbers(links: WalkedLinks<'_>, out: &mut Answer) {
+    for link in links {
+        out.put_number(link.link_ix());
+    }
 }
 
 // The numbers of the walked links.
-fn put_links(
-    set: &PackageSet<'_>,
-    direction: DependencyDirection,
-    out: &mut Answer,
-) -> Result<(), Error> {
-    for link in set.links(direction)? {
-        out.put_number(link.link_ix());
+fn put_links(set: &PackageSet<'_>, direction: DependencyDirection, out: &mut Answer) {
+    match set.links(direction) {
+        Ok(links) => put_numbers(links, out),
+        Err(error) => out.fail(error),
     }
-    Ok(())
+}
+
+fn put_set(set: Result<PackageSet<'_>, Error>, out: &mut Answer) {
+    match set {
+        Ok(set) => put_list(&set, DependencyDirection::Forward, out),
+        Err(error) => out.fail(error),
+    }
 }
 
 // Keeps the first two packages, and tells the calls, the positions as the digits of a number, and those
 // that were kept.
-fn filter_two(
-    set: &PackageSet<'_>,
-    direction: DependencyDirection,
-    out: &mut Answer,
-) -> Result<(), Error> {
+fn filter_two(set: &PackageSet<'_>, direction: DependencyDirection, out: &mut Answer) {
     let mut positions = 0_usize;
     let mut calls = 0_usize;
     let mut callback = |package: PackageMetadata<'_>| {
@@ -180,148 +212,112 @@ fn filter_two(
         calls = calls.wrapping_add(1);
         calls <= 2
     };
-    let kept = set.filter_mut(direction, &mut callback)?;
+    let kept = set.filter_mut(direction, &mut callback);
     out.put_number(calls);
     out.put_number(positions);
-    put_list(&kept, DependencyDirection::Forward, out);
-    Ok(())
+    put_set(kept, out);
 }
 
-fn put_halves(first: &PackageSet<'_>, second: &PackageSet<'_>, out: &mut Answer) {
-    put_list(first, DependencyDirection::Forward, out);
-    out.put("and");
-    put_list(second, DependencyDirection::Forward, out);
+fn put_halves(halves: Result<(PackageSet<'_>, PackageSet<'_>), Error>, out: &mut Answer) {
+    match halves {
+        Ok((first, second)) => {
+            put_list(&first, DependencyDirection::Forward, out);
+            out.put("and");
+            put_list(&second, DependencyDirection::Forward, out);
+        }
+        Err(error) => out.fail(error),
+    }
 }
 
 // Leaves out the first package, and parts the second from the others.
-fn part_second(set: &PackageSet<'_>, out: &mut Answer) -> Result<(), Error> {
+fn part_second(set: &PackageSet<'_>, out: &mut Answer) {
     let mut calls = 0_usize;
-    let (first, second) = set.filter_partition(DependencyDirection::Forward, |_package| {
+    let halves = set.filter_partition(DependencyDirection::Forward, |_package| {
         calls = calls.wrapping_add(1);
         match calls {
             1 => None,
             2 => Some(true),
             _ => Some(false),
         }
-    })?;
-    put_halves(&first, &second, out);
-    Ok(())
+    });
+    put_halves(halves, out);
 }
 
-// Parts the packages of this name from the others, and tells whether a filter makes the one half alone.
-fn part_by_name(set: &PackageSet<'_>, name: &str, out: &mut Answer) -> Result<(), Error> {
-    let direction = DependencyDirection::Forward;
-    let is_named = |package: PackageMetadata<'_>| package.name() == name;
-    let only = set.filter(direction, is_named)?;
-    let (first, second) = set.partition(direction, is_named)?;
-    out.put_truth(only == first && only != second);
-    put_halves(&first, &second, out);
-    Ok(())
-}
-
-fn put_has(set: &PackageSet<'_>, id: &PackageId, out: &mut Answer) -> Result<(), Error> {
-    out.put_truth(set.contains(id)?);
-    Ok(())
-}
-
-fn tell(set: &PackageSet<'_>, question: &str, direction: DependencyDirection, out: &mut Answer) {
-    match question {
-        "list" => put_list(set, direction, out),
-        "len" => put_lengths(set, direction, out),
-        _ => out.put("unknown question"),
+// Tells whether the set is equal to the one half, and not to the other one.
+fn put_equal_to_first(
+    only: &PackageSet<'_>,
+    halves: &Result<(PackageSet<'_>, PackageSet<'_>), Error>,
+    out: &mut Answer,
+) {
+    if let Ok((first, second)) = halves {
+        out.put_truth(*only == *first && *only != *second);
     }
 }
 
-fn read(
-    set: &PackageSet<'_>,
-    question: (&str, &str, &PackageId),
-    out: &mut Answer,
-) -> Result<(), Error> {
-    let (question, argument, id) = question;
+// Parts the packages of this name from the others, and tells whether a filter makes the one half alone.
+fn part_by_name(set: &PackageSet<'_>, name: &str, out: &mut Answer) {
+    let direction = DependencyDirection::Forward;
+    let is_named = |package: PackageMetadata<'_>| package.name() == name;
+    let halves = set.partition(direction, is_named);
+    match set.filter(direction, is_named) {
+        Ok(only) => put_equal_to_first(&only, &halves, out),
+        Err(error) => out.fail(error),
+    }
+    put_halves(halves, out);
+}
+
+fn read(set: &PackageSet<'_>, question: &Question<'_>, out: &mut Answer) {
+    let argument = question.word(1);
     let direction = direction_of(argument);
-    match question {
-        "has" => put_has(set, id, out),
+    match question.word(0) {
+        "has" => out.put_known(set.contains(question.id(1))),
+        "list" => put_list(set, direction, out),
+        "len" => put_lengths(set, direction, out),
         "roots" => put_roots(set, direction, out),
         "links" => put_links(set, direction, out),
         "first-two" => filter_two(set, direction, out),
         "second-apart" => part_second(set, out),
         "apart" => part_by_name(set, argument, out),
-        _ => {
-            tell(set, question, direction, out);
-            Ok(())
-        }
+        _ => out.put("unknown question"),
     }
 }
 
-fn ask(
-    graph: &PackageGraph,
-    question: (&str, &str, &PackageId),
-    words: &[&str],
-    ids: &[PackageId],
-    out: &mut Answer,
-) -> Result<(), Error> {
-    let set = set_of(graph, words, ids)?;
-    read(&set, question, out)
+// Answers what is asked of the set whose words begin at this place.
+fn ask_of(graph: &PackageGraph, question: &Question<'_>, place: usize, out: &mut Answer) {
+    match set_of(graph, question, place) {
+        Ok(set) => read(&set, question, out),
+        Err(error) => out.fail(error),
+    }
 }
 
-fn ask_letters(
-    graph: &PackageGraph,
-    words: &[&str],
-    ids: &[PackageId],
-    out: &mut Answer,
-) -> Result<(), Error> {
-    let set = set_of(graph, words, ids)?;
-    put_letters(graph, &set, out)
+fn ask_letters(graph: &PackageGraph, question: &Question<'_>, out: &mut Answer) {
+    match set_of(graph, question, 0) {
+        Ok(set) => put_letters(graph, &set, out),
+        Err(error) => out.fail(error),
+    }
 }
 
-// How many of the IDs each call leaves unread.
+// How many of the IDs the call leaves unread.
+fn unread_of(graph: &PackageGraph, question: &str, ids: &[PackageId]) -> usize {
+    let mut unread = ids.iter();
+    let _refused = set_from(graph, question, &mut unread);
+    unread.len()
+}
+
 fn put_unread(graph: &PackageGraph, ids: &[PackageId], out: &mut Answer) {
     for question in ["directed", "forward", "reverse", "ids"] {
-        let mut unread = ids.iter();
-        let _refused = set_from(graph, question, &mut unread);
-        out.put_number(unread.len());
-    }
-}
-
-// Answers what becomes of IDs: how many of them are left unread, or what an operation makes of sets of them.
-fn ask_ids(
-    graph: &PackageGraph,
-    words: &[&str],
-    ids: &[PackageId],
-    out: &mut Answer,
-) -> Result<(), Error> {
-    match (words, ids) {
-        (["make", operation, ..], [_, _, a, b, c, d]) => combine(
-            graph,
-            operation,
-            [a, b],
-            [c, d],
-            out,
-        ),
-        (_, [_, ids @ ..]) => {
-            put_unread(graph, ids, out);
-            Ok(())
-        }
-        _ => Ok(()),
+        out.put_number(unread_of(graph, question, ids));
     }
 }
 
 /// Answers a question about a set of the graph.
-pub(super) fn ask_set(
-    graph: &PackageGraph,
-    words: &[&str],
-    ids: &[PackageId],
-    out: &mut Answer,
-) -> Result<(), Error> {
-    match (words, ids) {
-        (["unread" | "make", ..], _) => ask_ids(graph, words, ids, out),
-        ([question, "of", words @ ..], [id, _, ids @ ..]) => {
-            ask(graph, (question, "", id), words, ids, out)
-        }
-        ([question, argument, "of", words @ ..], [_, id, _, ids @ ..]) => {
-            ask(graph, (question, argument, id), words, ids, out)
-        }
-        _ => ask_letters(graph, words, ids, out),
+pub(super) fn ask_set(graph: &PackageGraph, question: &Question<'_>, out: &mut Answer) {
+    match (question.word(0), question.word(1), question.word(2)) {
+        ("unread", _, _) => put_unread(graph, question.ids_from(1), out),
+        ("make", _, _) => combine(graph, question, out),
+        (_, "of", _) => ask_of(graph, question, 2, out),
+        (_, _, "of") => ask_of(graph, question, 3, out),
+        _ => ask_letters(graph, question, out),
     }
 }
 
@@ -347,24 +343,34 @@ fn put_combined(
     x: &PackageSet<'_>,
     y: &PackageSet<'_>,
     out: &mut Answer,
-) -> Result<(), Error> {
+) {
     if !x.same_packages(y) {
         out.put("other packages");
-        return Ok(());
+        return;
     }
-    put_letters(graph, &combined(operation, x, y)?, out)
+    match combined(operation, x, y) {
+        Ok(set) => put_letters(graph, &set, out),
+        Err(error) => out.fail(error),
+    }
 }
 
-fn combine(
+fn combine_with(
     graph: &PackageGraph,
-    operation: &str,
-    x: [&PackageId; 2],
-    y: [&PackageId; 2],
+    x: &PackageSet<'_>,
+    question: &Question<'_>,
     out: &mut Answer,
-) -> Result<(), Error> {
-    let x = graph.resolve_ids(x.into_iter())?;
-    let y = graph.resolve_ids(y.into_iter())?;
-    put_combined(graph, operation, &x, &y, out)
+) {
+    match graph.resolve_ids([question.id(4), question.id(5)].into_iter()) {
+        Ok(y) => put_combined(graph, question.word(1), x, &y, out),
+        Err(error) => out.fail(error),
+    }
+}
+
+fn combine(graph: &PackageGraph, question: &Question<'_>, out: &mut Answer) {
+    match graph.resolve_ids([question.id(2), question.id(3)].into_iter()) {
+        Ok(x) => combine_with(graph, &x, question, out),
+        Err(error) => out.fail(error),
+    }
 }
 
 pub(super) const SETS: &str = "
@@ -425,14 +431,12 @@ partition_by_name | d c b a: a>b b~a b>c c>d d~c
     apart c of all = yes c and a b d
 ";
 
-fn put_union(x: &PackageSet<'_>, y: &PackageSet<'_>, out: &mut Answer) -> Result<(), Error> {
+fn put_union(x: &PackageSet<'_>, y: &PackageSet<'_>, out: &mut Answer) {
     out.put_truth(x.same_packages(y));
     out.put_truth(*x == *y);
     if x.same_packages(y) {
-        let union = x.union(y)?;
-        put_list(&union, DependencyDirection::Forward, out);
+        put_set(x.union(y), out);
     }
-    Ok(())
 }
 
 /// The graph that `beside` compares with.
@@ -448,31 +452,43 @@ fn one_package<'g>(graph: &'g PackageGraph, id: &PackageId) -> Result<PackageSet
 }
 
 // The union of the one graph's set and the other's b, from either side.
-fn put_unions(
-    one: &PackageSet<'_>,
-    other: &PackageGraph,
-    b: &PackageId,
-    out: &mut Answer,
-) -> Result<(), Error> {
-    let far = one_package(other, b)?;
-    put_union(one, &far, out)?;
-    put_union(&far, one, out)
+fn put_unions(one: &PackageSet<'_>, other: &PackageGraph, b: &PackageId, out: &mut Answer) {
+    match one_package(other, b) {
+        Ok(far) => {
+            put_union(one, &far, out);
+            put_union(&far, one, out);
+        }
+        Err(error) => out.fail(error),
+    }
+}
+
+// Whether the other graph's set of a is equal, and tells whether their packages are the same.
+fn put_equal(one: &PackageSet<'_>, other: &PackageGraph, a: &PackageId, out: &mut Answer) -> bool {
+    match one_package(other, a) {
+        Ok(there) => {
+            out.put_truth(*one == there);
+            one.same_packages(&there)
+        }
+        Err(error) => {
+            out.fail(error);
+            false
+        }
+    }
 }
 
 // Whether the other graph's set of a is equal, and then the unions.
-fn put_sets(
-    one: &PackageSet<'_>,
-    other: &PackageGraph,
-    a: &PackageId,
-    b: &PackageId,
-    out: &mut Answer,
-) -> Result<(), Error> {
-    let there = one_package(other, a)?;
-    out.put_truth(*one == there);
-    if one.same_packages(&there) {
-        put_unions(one, other, b, out)?;
+fn put_sets(one: &PackageSet<'_>, other: &PackageGraph, question: &Question<'_>, out: &mut Answer) {
+    if put_equal(one, other, question.id(2), out) {
+        put_unions(one, other, question.id(3), out);
     }
-    Ok(())
+}
+
+fn are_equal_packages(
+    one: &PackageGraph,
+    other: &PackageGraph,
+    id: &PackageId,
+) -> Result<bool, Error> {
+    Ok(one.metadata(id)? == other.metadata(id)?)
 }
 
 /// Whether the graphs have the same packages, whether the packages and the sets of a are equal, and what
@@ -480,14 +496,15 @@ fn put_sets(
 pub(super) fn beside(
     one: &PackageGraph,
     other: &PackageGraph,
-    a: &PackageId,
-    b: &PackageId,
+    question: &Question<'_>,
     out: &mut Answer,
-) -> Result<(), Error> {
+) {
     out.put_truth(one.same_packages(other));
-    out.put_truth(one.metadata(a)? == other.metadata(a)?);
-    let here = one_package(one, a)?;
-    put_sets(&here, other, a, b, out)
+    out.put_known(are_equal_packages(one, other, question.id(2)));
+    match one_package(one, question.id(2)) {
+        Ok(here) => put_sets(&here, other, question, out),
+        Err(error) => out.fail(error),
+    }
 }
 
 // The same packages with the link turned round, and then in the other order.

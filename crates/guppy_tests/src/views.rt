@@ -1,11 +1,11 @@
 //! What is read out of a graph: fields, links, build targets, members and default members.
-use crate::examples::Answer;
-use crate::members::{len_of, put_at_paths, put_named, put_unread};
+use crate::examples::{Answer, Question};
+use crate::members::{len_of, put_at_paths, put_named, put_unread, reached_by};
 use crate::sets::direction_of;
 use guppy::graph::BuildTargetId;
 use guppy::{
     DependencyKind, Error, JsonValue, PackageGraph, PackageId, PackageLink, PackageMetadata,
-    Utf8Path, Version,
+    Utf8Path, Version, VersionReq,
 };
 
 fn put_texts(package: PackageMetadata<'_>, out: &mut Answer) {
@@ -51,35 +51,31 @@ fn put_lists(package: PackageMetadata<'_>, out: &mut Answer) {
     }
 }
 
-fn put_each_that_holds(facts: &[(&str, bool)], out: &mut Answer) {
-    for (name, holds) in facts {
-        if *holds {
-            out.put(name);
-        }
+fn is_version(version: &Version, major: u64, minor: u64, patch: u64) -> bool {
+    *version == Version::new(major, minor, patch)
+}
+
+fn is_truth(table: &JsonValue, truth: bool) -> bool {
+    match table {
+        JsonValue::Bool(told) => *told == truth,
+        _ => false,
     }
 }
 
 // What is so of the package. Its version, and what `filled` fills, is so where it is as it says.
 fn put_facts(package: PackageMetadata<'_>, out: &mut Answer) {
-    let facts = [
-        ("in-workspace", package.in_workspace()),
-        ("publish", package.publish().can_publish_to("registry")),
-        ("default-feature", package.has_default_feature()),
-        ("proc-macro", package.is_proc_macro()),
-        ("build-script", package.has_build_script()),
-        ("one-feature", package.named_features_full().len() == 1),
-        ("one-optional-dep", package.optional_deps_full().len() == 1),
-        ("version", *package.version() == Version::new(1, 2, 3)),
-        (
-            "rust-version",
-            package.rust_version() == Some(&Version::new(1, 85, 0)),
-        ),
-        (
-            "metadata-table",
-            *package.metadata_table() == JsonValue::Bool(true),
-        ),
-    ];
-    put_each_that_holds(&facts, out);
+    out.put_if("in-workspace", package.in_workspace());
+    out.put_if("publish", package.publish().can_publish_to("registry"));
+    out.put_if("default-feature", package.has_default_feature());
+    out.put_if("proc-macro", package.is_proc_macro());
+    out.put_if("build-script", package.has_build_script());
+    out.put_if("one-feature", package.named_features_full().len() == 1);
+    out.put_if("one-optional-dep", package.optional_deps_full().len() == 1);
+    out.put_if("version", is_version(package.version(), 1, 2, 3));
+    if let Some(version) = package.rust_version() {
+        out.put_if("rust-version", is_version(version, 1, 85, 0));
+    }
+    out.put_if("metadata-table", is_truth(package.metadata_table(), true));
 }
 
 // The texts of each of the package's links.
@@ -93,45 +89,48 @@ fn put_link_texts(package: PackageMetadata<'_>, out: &mut Answer) {
     }
 }
 
+fn takes_version(requirement: &VersionReq) -> bool {
+    requirement.matches(&Version::new(1, 2, 3))
+}
+
+// What is so of the link.
+fn put_link_facts(link: PackageLink<'_>, out: &mut Answer) {
+    out.put_if("path", link.path() == Some(Utf8Path::new("../b")));
+    out.put_if("version-req", takes_version(link.version_req()));
+    out.put_if("normal", link.normal().is_present());
+    out.put_if("build", link.build().is_present());
+    out.put_if("dev", link.dev().is_present());
+    let normal = link.req_for_kind(DependencyKind::Normal);
+    out.put_if("normal-kind", normal.is_present());
+    out.put_if("dev-only", link.dev_only());
+}
+
 // What is so of each of the package's links.
-fn put_link_facts(package: PackageMetadata<'_>, out: &mut Answer) {
+fn put_all_link_facts(package: PackageMetadata<'_>, out: &mut Answer) {
     for link in package.direct_links() {
-        let facts = [
-            ("path", link.path() == Some(Utf8Path::new("../b"))),
-            (
-                "version-req",
-                link.version_req().matches(&Version::new(1, 2, 3)),
-            ),
-            ("normal", link.normal().is_present()),
-            ("build", link.build().is_present()),
-            ("dev", link.dev().is_present()),
-            (
-                "normal-kind",
-                link.req_for_kind(DependencyKind::Normal).is_present(),
-            ),
-            ("dev-only", link.dev_only()),
-        ];
-        put_each_that_holds(&facts, out);
+        put_link_facts(link, out);
+    }
+}
+
+fn link_of<'g>(
+    package: PackageMetadata<'g>,
+    relation: &str,
+    other: &PackageId,
+) -> Result<Option<PackageLink<'g>>, Error> {
+    match relation {
+        "from" => package.link_from(other),
+        "to" => package.link_to(other),
+        _ => package.link_between(other, direction_of(relation)),
     }
 }
 
 // The number of the link between the two, if there is one.
-fn put_between(
-    package: PackageMetadata<'_>,
-    other: &PackageId,
-    relation: &str,
-    out: &mut Answer,
-) -> Result<(), Error> {
-    let link = match relation {
-        "from" => package.link_from(other)?,
-        "to" => package.link_to(other)?,
-        _ => package.link_between(other, direction_of(relation))?,
-    };
-    match link {
-        Some(link) => out.put_number(link.link_ix()),
-        None => out.put("none"),
+fn put_between(package: PackageMetadata<'_>, question: &Question<'_>, out: &mut Answer) {
+    match link_of(package, question.word(3), question.id(4)) {
+        Ok(Some(link)) => out.put_number(link.link_ix()),
+        Ok(None) => out.put("none"),
+        Err(error) => out.fail(error),
     }
-    Ok(())
 }
 
 // The number and the other end of each link. Then how many links to the package there are, the other end of
@@ -162,26 +161,27 @@ fn put_targets(package: PackageMetadata<'_>, name: &str, out: &mut Answer) {
     out.put_truth(test.is_some());
 }
 
-/// Answers a question about the package.
-pub(super) fn ask_package(
-    package: PackageMetadata<'_>,
-    words: &[&str],
-    ids: &[PackageId],
-    out: &mut Answer,
-) -> Result<(), Error> {
-    match (words, ids) {
-        (["link", relation, _], [_, _, other]) => return put_between(package, other, relation, out),
-        (["targets", name], _) => put_targets(package, name, out),
-        (["links"], _) => put_links(package, out),
-        (["texts"], _) => put_texts(package, out),
-        (["paths"], _) => put_paths(package, out),
-        (["lists"], _) => put_lists(package, out),
-        (["facts"], _) => put_facts(package, out),
-        (["link-texts"], _) => put_link_texts(package, out),
-        (["link-facts"], _) => put_link_facts(package, out),
+fn tell_package(package: PackageMetadata<'_>, question: &Question<'_>, out: &mut Answer) {
+    match question.word(2) {
+        "link" => put_between(package, question, out),
+        "targets" => put_targets(package, question.word(3), out),
+        "links" => put_links(package, out),
+        "texts" => put_texts(package, out),
+        "paths" => put_paths(package, out),
+        "lists" => put_lists(package, out),
+        "facts" => put_facts(package, out),
+        "link-texts" => put_link_texts(package, out),
+        "link-facts" => put_all_link_facts(package, out),
         _ => out.put("unknown question"),
     }
-    Ok(())
+}
+
+/// Answers a question about a package.
+pub(super) fn ask_package(graph: &PackageGraph, question: &Question<'_>, out: &mut Answer) {
+    match graph.metadata(question.id(1)) {
+        Ok(package) => tell_package(package, question, out),
+        Err(error) => out.fail(error),
+    }
 }
 
 // Each field of a package, a link and a workspace.
@@ -236,21 +236,33 @@ fn put_order(graph: &PackageGraph, out: &mut Answer) {
     }
 }
 
-fn put_members(graph: &PackageGraph, out: &mut Answer) -> Result<(), Error> {
+fn put_members(graph: &PackageGraph, out: &mut Answer) {
     out.put_number(graph.workspace().member_count());
     out.put_number(graph.workspace().iter().len());
-    out.put_number(len_of(graph.resolve_workspace())?);
-    out.put_number(len_of(graph.query_workspace()?.resolve())?);
-    Ok(())
+    out.put_count(len_of(graph.resolve_workspace()));
+    out.put_count(reached_by(graph.query_workspace()));
 }
 
-// The member with the path, and the one with the name.
-fn put_member(graph: &PackageGraph, path: &str, name: &str, out: &mut Answer) -> Result<(), Error> {
-    let by_path = graph.workspace().member_by_path(Utf8Path::new(path))?;
-    let by_name = graph.workspace().member_by_name(name)?;
-    out.put(by_path.name());
-    out.put(by_name.name());
-    Ok(())
+fn put_both(path_name: &str, by_name: Result<PackageMetadata<'_>, Error>, out: &mut Answer) {
+    match by_name {
+        Ok(by_name) => {
+            out.put(path_name);
+            out.put(by_name.name());
+        }
+        Err(error) => out.fail(error),
+    }
+}
+
+// The names of the member with the path, and of the one with the name.
+fn put_member(graph: &PackageGraph, question: &Question<'_>, out: &mut Answer) {
+    let workspace = graph.workspace();
+    match workspace.member_by_path(Utf8Path::new(question.word(2))) {
+        Ok(by_path) => {
+            let by_name = workspace.member_by_name(question.word(3));
+            put_both(by_path.name(), by_name, out);
+        }
+        Err(error) => out.fail(error),
+    }
 }
 
 fn put_defaults(graph: &PackageGraph, out: &mut Answer) {
@@ -268,40 +280,23 @@ fn put_fields(graph: &PackageGraph, out: &mut Answer) {
     if let Some(path) = workspace.build_directory() {
         out.put(path.as_str());
     }
-    out.put_truth(*workspace.metadata_table() == JsonValue::Bool(false));
-}
-
-fn tell_workspace(graph: &PackageGraph, words: &[&str], out: &mut Answer) {
-    let workspace = graph.workspace();
-    match words {
-        ["fields"] => put_fields(graph, out),
-        ["order"] => put_order(graph, out),
-        ["unread", a, b, c] => put_unread(graph, [a, b, c], out),
-        ["defaults"] => put_defaults(graph, out),
-        ["has-path"] => out.put_truth(workspace.contains_path(Utf8Path::new(""))),
-        ["has-path", path] => out.put_truth(workspace.contains_path(Utf8Path::new(path))),
-        ["has-name", name] => out.put_truth(workspace.contains_name(name)),
-        _ => out.put("unknown question"),
-    }
+    out.put_truth(is_truth(workspace.metadata_table(), false));
 }
 
 /// Answers a question about the workspace.
-pub(super) fn ask_workspace(
-    graph: &PackageGraph,
-    words: &[&str],
-    out: &mut Answer,
-) -> Result<(), Error> {
-    match words {
-        ["members"] => put_members(graph, out),
-        ["member", path, name] => put_member(graph, path, name, out),
-        ["at-paths", a, b] => put_at_paths(graph, [a, b], out),
-        [question @ ("named" | "set-named" | "query-named"), a, b, c] => {
-            put_named(graph, question, [a, b, c], out)
-        }
-        _ => {
-            tell_workspace(graph, words, out);
-            Ok(())
-        }
+pub(super) fn ask_workspace(graph: &PackageGraph, question: &Question<'_>, out: &mut Answer) {
+    let argument = question.word(2);
+    match question.word(1) {
+        "fields" => put_fields(graph, out),
+        "order" => put_order(graph, out),
+        "members" => put_members(graph, out),
+        "member" => put_member(graph, question, out),
+        "defaults" => put_defaults(graph, out),
+        "unread" => put_unread(graph, question, out),
+        "at-paths" => put_at_paths(graph, question, out),
+        "has-path" => out.put_truth(graph.workspace().contains_path(Utf8Path::new(argument))),
+        "has-name" => out.put_truth(graph.workspace().contains_name(argument)),
+        _ => put_named(graph, question, out),
     }
 }
 
