@@ -208,7 +208,7 @@ fn add_details(
 }
 
 /// Adds the package that an object tells with this ID, source, library and dependencies, with details or without. Its
-/// record is made in its place.
+/// record is filled in its place.
 pub(crate) fn add_package<'a>(
     packages: &mut Vec<Package<'a>>,
     json: Object<'_, 'a>,
