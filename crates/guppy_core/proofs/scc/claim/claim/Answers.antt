@@ -175,11 +175,6 @@ returns-clause-looks g c =
 pub returns-clause-graph : goal.returns-clause-graph
 returns-clause-graph g c = c.loop-position.invariant.graph
 
-pub returns-in_err-claim_one : goal.returns-in_err-claim_one
-returns-in_err-claim_one g c =
-    let none = c.from_residual.ensures.0 in
-    record { empty = on_ok _ _ none; limit = on_ok _ _ none; count = on_ok _ _ none; seen = on_ok _ _ none; numbers = on_ok _ _ none; paid = on_ok _ _ none; looks = omega arith; counted = omega arith; graph = refl }
-
 pub returns-in_err-claim_one-2 : goal.returns-in_err-claim_one-2
 returns-in_err-claim_one-2 g c =
     let none = c.from_residual-in_err-claim_one-2.ensures.0 in
@@ -196,3 +191,8 @@ returns-in_err-claim_one-2 g c =
       counted = let old = c.loop-position.invariant.counted in let k = c.loop-k.invariant.looked in rw c.look_at-number.ensures.counted (omega arith);
       graph = rw c.look_at-number.ensures.counted c.loop-k.invariant.graph;
     }
+
+pub returns-in_err-claim_one : goal.returns-in_err-claim_one
+returns-in_err-claim_one g c =
+    let none = c.from_residual.ensures.0 in
+    record { empty = on_ok _ _ none; limit = on_ok _ _ none; count = on_ok _ _ none; seen = on_ok _ _ none; numbers = on_ok _ _ none; paid = on_ok _ _ none; looks = omega arith; counted = omega arith; graph = refl }

@@ -1,6 +1,8 @@
 use Rattle.std.proofs.Common.{◌≡◌, ◌+◌, ◌<◌, ◌≤◌, Bool, [], length, refl, sym, ◌∙◌, arith, Some}
 use Rattle.std.specs.Prelude.{slice_get}
 use Rattle.std.proofs.lemmas.Bool.{not-true, not-false}
+use Rattle.std.proofs.lemmas.List.{append-nil}
+use Rattle.guppy_search.proofs.Exits.{if_ok}
 use Rattle.guppy_search.specs.declared.ix.direction.DependencyDirection.TheVariants.{Forward}
 use Rattle.guppy_search.proofs.Lists.{no_items}
 use Rattle.guppy_core.proofs.Costs.{degree, fits_below}
@@ -107,16 +109,10 @@ insert_position-requires-then-far-frame-clause-small g c =
     let few = c.node_count.ensures.graph.few_nodes in
     omega arith
 
-pub returns-in_err-push-3-clause-looks : goal.returns-in_err-push-3-clause-looks
-returns-in_err-push-3-clause-looks g c = paid g (goal.at.returns-in_err-push-3-clause-looks g c).After-push-then-frame-leaving_at
-
 pub positions_from-requires : goal.positions_from-requires
 positions_from-requires g c =
     let s = rw c.in-Some.ensures.items at c.loop-frame.invariant.search in
     rw (c.as_slice.ensures.value, c.in_ok-push-2.ensures.items) (tracing_small g.kept c.args.graph.now.graph _ _ _ _ _ _ _ s c.node_count.ensures.graph.few_nodes)
-
-pub returns-in_err-positions_from-clause-looks : goal.returns-in_err-positions_from-clause-looks
-returns-in_err-positions_from-clause-looks g c = paid g (goal.at.returns-in_err-positions_from-clause-looks g c).After-push-then-frame-leaving_at
 
 pub returns-then-not-has_position-clause-cycle : goal.returns-then-not-has_position-clause-cycle
 returns-then-not-has_position-clause-cycle g c =
@@ -218,6 +214,91 @@ loop-frame-preserved g c =
       graph = c.loop-frame.invariant.graph;
       counted = let k = c.loop-frame.invariant.counted in omega arith;
     })
+
+pub insert_position-requires-clause-in_range : goal.insert_position-requires-clause-in_range
+insert_position-requires-clause-in_range g c =
+    let test = c.loop-start-test.true in
+    let count = c.node_count-start-end.ensures.count in
+    rw c.loop-start.invariant.search.state.limit_is (omega arith)
+
+pub insert_position-requires-clause-small : goal.insert_position-requires-clause-small
+insert_position-requires-clause-small g c =
+    let test = c.loop-start-test.true in
+    let count = c.node_count-start-end.ensures.count in
+    let few = c.node_count.ensures.graph.few_nodes in
+    omega arith
+
+pub look_at-number-requires-clause-place : goal.look_at-number-requires-clause-place
+look_at-number-requires-clause-place g c = rw (← c.leaving_at.ensures.count) c.if-frame-leaving_at.true
+
+pub has_position-requires : goal.has_position-requires
+has_position-requires g c = rw c.loop-frame.invariant.search.state.done_is (led_below g (goal.at.has_position-requires g c).After-push-then-frame-leaving_at)
+
+pub loop-start-preserved : goal.loop-start-preserved
+loop-start-preserved g c =
+    let same : c.pop.new.self.items ≡ c.loop-frame.frames.items = sym (c.in_default.ensures.items ∙ append-nil _) in
+    let none : length c.pop.new.self.items ≡ 0 = let empty = c.in_default.ensures.cases.1 in let ok = c.pop.new.self.ok in omega arith in
+    record { search = rw same c.loop-frame.invariant.search; empty = none; graph = c.loop-frame.invariant.graph; counted = c.loop-frame.invariant.counted }
+
+pub returns-clause-looks : goal.returns-clause-looks
+returns-clause-looks g c = let paid = c.loop-start.invariant.search.paid in omega arith
+
+pub returns-clause-counted : goal.returns-clause-counted
+returns-clause-counted g c = c.loop-start.invariant.counted
+
+pub returns-clause-graph : goal.returns-clause-graph
+returns-clause-graph g c = c.loop-start.invariant.graph
+
+pub returns-then-not-has_position-clause-counted : goal.returns-then-not-has_position-clause-counted
+returns-then-not-has_position-clause-counted g c = rw c.look_at-number.ensures.counted (let k = c.loop-frame.invariant.counted in omega arith)
+
+pub returns-then-not-has_position-clause-graph : goal.returns-then-not-has_position-clause-graph
+returns-then-not-has_position-clause-graph g c = rw c.look_at-number.ensures.counted c.loop-frame.invariant.graph
+
+pub returns-in_err-seen : goal.returns-in_err-seen
+returns-in_err-seen g c = let none = c.from_residual.ensures.0 in record { cycle = if_ok _ _ none; looks = omega arith; counted = omega arith; graph = refl }
+
+pub returns-in_err-done : goal.returns-in_err-done
+returns-in_err-done g c = let none = c.from_residual-in_err-done.ensures.0 in record { cycle = if_ok _ _ none; looks = omega arith; counted = omega arith; graph = refl }
+
+pub returns-in_err-push : goal.returns-in_err-push
+returns-in_err-push g c =
+    let none = c.from_residual-in_err-push.ensures.0 in
+    let paid = c.loop-start.invariant.search.paid in
+    record { cycle = if_ok _ _ none; looks = omega arith; counted = c.loop-start.invariant.counted; graph = c.loop-start.invariant.graph }
+
+pub returns-in_err-push-2 : goal.returns-in_err-push-2
+returns-in_err-push-2 g c =
+    let none = c.from_residual-in_err-push-2.ensures.0 in
+    let counted = c.loop-frame.invariant.counted in
+    record {
+      cycle = if_ok _ _ none;
+      looks = paid g (goal.at.returns-in_err-push-2 g c).After-push-then-frame-leaving_at;
+      counted = rw c.look_at-number.ensures.counted (omega arith);
+      graph = rw c.look_at-number.ensures.counted c.loop-frame.invariant.graph;
+    }
+
+pub returns-in_err-push-3 : goal.returns-in_err-push-3
+returns-in_err-push-3 g c =
+    let none = c.from_residual-in_err-push-3.ensures.0 in
+    let counted = c.loop-frame.invariant.counted in
+    record {
+      cycle = if_ok _ _ none;
+      looks = paid g (goal.at.returns-in_err-push-3 g c).After-push-then-frame-leaving_at;
+      counted = rw c.look_at-number.ensures.counted (omega arith);
+      graph = rw c.look_at-number.ensures.counted c.loop-frame.invariant.graph;
+    }
+
+pub returns-in_err-positions_from : goal.returns-in_err-positions_from
+returns-in_err-positions_from g c =
+    let none = c.from_residual-in_err-positions_from.ensures.0 in
+    let counted = c.loop-frame.invariant.counted in
+    record {
+      cycle = if_ok _ _ none;
+      looks = paid g (goal.at.returns-in_err-positions_from g c).After-push-then-frame-leaving_at;
+      counted = rw c.look_at-number.ensures.counted (omega arith);
+      graph = rw c.look_at-number.ensures.counted c.loop-frame.invariant.graph;
+    }
 
 pub returns-clause-cycle : goal.returns-clause-cycle
 returns-clause-cycle g c =

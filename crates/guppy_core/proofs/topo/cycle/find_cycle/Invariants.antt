@@ -5,6 +5,14 @@ use Rattle.guppy_core.proofs.Frames.{left}
 use Rattle.guppy_core.proofs.PathSearch.{Tracing}
 use Rattle.guppy_core.proofs.topo.cycle.find_cycle.Given as goal
 
+abbrev pub invariant-loop-start : goal.invariant-loop-start
+invariant-loop-start g l = record {
+  search : Tracing g.kept l.fn.graph.graph l.start (l.fn.graph.looks + length l.fn.graph.graph.links) l.graph.looks l.seen l.done l.frames.items;
+  empty : length l.frames.items ≡ 0;
+  graph : l.graph.graph ≡ l.fn.graph.graph;
+  counted : l.fn.graph.looks ≤ l.graph.looks;
+}
+
 abbrev pub invariant-loop-frame : goal.invariant-loop-frame
 invariant-loop-frame g l = record {
   search : Tracing g.kept l.fn.graph.graph (l.start + 1) (l.fn.graph.looks + length l.fn.graph.graph.links) l.graph.looks l.seen l.done l.frames.items;
@@ -14,11 +22,3 @@ invariant-loop-frame g l = record {
 
 abbrev pub decreases-loop-frame : goal.decreases-loop-frame
 decreases-loop-frame g l = left 1 (degree {E = g.row.G-Edge.Denot} Forward l.fn.graph.graph.links) l.seen l.frames.items
-
-abbrev pub invariant-loop-start : goal.invariant-loop-start
-invariant-loop-start g l = record {
-  search : Tracing g.kept l.fn.graph.graph l.start (l.fn.graph.looks + length l.fn.graph.graph.links) l.graph.looks l.seen l.done l.frames.items;
-  empty : length l.frames.items ≡ 0;
-  graph : l.graph.graph ≡ l.fn.graph.graph;
-  counted : l.fn.graph.looks ≤ l.graph.looks;
-}

@@ -97,10 +97,6 @@ insert_position-requires-then-is_kept g c =
     let few = c.node_count.ensures.graph.few_nodes in
     record { in_range = rw same below; small = omega arith }
 
-pub returns-in_err-push-3-clause-looks : goal.returns-in_err-push-3-clause-looks
-returns-in_err-push-3-clause-looks g c =
-    rw c.look_at-number.ensures.counted (paid g (goal.at.returns-in_err-push-3-clause-looks g c).After-push-then-frame-leaving_at)
-
 pub loop-frame-smaller-then-insert_position-2 : goal.loop-frame-smaller-then-insert_position-2
 loop-frame-smaller-then-insert_position-2 g c =
     let graph = c.args.graph.now.graph in
@@ -183,57 +179,49 @@ returns-clause-order g c =
 pub returns-clause-positions : goal.returns-clause-positions
 returns-clause-positions g c = finishing_positions Forward g.kept c.args.graph.now.graph c.args.starts.now _ _ _ _ _ _ c.loop-start.invariant.search
 
-pub returns-in_err-seen-clause-order : goal.returns-in_err-seen-clause-order
-returns-in_err-seen-clause-order g c = if_ok _ _ c.from_residual.ensures.0
+pub returns-in_err-seen : goal.returns-in_err-seen
+returns-in_err-seen g c = let none = c.from_residual.ensures.0 in record { order = if_ok _ _ none; positions = if_ok _ _ none; looks = omega arith; counted = omega arith; looked = if_ok _ _ none; graph = refl }
 
-pub returns-in_err-seen-clause-positions : goal.returns-in_err-seen-clause-positions
-returns-in_err-seen-clause-positions g c = if_ok _ _ c.from_residual.ensures.0
+pub returns-in_err-push : goal.returns-in_err-push
+returns-in_err-push g c =
+    let none = c.from_residual-in_err-push.ensures.0 in
+    let paid = c.loop-start.invariant.search.paid in
+    record { order = if_ok _ _ none; positions = if_ok _ _ none; looks = omega arith; counted = c.loop-start.invariant.counted; looked = if_ok _ _ none; graph = c.loop-start.invariant.graph }
 
-pub returns-in_err-push-clause-order : goal.returns-in_err-push-clause-order
-returns-in_err-push-clause-order g c = if_ok _ _ c.from_residual-in_err-push.ensures.0
+pub returns-in_err-push-2 : goal.returns-in_err-push-2
+returns-in_err-push-2 g c =
+    let none = c.from_residual-in_err-push-2.ensures.0 in
+    let counted = c.loop-frame.invariant.counted in
+    record {
+      order = if_ok _ _ none;
+      positions = if_ok _ _ none;
+      looks = rw c.look_at-number.ensures.counted (paid g (goal.at.returns-in_err-push-2 g c).After-push-then-frame-leaving_at);
+      counted = rw c.look_at-number.ensures.counted (omega arith);
+      looked = if_ok _ _ none;
+      graph = rw c.look_at-number.ensures.counted c.loop-frame.invariant.graph;
+    }
 
-pub returns-in_err-push-clause-positions : goal.returns-in_err-push-clause-positions
-returns-in_err-push-clause-positions g c = if_ok _ _ c.from_residual-in_err-push.ensures.0
+pub returns-in_err-push-3 : goal.returns-in_err-push-3
+returns-in_err-push-3 g c =
+    let none = c.from_residual-in_err-push-3.ensures.0 in
+    let counted = c.loop-frame.invariant.counted in
+    record {
+      order = if_ok _ _ none;
+      positions = if_ok _ _ none;
+      looks = rw c.look_at-number.ensures.counted (paid g (goal.at.returns-in_err-push-3 g c).After-push-then-frame-leaving_at);
+      counted = rw c.look_at-number.ensures.counted (omega arith);
+      looked = if_ok _ _ none;
+      graph = rw c.look_at-number.ensures.counted c.loop-frame.invariant.graph;
+    }
 
-pub returns-in_err-push-2-clause-order : goal.returns-in_err-push-2-clause-order
-returns-in_err-push-2-clause-order g c = if_ok _ _ c.from_residual-in_err-push-2.ensures.0
+pub returns-in_err-push-4 : goal.returns-in_err-push-4
+returns-in_err-push-4 g c =
+    let none = c.from_residual-in_err-push-4.ensures.0 in
+    let paid = c.loop-frame.invariant.search.paid in
+    record { order = if_ok _ _ none; positions = if_ok _ _ none; looks = omega arith; counted = c.loop-frame.invariant.counted; looked = if_ok _ _ none; graph = c.loop-frame.invariant.graph }
 
-pub returns-in_err-push-2-clause-positions : goal.returns-in_err-push-2-clause-positions
-returns-in_err-push-2-clause-positions g c = if_ok _ _ c.from_residual-in_err-push-2.ensures.0
-
-pub returns-in_err-push-3-clause-order : goal.returns-in_err-push-3-clause-order
-returns-in_err-push-3-clause-order g c = if_ok _ _ c.from_residual-in_err-push-3.ensures.0
-
-pub returns-in_err-push-3-clause-positions : goal.returns-in_err-push-3-clause-positions
-returns-in_err-push-3-clause-positions g c = if_ok _ _ c.from_residual-in_err-push-3.ensures.0
-
-pub returns-in_err-push-4-clause-order : goal.returns-in_err-push-4-clause-order
-returns-in_err-push-4-clause-order g c = if_ok _ _ c.from_residual-in_err-push-4.ensures.0
-
-pub returns-in_err-push-4-clause-positions : goal.returns-in_err-push-4-clause-positions
-returns-in_err-push-4-clause-positions g c = if_ok _ _ c.from_residual-in_err-push-4.ensures.0
-
-pub returns-in_err-push-clause-looks : goal.returns-in_err-push-clause-looks
-returns-in_err-push-clause-looks g c = looks_paid Forward g.kept c.args.graph.now.graph c.args.starts.now _ _ _ _ _ _ c.loop-start.invariant.search
-
-pub returns-in_err-push-clause-graph : goal.returns-in_err-push-clause-graph
-returns-in_err-push-clause-graph g c = c.loop-start.invariant.graph
-
-pub returns-in_err-push-2-clause-looks : goal.returns-in_err-push-2-clause-looks
-returns-in_err-push-2-clause-looks g c =
-    rw c.look_at-number.ensures.counted (paid g (goal.at.returns-in_err-push-2-clause-looks g c).After-push-then-frame-leaving_at)
-
-pub returns-in_err-push-2-clause-graph : goal.returns-in_err-push-2-clause-graph
-returns-in_err-push-2-clause-graph g c = rw c.look_at-number.ensures.counted c.loop-frame.invariant.graph
-
-pub returns-in_err-push-3-clause-graph : goal.returns-in_err-push-3-clause-graph
-returns-in_err-push-3-clause-graph g c = rw c.look_at-number.ensures.counted c.loop-frame.invariant.graph
-
-pub returns-in_err-push-4-clause-looks : goal.returns-in_err-push-4-clause-looks
-returns-in_err-push-4-clause-looks g c = looks_paid Forward g.kept c.args.graph.now.graph c.args.starts.now _ _ _ _ _ _ c.loop-frame.invariant.search
-
-pub returns-in_err-push-4-clause-graph : goal.returns-in_err-push-4-clause-graph
-returns-in_err-push-4-clause-graph g c = c.loop-frame.invariant.graph
+pub returns-clause-counted : goal.returns-clause-counted
+returns-clause-counted g c = c.loop-start.invariant.counted
 
 pub insert_position-requires-clause-in_range : goal.insert_position-requires-clause-in_range
 insert_position-requires-clause-in_range g c = rw c.loop-start.invariant.search.state.limit_is (c.requires.1.1.1.1.0 c.loop-start.start-index 0 c.loop-start-test.true)

@@ -1,5 +1,6 @@
 use Rattle.std.proofs.Common.{length, get_or, subst, refl, arith}
 use Rattle.std.specs.Prelude.{map}
+use Rattle.std.proofs.lemmas.List.{get_or_default}
 use Rattle.std.proofs.lemmas.Option.{slice_get-get_or}
 use Rattle.guppy_search.proofs.Exits.{if_ok, on_ok}
 use Rattle.guppy_search.specs.declared.ix.direction.DependencyDirection.TheVariants.{Forward}
@@ -64,3 +65,47 @@ returns-in_err-numbered g c = let none = c.from_residual.ensures.0 in record { s
 
 pub returns-in_err-positions : goal.returns-in_err-positions
 returns-in_err-positions g c = let none = c.from_residual-in_err-positions.ensures.0 in record { sccs = if_ok _ _ none; order = if_ok _ _ none; leads_on = if_ok _ _ none; looks = c.in_ok-numbered.ensures.looks; counted = c.in_ok-numbered.ensures.counted; twice = on_ok _ _ none; graph = c.in_ok-numbered.ensures.graph }
+
+pub number_components-requires-clause-below : goal.number_components-requires-clause-below
+number_components-requires-clause-below g c =
+    let t = c.order.ensures.listing in
+    let count = c.requires.count in
+    rw c.order.ensures.order (λ k d h.
+    let b = t.below k (get_or c.args.topo.now k d) (slice_get-get_or c.args.topo.now k d h) in
+    omega arith)
+
+pub number_components-requires-clause-room : goal.number_components-requires-clause-room
+number_components-requires-clause-room g c = c.requires.room
+
+pub lay_out-requires-clause-numbers : goal.lay_out-requires-clause-numbers
+lay_out-requires-clause-numbers g c =
+    let numbers = c.in_ok-numbered.ensures.numbers in
+    let len = numbers.length_is in
+    rw c.as_slice.ensures.value (λ k d h.
+    let low = numbers.below k (omega arith) in
+    let same = get_or_default c.in_ok-numbered.numbered.numbers.items k d 0 h in
+    omega arith)
+
+pub lay_out-requires-clause-few : goal.lay_out-requires-clause-few
+lay_out-requires-clause-few g c =
+    let few = c.in_ok-numbered.ensures.few in
+    let small = c.in_ok-numbered.ensures.small in
+    omega arith
+
+pub lay_out-requires-clause-small : goal.lay_out-requires-clause-small
+lay_out-requires-clause-small g c =
+    let len = c.in_ok-numbered.ensures.numbers.length_is in
+    let small = c.in_ok-numbered.ensures.small in
+    rw c.as_slice.ensures.value (omega arith)
+
+pub returns-clause-looks : goal.returns-clause-looks
+returns-clause-looks g c = c.in_ok-numbered.ensures.looks
+
+pub returns-clause-counted : goal.returns-clause-counted
+returns-clause-counted g c = c.in_ok-numbered.ensures.counted
+
+pub returns-clause-twice : goal.returns-clause-twice
+returns-clause-twice g c = c.in_ok-numbered.ensures.twice
+
+pub returns-clause-graph : goal.returns-clause-graph
+returns-clause-graph g c = c.in_ok-numbered.ensures.graph

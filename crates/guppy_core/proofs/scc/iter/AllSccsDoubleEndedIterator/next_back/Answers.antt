@@ -41,3 +41,9 @@ slice_bounds-result-end g c =
 
 pub invariant_of-self : goal.invariant_of-self
 invariant_of-self g c = bounds_front c.in_ok-end.end.now c.self.inside.bounds.now c.in_ok-end.rest.now (length c.self.inside.positions.now) c.in_ok-end.ensures.cases.0 c.self.invariant
+
+pub returns-in_err-start-clause-goes : goal.returns-in_err-start-clause-goes
+returns-in_err-start-clause-goes g c = rw c.from_residual-in_err-start.ensures (record { on = λ finite. tt; keeps = tt; rests = λ finite. tt })
+
+pub returns-in_err-end-clause-goes : goal.returns-in_err-end-clause-goes
+returns-in_err-end-clause-goes g c = rw c.from_residual.ensures (record { on = λ finite. tt; keeps = tt; rests = λ finite. tt })

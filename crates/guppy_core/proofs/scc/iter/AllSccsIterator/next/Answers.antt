@@ -41,3 +41,9 @@ returns-clause-goes g c =
     let count = c.in_ok-start.ensures.cases.1 in
     let less = parts_less (map g.Ix.IndexType.index_of c.self.inside.positions.now) c.self.inside.bounds.now c.in_ok-start.rest.now _ c.self.view_is c.in_ok-end.ensures.item.3.0 (omega arith) in
     record { on = λ finite. (tt, tt, less); keeps = tt; rests = λ finite. tt }
+
+pub returns-in_err-start-clause-goes : goal.returns-in_err-start-clause-goes
+returns-in_err-start-clause-goes g c = rw c.from_residual.ensures (record { on = λ finite. tt; keeps = tt; rests = λ finite. tt })
+
+pub returns-in_err-end-clause-goes : goal.returns-in_err-end-clause-goes
+returns-in_err-end-clause-goes g c = rw c.from_residual-in_err-end.ensures (record { on = λ finite. tt; keeps = tt; rests = λ finite. tt })
