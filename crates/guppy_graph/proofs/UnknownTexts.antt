@@ -23,6 +23,10 @@ pub TellsFault-along : (P Q : ConstructFault → Type 0) (e : Error) → ((f : C
 TellsFault-along P Q (PackageGraphConstructError f) h n = h f n
 TellsFault-along P Q _ h n = n
 
+-- where memory ran out, no fault is told
+pub memory_told : (P : ConstructFault → Type 0) (e : Error) → e ≡ OutOfMemory → TellsFault P e
+memory_told P e is = rw is tt
+
 module _ (Known : List ℕ → Type 0) where
   -- an unknown text alone
   pub first_unknown-alone : (text : List ℕ) → (Known text → ⊥) → IsFirstNot Known (text ∷ []) text

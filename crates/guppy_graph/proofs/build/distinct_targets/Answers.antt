@@ -1,15 +1,27 @@
 use Rattle.std.proofs.Common.{sym, refl, subst, arith, All}
 use Rattle.std.proofs.lemmas.List.{take_all}
 use Rattle.std.proofs.lemmas.Option.{slice_get_read}
+use Rattle.guppy_search.proofs.Exits.{if_ok, on_ok, if_err}
 use Rattle.guppy_graph.specs.Keys.{IsFirstRepeat}
 use Rattle.guppy_graph.specs.Targets.{AreTargetsDistinct, HasTarget}
 use Rattle.guppy_graph.specs.Indexes.{IsTargetIndex, AreTargetIndexes}
 use Rattle.guppy_graph.proofs.Lists.{AllZip-more, All-take_more}
 use Rattle.guppy_graph.proofs.TargetIds.{repeat_not_distinct}
+use Rattle.guppy_graph.proofs.UnknownTexts.{memory_told}
 use Rattle.guppy_graph.proofs.build.distinct_targets.Goals as goal
+
+pub returns-in_err-indexes : goal.returns-in_err-indexes
+returns-in_err-indexes c =
+    let none = c.from_residual.ensures in
+    record { made = if_ok _ _ none.0; accepted = on_ok _ _ none.0; refused = if_err _ _ _ none.1 (λ e is. memory_told _ e is) }
 
 pub loop-package-init : goal.loop-package-init
 loop-package-init c = (rw c.in_ok-indexes.ensures.items tt, λ k d within. absurd (omega arith))
+
+pub returns-in_err-index : goal.returns-in_err-index
+returns-in_err-index c =
+    let none = c.from_residual-in_err-index.ensures in
+    record { made = if_ok _ _ none.0; accepted = on_ok _ _ none.0; refused = if_err _ _ _ none.1 (λ e is. memory_told _ e is) }
 
 pub returns-in-Some-clause-refused : goal.returns-in-Some-clause-refused
 returns-in-Some-clause-refused c =
@@ -29,6 +41,11 @@ returns-in-Some-clause-refused c =
         repeated = repeated;
       },
     )
+
+pub returns-in_err-push : goal.returns-in_err-push
+returns-in_err-push c =
+    let none = c.from_residual-in_err-push.ensures in
+    record { made = if_ok _ _ none.0; accepted = on_ok _ _ none.0; refused = if_err _ _ _ none.1 (λ e is. memory_told _ e is) }
 
 pub loop-package-preserved : goal.loop-package-preserved
 loop-package-preserved c =

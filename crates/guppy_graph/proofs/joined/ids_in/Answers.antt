@@ -1,10 +1,12 @@
-use Rattle.std.proofs.Common.{◌≡◌, ◌∙◌, ◌+◌, ◌++◌, ◌∷◌, ◌≤◌, length, take, drop, sym, ap, subst, arith}
+use Rattle.std.proofs.Common.{◌≡◌, ◌∙◌, ◌+◌, ◌++◌, ◌∷◌, ◌≤◌, length, take, drop, sym, ap, subst, arith, map, Some}
 use Rattle.std.specs.List.{flat_map}
+use Rattle.std.specs.Option.{option_copied}
 use Rattle.std.specs.Str.{IsUtf8}
-use Rattle.std.proofs.lemmas.List.{at_drop_more, length-append}
+use Rattle.std.proofs.lemmas.List.{at_drop_more, length-append, take_all}
 use Rattle.std.proofs.Math.Seq.{take-append_seam}
 use Rattle.std.proofs.lemmas.List.Concat.{flat_map-cons}
 use Rattle.std.proofs.lemmas.Str.{IsCharBoundary-from_take}
+use Rattle.guppy_search.proofs.Exits.{if_ok}
 use Rattle.guppy_data.specs.declared.records.PackageRecord.{PackageRecord}
 use Rattle.guppy_graph.proofs.joined.ids_in.Goals as goal
 
@@ -22,3 +24,12 @@ split_at-requires c =
     let within : length id ≤ length rest = let long = ap length split ∙ length-append id behind in omega arith in
     let front : take (length id) rest ≡ id = ap (take (length id)) split ∙ take-append_seam id behind in
     IsCharBoundary-from_take rest (length id) c.loop-package.invariant.text within (subst IsUtf8 (sym front) c.repr.utf8)
+
+pub returns-in_err-ids : goal.returns-in_err-ids
+returns-in_err-ids c = if_ok _ _ c.from_residual.ensures.0
+
+pub returns-in_err-push : goal.returns-in_err-push
+returns-in_err-push c = if_ok _ _ c.from_residual-in_err-push.ensures.0
+
+pub returns : goal.returns
+returns c = subst (λ packages. map option_copied c.loop-package.ids.items ≡ map (λ (r : PackageRecord). Some r.id) packages) (take_all c.loop-package.package-index c.args.packages.now c.loop-package-test.false) c.loop-package.invariant.taken

@@ -1,11 +1,26 @@
-use Rattle.std.proofs.Common.{refl, subst, All, slice_get, ℕ, get_or}
+use Rattle.std.proofs.Common.{◌≡◌, ◌∙◌, sym, refl, arith, subst, All, slice_get, ℕ, get_or, true, false}
 use Rattle.std.specs.Prelude.{IsSomeAnd}
 use Rattle.std.proofs.lemmas.List.{take_all}
 use Rattle.std.proofs.lemmas.List.Elements.{All-more}
-use Rattle.std.proofs.lemmas.Option.{slice_get_read}
+use Rattle.std.proofs.lemmas.Option.{slice_get_read, slice_get-get_or}
 use Rattle.guppy_graph.specs.Verified.{HasFittingKind}
-use Rattle.guppy_graph.proofs.Lists.{of_some}
+use Rattle.guppy_graph.proofs.Lists.{of_some, in_some}
 use Rattle.guppy_graph.proofs.verify.first_misfit.Goals as goal
+
+pub loop-place-init : goal.loop-place-init
+loop-place-init c = λ k d within. absurd (omega arith)
+
+pub returns-then-not-has_fitting_kind : goal.returns-then-not-has_fitting_kind
+returns-then-not-has_fitting_kind c =
+    let at = get_or c.args.places.now c.loop-place.place 0 in
+    let target = c.index-targets-position.result in
+    let found = slice_get_read c.args.targets.now _ at target refl (c.requires c.loop-place.place 0 c.loop-place-test.true) c.index-targets-position.is in
+    record {
+      item = at;
+      found = slice_get-get_or c.args.places.now c.loop-place.place 0 c.loop-place-test.true;
+      lacks = λ fits. absurd (let e : true ≡ false = sym (c.has_fitting_kind.ensures.1 (in_some (slice_get c.args.targets.now at) HasFittingKind target found fits)) ∙ c.if-not-has_fitting_kind.true in cc);
+      before = c.loop-place.invariant;
+    }
 
 pub loop-place-preserved : goal.loop-place-preserved
 loop-place-preserved c =

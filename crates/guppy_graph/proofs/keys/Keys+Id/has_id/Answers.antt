@@ -21,7 +21,5 @@ returns-in-None c =
     let packages = c.args.self.now.packages.now in
     let p = c.args.position in
     let id = c.args.id.now in
-    let is : None ≡ id_at packages p = rw c.in-None.is at c.text_at.ensures in (
-      λ no. absurd (cc),
-      λ has. absurd (keyless packages p id is has),
-    )
+    let is : None ≡ id_at packages p = rw c.in-None.is at c.text_at.ensures in
+    (λ no. absurd (cc), λ has. absurd (keyless packages p id is has))
