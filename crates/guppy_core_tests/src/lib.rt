@@ -1,4 +1,5 @@
-//! Tests of `guppy_core` through its public calls alone.
+//! Tests of `guppy_core` through its public calls alone, and of `guppy_flat`, each of its calls on one graph: generated
+//! graphs are judged by the tests of `rust/`.
 //!
 //! They stand beside the library and not in it: a crate with tests is proved twice, with them and without.
 //! Examples of one kind are the cases of a table, each with its name, what is given, and what holds of it.
@@ -10,6 +11,8 @@ mod buffered;
 mod cycles;
 #[cfg(test)]
 mod dfs;
+#[cfg(test)]
+mod flat;
 #[cfg(test)]
 mod graphs;
 #[cfg(test)]

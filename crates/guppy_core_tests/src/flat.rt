@@ -1,4 +1,4 @@
-//! Two depends on zero, which depends on one and back; one has a link to itself.
+//! The calls of `guppy_flat`. Two depends on zero, which depends on one and back; one has a link to itself.
 
 use guppy_flat::{
     DependencyDirection, Ends, GraphFault, components, cycle, links, order, reach, roots,

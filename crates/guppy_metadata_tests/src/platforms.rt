@@ -1,6 +1,8 @@
-use crate::caller::enabled_on;
+//! `guppy_target`. What Cargo reads as the platforms of a dependency, and whether it takes the dependency in on Linux, was
+//! asked of Cargo 1.95. The lines are those that `rustc --print cfg` prints there.
 use guppy::platform::{EnabledTernary, PlatformStatus, PlatformStatusImpl, TargetEval, TargetSpec};
-use guppy_target::{CfgEval, Platform, PlatformFault};
+use guppy_callers::platform::enabled_on;
+use guppy_target::{CfgEval, Platform, PlatformFault, are_settings};
 use std::alloc::Global;
 use std::process::Abort;
 use std::test::Fail;
@@ -197,4 +199,12 @@ fn statuses(rt: HostRuntime) {
     ] {
         assert!(rt; status_of(&rt, rt.alloc(), texts) == wanted);
     }
+}
+
+#[test]
+fn settings(rt: HostRuntime) {
+    assert!(rt; are_settings(""));
+    assert!(rt; are_settings("unix\r\ntarget_os=\"linux\"\n"));
+    assert!(rt; !are_settings("unix\n\nwindows"));
+    assert!(rt; !are_settings("unix\ntarget_os=linux"));
 }
