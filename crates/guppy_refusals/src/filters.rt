@@ -1,5 +1,5 @@
 //! Parts of a set, by a callback that counts its calls.
-use crate::told::{begin, tell_calls, tell_set};
+use crate::told::{begin, tell_calls, tell_made, tell_set};
 use crate::world::World;
 use guppy::graph::DependencyDirection;
 use guppy::{Error, PackageMetadata, PackageSet};
@@ -21,14 +21,17 @@ fn ask_filter(rt: &HostRuntime, set: &PackageSet<'_>, is_lent: bool) -> Result<(
         set.filter(FORWARD, callback)
     };
     tell_calls(rt, calls);
-    let kept = kept?;
-    tell_set(rt, &kept);
-    Ok(())
+    tell_made(rt, kept)
 }
 
-fn tell_halves(rt: &HostRuntime, halves: &(PackageSet<'_>, PackageSet<'_>)) {
+fn tell_halves(
+    rt: &HostRuntime,
+    halves: Result<(PackageSet<'_>, PackageSet<'_>), Error>,
+) -> Result<(), Error> {
+    let halves = halves?;
     tell_set(rt, &halves.0);
     tell_set(rt, &halves.1);
+    Ok(())
 }
 
 fn ask_partition(rt: &HostRuntime, set: &PackageSet<'_>, is_lent: bool) -> Result<(), Error> {
@@ -45,9 +48,7 @@ fn ask_partition(rt: &HostRuntime, set: &PackageSet<'_>, is_lent: bool) -> Resul
         set.partition(FORWARD, callback)
     };
     tell_calls(rt, calls);
-    let halves = halves?;
-    tell_halves(rt, &halves);
-    Ok(())
+    tell_halves(rt, halves)
 }
 
 // Leaves out the first package.
@@ -73,18 +74,16 @@ fn ask_filter_partition(
         set.filter_partition(FORWARD, callback)
     };
     tell_calls(rt, calls);
-    let halves = halves?;
-    tell_halves(rt, &halves);
-    Ok(())
+    tell_halves(rt, halves)
 }
 
 pub(crate) fn ask(rt: &HostRuntime, world: &World<'_>, call: &str) -> Result<(), Error> {
     match call {
-        "filter" => ask_filter(rt, world.all, false),
-        "filter_mut" => ask_filter(rt, world.all, true),
-        "partition" => ask_partition(rt, world.all, false),
-        "partition_mut" => ask_partition(rt, world.all, true),
-        "filter_partition" => ask_filter_partition(rt, world.all, false),
-        _ => ask_filter_partition(rt, world.all, true),
+        "filter" => ask_filter(rt, &world.all, false),
+        "filter_mut" => ask_filter(rt, &world.all, true),
+        "partition" => ask_partition(rt, &world.all, false),
+        "partition_mut" => ask_partition(rt, &world.all, true),
+        "filter_partition" => ask_filter_partition(rt, &world.all, false),
+        _ => ask_filter_partition(rt, &world.all, true),
     }
 }

@@ -1,11 +1,11 @@
 //! Lists of positions: sets that are made of them, and cycles.
 ghost use Rattle.std.specs.Prelude.{◌<◌, length, All, IfOk};
 
-use crate::positions::{DevLinks, graph_of, tell_positions};
+use crate::positions::{DevLinks, tell_core};
 use crate::told::{begin, tell_all, tell_line};
 use guppy::graph::{IndexType, PackageIx};
 use guppy::positions::{CountedGraph, Graph, IxSet, ResolveCore, find_cycle};
-use std::alloc::{AllocError, Global};
+use std::alloc::AllocError;
 
 // Those of the positions that the graph has.
 fn ixs_of(graph: &Graph<DevLinks>, positions: &[usize]) -> Result<Vec<PackageIx>, AllocError>
@@ -20,10 +20,11 @@ fn ixs_of(graph: &Graph<DevLinks>, positions: &[usize]) -> Result<Vec<PackageIx>
     Ok(ixs)
 }
 
-fn made(graph: &Graph<DevLinks>, ixs: &[PackageIx]) -> Result<IxSet<DevLinks>, AllocError>
+fn made(graph: &Graph<DevLinks>, ixs: &[PackageIx]) -> Result<ResolveCore<DevLinks>, AllocError>
     requires { All (λ ix. ix.0 < length graph.now.nodes) ixs.now }
 {
-    IxSet::from_ixs(graph.alloc(), ixs.iter().copied(), graph.node_count())
+    let set = IxSet::from_ixs(graph.alloc(), ixs.iter().copied(), graph.node_count())?;
+    Ok(ResolveCore::from_included(set))
 }
 
 fn made_core(
@@ -70,24 +71,18 @@ fn ask_set(
     requires { All (λ ix. ix.0 < length graph.now.nodes) ixs.now }
 {
     begin(rt);
-    let set = if call == "from_ixs" {
-        ResolveCore::from_included(made(graph, ixs)?)
+    let core = if call == "from_ixs" {
+        made(graph, ixs)
     } else {
-        made_core(graph, ixs)?
+        made_core(graph, ixs)
     };
-    tell_positions(rt, set.included());
-    Ok(())
+    tell_core(rt, core)
 }
 
-fn ask_graph(rt: &HostRuntime, graph: &Graph<DevLinks>, call: &str) -> Result<(), AllocError> {
+pub(crate) fn ask(rt: &HostRuntime, graph: &Graph<DevLinks>, call: &str) -> Result<(), AllocError> {
     if let "find_cycle" | "find_no_cycle" = call {
         return ask_cycle(rt, graph, call);
     }
     let ixs = ixs_of(graph, &[2, 0, 2])?;
     ask_set(rt, graph, ixs.as_slice(), call)
-}
-
-pub(crate) fn ask(rt: &HostRuntime, alloc: Global, call: &str) -> Result<(), AllocError> {
-    let graph = graph_of(alloc)?;
-    ask_graph(rt, &graph, call)
 }

@@ -1,6 +1,7 @@
 //! Questions about packages by their IDs, paths and names, of which some are unknown: the error then has a
 //! copy of the text.
-use crate::told::{begin, tell_line};
+use crate::queries;
+use crate::told::{begin, tell_answer, tell_line, tell_made};
 use crate::world::World;
 use guppy::graph::DependencyDirection;
 use guppy::{DependsCache, Error, PackageId, Utf8Path};
@@ -40,10 +41,9 @@ fn ask_cache(rt: &HostRuntime, world: &World<'_>) -> Result<(), Error> {
     let mut cache = world.graph.new_depends_cache()?;
     tell_cache(rt, world, &mut cache);
     begin(rt);
-    let asked = cache.depends_on(world.a, world.z);
+    let asked = cache.depends_on(world.a, &world.z);
     tell_cache(rt, world, &mut cache);
-    tell_line(rt, &asked?);
-    Ok(())
+    tell_answer(rt, asked)
 }
 
 fn ask_of_two(
@@ -56,13 +56,12 @@ fn ask_of_two(
     let graph = world.graph;
     begin(rt);
     let holds = match call {
-        "directly_depends_on" => graph.directly_depends_on(from, to)?,
-        "is_cyclic" => graph.cycles().is_cyclic(from, to)?,
-        "contains" => world.x.contains(to)?,
-        _ => graph.depends_on(from, to)?,
+        "directly_depends_on" => graph.directly_depends_on(from, to),
+        "is_cyclic" => graph.cycles().is_cyclic(from, to),
+        "contains" => world.x.contains(to),
+        _ => graph.depends_on(from, to),
     };
-    tell_line(rt, &holds);
-    Ok(())
+    tell_answer(rt, holds)
 }
 
 // Looks up a package that isn't there.
@@ -71,7 +70,7 @@ fn ask_for_unknown(rt: &HostRuntime, world: &World<'_>, call: &str) -> Result<()
     let package = match call {
         "member_by_path" => world.graph.workspace().member_by_path(Utf8Path::new("z")),
         "member_by_name" => world.graph.workspace().member_by_name("z"),
-        _ => world.graph.metadata(world.z),
+        _ => world.graph.metadata(&world.z),
     };
     tell_line(rt, &package?.name());
     Ok(())
@@ -80,7 +79,7 @@ fn ask_for_unknown(rt: &HostRuntime, world: &World<'_>, call: &str) -> Result<()
 fn ask_link(rt: &HostRuntime, world: &World<'_>) -> Result<(), Error> {
     let package = world.graph.metadata(world.a)?;
     begin(rt);
-    let link = package.link_between(world.z, DependencyDirection::Forward)?;
+    let link = package.link_between(&world.z, DependencyDirection::Forward)?;
     tell_line(rt, &link.is_some());
     Ok(())
 }
@@ -95,11 +94,10 @@ fn ask_of_list(
     let ids = [world.a, unknown].into_iter();
     begin(rt);
     if call == "query_forward" {
-        world.graph.query_forward(ids)?;
+        queries::tell_made(rt, world.graph.query_forward(ids))
     } else {
-        world.graph.resolve_ids(ids)?;
+        tell_made(rt, world.graph.resolve_ids(ids))
     }
-    Ok(())
 }
 
 pub(crate) fn ask(rt: &HostRuntime, world: &World<'_>, call: &str) -> Result<(), Error> {
@@ -108,10 +106,10 @@ pub(crate) fn ask(rt: &HostRuntime, world: &World<'_>, call: &str) -> Result<(),
         "new" | "new_depends_cache" => ask_new_cache(rt, world, call),
         "cache" => ask_cache(rt, world),
         "depends_on_unknown" | "directly_depends_on" | "is_cyclic" | "contains" => {
-            ask_of_two(rt, world, call, world.a, world.z)
+            ask_of_two(rt, world, call, world.a, &world.z)
         }
         "link_between" => ask_link(rt, world),
-        "query_forward" | "resolve_ids" => ask_of_list(rt, world, call, world.z),
+        "query_forward" | "resolve_ids" => ask_of_list(rt, world, call, &world.z),
         _ => ask_for_unknown(rt, world, call),
     }
 }

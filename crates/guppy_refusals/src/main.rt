@@ -22,8 +22,10 @@ mod told;
 mod verifying;
 mod world;
 
-use crate::records::{Ends, id_of, records_of};
-use crate::world::{World, graph_of, member, sets_of, tell_world};
+use crate::positions::DevLinks;
+use crate::records::{Ends, records_of};
+use crate::world::{World, graph_of, member, tell_world, world_of};
+use guppy::positions::Graph;
 use guppy::{DependencyKind, Error, IntoGraph, PackageGraph};
 use std::alloc::{AllocError, Global};
 use std::process::ExitCode;
@@ -49,14 +51,29 @@ fn ask_from_records(rt: &HostRuntime, alloc: Global) -> Result<(), Error> {
     Ok(())
 }
 
+// Cases that need a graph by position.
+fn ask_by_position(
+    rt: &HostRuntime,
+    graph: &Graph<DevLinks>,
+    group: &str,
+    call: &str,
+) -> Result<(), AllocError> {
+    match group {
+        "positions" => positions::ask(rt, graph, call),
+        "ixs" => ixs::ask(rt, graph, call),
+        _ => searches::ask(rt, graph, call),
+    }
+}
+
 // Cases that need nothing of the world.
 fn ask_apart(rt: &HostRuntime, alloc: Global, group: &str, call: &str) -> Result<(), AllocError> {
-    match group {
-        "data" => data::ask(rt, alloc, call),
-        "positions" => positions::ask(rt, alloc, call),
-        "ixs" => ixs::ask(rt, alloc, call),
-        _ => searches::ask(rt, alloc, call),
+    if group == "data" {
+        return data::ask(rt, alloc, call);
     }
+    if let "from_parts" | "thousand_by_sevens" = call {
+        return positions::ask_for_parts(rt, alloc, call);
+    }
+    ask_by_position(rt, &positions::graph_of(alloc)?, group, call)
 }
 
 fn ask(
@@ -80,45 +97,36 @@ fn ask(
     }
 }
 
-// Tells whether memory was refused.
-fn try_once(rt: &HostRuntime, alloc: Global, world: &World<'_>, case: &str) -> bool {
-    let (group, call) = case.split_once('.').unwrap_or((case, ""));
-    tell_world(rt, world);
-    let asked = ask(rt, alloc, world, group, call);
+// Tells what was answered, and whether memory was refused.
+fn tell_done(rt: &HostRuntime, asked: &Result<(), Error>) -> bool {
     told::tell_line(rt, &"done");
-    if let Err(error) = &asked {
+    if let Err(error) = asked {
         told::tell_line(rt, error);
     }
     matches!(asked, Err(Error::OutOfMemory))
 }
 
+// Tells whether memory was refused.
+fn try_once(rt: &HostRuntime, alloc: Global, world: &World<'_>, group: &str, call: &str) -> bool {
+    tell_world(rt, world);
+    tell_done(rt, &ask(rt, alloc, world, group, call))
+}
+
 // Does the case, and where it is refused once more.
 fn try_case(rt: &HostRuntime, alloc: Global, world: &World<'_>, case: &str) {
-    if try_once(rt, alloc, world, case) {
-        try_once(rt, alloc, world, case);
+    let (group, call) = case.split_once('.').unwrap_or((case, ""));
+    if try_once(rt, alloc, world, group, call) {
+        try_once(rt, alloc, world, group, call);
     }
     tell_world(rt, world);
 }
 
 fn try_in(rt: &HostRuntime, alloc: Global, graph: &PackageGraph, case: &str) -> Result<(), Error> {
-    let a = member(graph, "a")?;
-    let b = member(graph, "b")?;
-    let c = member(graph, "c")?;
-    let sets = sets_of(graph, a, b, c)?;
-    let query = graph.query_forward([a].into_iter())?;
-    let z = id_of(alloc, "z");
-    if let [x, y, all] = sets.as_slice() {
-        let world = World {
-            graph,
-            a,
-            b,
-            c,
-            z: &z,
-            x,
-            y,
-            all,
-            query: &query,
-        };
+    let a = member(graph, "a");
+    let b = member(graph, "b");
+    let c = member(graph, "c");
+    if let (Some(a), Some(b), Some(c)) = (a, b, c) {
+        let world = world_of(alloc, graph, a, b, c)?;
         try_case(rt, alloc, &world, case);
     }
     Ok(())
@@ -130,7 +138,9 @@ fn run_case(rt: &HostRuntime, alloc: Global, case: &str) -> Result<(), Error> {
 }
 
 fn run_cases(rt: &HostRuntime) -> io::Result<()> {
-    for case in env::args(rt)?.skip(1) {
+    let mut words = env::args(rt)?;
+    words.next();
+    for case in words {
         told::tell_line(rt, &case);
         if let Err(error) = run_case(rt, rt.alloc(), case.as_str()) {
             told::tell_line(rt, &error);

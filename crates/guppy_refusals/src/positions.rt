@@ -88,6 +88,15 @@ pub(crate) fn tell_positions(rt: &HostRuntime, set: &IxSet<DevLinks>) {
     tell_all(rt, set.ones(), &"positions");
 }
 
+/// The positions of what was included, where memory was found.
+pub(crate) fn tell_core(
+    rt: &HostRuntime,
+    core: Result<ResolveCore<DevLinks>, AllocError>,
+) -> Result<(), AllocError> {
+    tell_positions(rt, core?.included());
+    Ok(())
+}
+
 pub(crate) fn index_of(graph: &Graph<DevLinks>) -> Result<TopoWithCycles<PackageIx>, AllocError>
     ensures { IfOk result (λ topo. length topo ≡ length graph.now.nodes) }
 {
@@ -232,8 +241,7 @@ fn ask_made(
     begin(rt);
     let set = made(graph, x, y, call);
     tell_positions(rt, x.included());
-    tell_positions(rt, set?.included());
-    Ok(())
+    tell_core(rt, set)
 }
 
 fn ask_of_sets(
@@ -257,7 +265,7 @@ fn ask_of_sets(
     }
 }
 
-fn ask_graph(rt: &HostRuntime, graph: &Graph<DevLinks>, call: &str) -> Result<(), AllocError> {
+pub(crate) fn ask(rt: &HostRuntime, graph: &Graph<DevLinks>, call: &str) -> Result<(), AllocError> {
     let x = ResolveCore::from_included(set_of(graph, &[0, 1])?);
     let y = ResolveCore::from_included(set_of(graph, &[1, 2])?);
     ask_of_sets(rt, graph, &x, &y, call)
@@ -277,10 +285,10 @@ fn ask_parts(
     Ok(())
 }
 
-pub(crate) fn ask(rt: &HostRuntime, alloc: Global, call: &str) -> Result<(), AllocError> {
-    match call {
-        "from_parts" => ask_parts(rt, alloc, 4, links_of(alloc)?),
-        "thousand_by_sevens" => ask_parts(rt, alloc, MANY, many_links(alloc)?),
-        _ => ask_graph(rt, &graph_of(alloc)?, call),
+/// Makes a graph by position of its parts.
+pub(crate) fn ask_for_parts(rt: &HostRuntime, alloc: Global, call: &str) -> Result<(), AllocError> {
+    if call == "from_parts" {
+        return ask_parts(rt, alloc, 4, links_of(alloc)?);
     }
+    ask_parts(rt, alloc, MANY, many_links(alloc)?)
 }

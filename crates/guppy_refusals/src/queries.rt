@@ -42,9 +42,16 @@ fn made<'g>(world: &World<'g>, call: &str) -> Result<PackageQuery<'g>, Error> {
     }
 }
 
+/// The query that was made, where it was.
+pub(crate) fn tell_made(
+    rt: &HostRuntime,
+    made: Result<PackageQuery<'_>, Error>,
+) -> Result<(), Error> {
+    tell_query(rt, &made?);
+    Ok(())
+}
+
 pub(crate) fn ask(rt: &HostRuntime, world: &World<'_>, call: &str) -> Result<(), Error> {
     begin(rt);
-    let query = made(world, call)?;
-    tell_query(rt, &query);
-    Ok(())
+    tell_made(rt, made(world, call))
 }

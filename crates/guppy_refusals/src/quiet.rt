@@ -140,8 +140,8 @@ fn ask_lists(rt: &HostRuntime, world: &World<'_>) -> Result<(), Error> {
         tell(rt, package.name());
     }
     tell(rt, world.x == world.y);
-    tell(rt, world.x.same_packages(world.y));
-    tell_set(rt, world.x);
+    tell(rt, world.x.same_packages(&world.y));
+    tell_set(rt, &world.x);
     Ok(())
 }
 
@@ -247,7 +247,7 @@ pub(crate) fn ask(
     match call {
         "look_ups" => ask_look_ups(rt, world),
         "members" => ask_members(rt, world),
-        "iterators" => ask_iterators(rt, world.all),
+        "iterators" => ask_iterators(rt, &world.all),
         "cache" => ask_cache(rt, world),
         "verify" => ask_verify(rt, alloc),
         "data" => Ok(ask_data(rt, alloc)?),

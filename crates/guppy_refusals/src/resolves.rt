@@ -3,7 +3,7 @@ ghost use Rattle.std.specs.Prelude.{◌≡◌, ◌==◌, ℕ, ◌+◌, ◌%◌, 
 ghost use Rattle.guppy.specs.Visitors.{MayVisitAt};
 
 use crate::records::Ends;
-use crate::told::{begin, tell, tell_calls, tell_line, tell_set};
+use crate::told::{begin, tell, tell_calls, tell_line, tell_made, tell_set};
 use crate::world::{World, graph_of};
 use guppy::graph::DependencyDirection;
 use guppy::{
@@ -53,12 +53,17 @@ fn resolved_with<'g, V: PackageLinkVisitor + Drop>(
 }
 
 // The visitor is lent, or handed over as a reference or behind a `dyn`.
-fn ask_counted(rt: &HostRuntime, query: PackageQuery<'_>, call: &str) -> Result<(), Error> {
-    let mut counter = REFUSES_SECOND;
+fn ask_counted(
+    rt: &HostRuntime,
+    query: PackageQuery<'_>,
+    call: &str,
+    refused: usize,
+) -> Result<(), Error> {
+    let mut counter = RefusesOne { calls: 0, refused };
     tell_calls(rt, counter.calls);
     begin(rt);
     let set = match call {
-        "resolve_with_mut" => query.resolve_with_mut(&mut counter),
+        "resolve_with_mut" | "diamond_under_refusals" => query.resolve_with_mut(&mut counter),
         "resolve_with_dyn" => {
             let visitor: &mut dyn PackageLinkVisitor = &mut counter;
             resolved_with(query, visitor)
@@ -66,8 +71,7 @@ fn ask_counted(rt: &HostRuntime, query: PackageQuery<'_>, call: &str) -> Result<
         _ => resolved_with(query, &mut counter),
     };
     tell_calls(rt, counter.calls);
-    tell_set(rt, &set?);
-    Ok(())
+    tell_made(rt, set)
 }
 
 fn ask_closure(rt: &HostRuntime, query: PackageQuery<'_>, call: &str) -> Result<(), Error> {
@@ -84,8 +88,7 @@ fn ask_closure(rt: &HostRuntime, query: PackageQuery<'_>, call: &str) -> Result<
         query.resolve_with_fn(visitor)
     };
     tell_calls(rt, calls);
-    tell_set(rt, &set?);
-    Ok(())
+    tell_made(rt, set)
 }
 
 fn ask_recorded(rt: &HostRuntime, query: PackageQuery<'_>) -> Result<(), Error> {
@@ -117,29 +120,19 @@ fn ask_set(
     } else {
         resolved_in_a_box(alloc, query)
     };
-    tell_set(rt, &set?);
-    Ok(())
+    tell_made(rt, set)
 }
 
 // Forward from the package a, where the third call shows the first link to the package d.
-fn ask_once(rt: &HostRuntime, graph: &PackageGraph) -> Result<(), Error> {
+fn ask_from_first(rt: &HostRuntime, graph: &PackageGraph, call: &str) -> Result<(), Error> {
     let first = graph.workspace().member_by_name("a")?;
     let query = first.to_package_query(FORWARD)?;
-    let mut visitor = RefusesOne {
-        calls: 0,
-        refused: 3,
-    };
-    tell_calls(rt, visitor.calls);
-    begin(rt);
-    let set = query.resolve_with_mut(&mut visitor);
-    tell_calls(rt, visitor.calls);
-    tell_set(rt, &set?);
-    Ok(())
+    ask_counted(rt, query, call, 3)
 }
 
-fn ask_diamond(rt: &HostRuntime, alloc: Global) -> Result<(), Error> {
+fn ask_diamond(rt: &HostRuntime, alloc: Global, call: &str) -> Result<(), Error> {
     let graph = graph_of(alloc, &["a", "b", "c", "d"], &DIAMOND)?;
-    ask_once(rt, &graph)
+    ask_from_first(rt, &graph, call)
 }
 
 // Copies the context at its first call, and keeps whether that was refused.
@@ -163,6 +156,21 @@ fn ask_context(rt: &HostRuntime, query: PackageQuery<'_>) -> Result<(), Error> {
     Ok(())
 }
 
+fn ask_of_query(
+    rt: &HostRuntime,
+    alloc: Global,
+    query: PackageQuery<'_>,
+    call: &str,
+) -> Result<(), Error> {
+    match call {
+        "resolve" | "resolve_with_box" => ask_set(rt, alloc, query, call),
+        "resolve_recorded" => ask_recorded(rt, query),
+        "resolve_with_fn" | "resolve_with_fn_mut" => ask_closure(rt, query, call),
+        "context_clone" => ask_context(rt, query),
+        _ => ask_counted(rt, query, call, 2),
+    }
+}
+
 pub(crate) fn ask(
     rt: &HostRuntime,
     alloc: Global,
@@ -170,14 +178,7 @@ pub(crate) fn ask(
     call: &str,
 ) -> Result<(), Error> {
     if call == "diamond_under_refusals" {
-        return ask_diamond(rt, alloc);
+        return ask_diamond(rt, alloc, call);
     }
-    let query = world.query.clone()?;
-    match call {
-        "resolve" | "resolve_with_box" => ask_set(rt, alloc, query, call),
-        "resolve_recorded" => ask_recorded(rt, query),
-        "resolve_with_fn" | "resolve_with_fn_mut" => ask_closure(rt, query, call),
-        "context_clone" => ask_context(rt, query),
-        _ => ask_counted(rt, query, call),
-    }
+    ask_of_query(rt, alloc, world.query.clone()?, call)
 }

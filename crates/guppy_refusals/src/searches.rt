@@ -3,7 +3,7 @@ ghost use Rattle.std.specs.Prelude.{◌≡◌, ◌<◌, length, All, IfOk};
 ghost use Rattle.guppy.specs.Resolve.{IsCallable};
 ghost use Rattle.guppy.specs.SearchTypes.ix.direction.DependencyDirection.TheVariants.{Forward};
 
-use crate::positions::{DevLinks, graph_of, set_of, tell_positions};
+use crate::positions::{DevLinks, set_of, tell_core, tell_positions};
 use crate::told::{begin, tell, tell_calls, tell_line};
 use guppy::graph::{DependencyDirection, IndexType, PackageIx};
 use guppy::positions::{
@@ -95,8 +95,7 @@ fn ask_buffered(
     if filter.is_refused {
         tell_line(rt, &"its own list was refused");
     }
-    tell_positions(rt, set?.included());
-    Ok(())
+    tell_core(rt, set)
 }
 
 fn with_callback<F: FnMut(usize) -> bool>(
@@ -136,8 +135,7 @@ fn ask_closure(
     };
     let set = with_callback(graph, start, callback, call);
     tell_calls(rt, calls);
-    tell_positions(rt, set?.included());
-    Ok(())
+    tell_core(rt, set)
 }
 
 // Refuses the second link that it is shown, and counts all.
@@ -226,15 +224,25 @@ fn ask_cache(rt: &HostRuntime, graph: &Graph<DevLinks>) -> Result<(), AllocError
     Ok(())
 }
 
-pub(crate) fn ask(rt: &HostRuntime, alloc: Global, call: &str) -> Result<(), AllocError> {
-    let graph = graph_of(alloc)?;
-    let start = set_of(&graph, &[0])?;
+fn ask_from(
+    rt: &HostRuntime,
+    graph: &Graph<DevLinks>,
+    start: &IxSet<DevLinks>,
+    call: &str,
+) -> Result<(), AllocError>
+    requires { length start.now ≡ length graph.now.nodes }
+{
     match call {
         "reachable_with_fn" | "reachable_filtered" | "with_edge_filter" | "with_edge_filter_mut" =>
-            { ask_closure(rt, &graph, &start, call) }
-        "reachable_with" => ask_lent(rt, &graph, &start),
-        "reachable_recorded" => ask_recorded(rt, &graph, &start),
-        "reach_cache" => ask_cache(rt, &graph),
-        _ => ask_buffered(rt, &graph, &start, call),
+            { ask_closure(rt, graph, start, call) }
+        "reachable_with" => ask_lent(rt, graph, start),
+        "reachable_recorded" => ask_recorded(rt, graph, start),
+        "reach_cache" => ask_cache(rt, graph),
+        _ => ask_buffered(rt, graph, start, call),
     }
+}
+
+pub(crate) fn ask(rt: &HostRuntime, graph: &Graph<DevLinks>, call: &str) -> Result<(), AllocError> {
+    let start = set_of(graph, &[0])?;
+    ask_from(rt, graph, &start, call)
 }

@@ -1,18 +1,18 @@
 //! Sets that are made of names or of sets.
-use crate::told::{begin, tell_set};
+use crate::told::{begin, tell_made};
 use crate::world::{World, names_of, paths_of};
 use guppy::{Error, PackageSet};
 
 // Sets of two graphs aren't combined.
 fn made_of_sets<'g>(world: &World<'g>, call: &str) -> Result<PackageSet<'g>, Error> {
-    if !world.x.same_packages(world.y) {
+    if !world.x.same_packages(&world.y) {
         return world.graph.resolve_none();
     }
     match call {
-        "union" => world.x.union(world.y),
-        "intersection" => world.x.intersection(world.y),
-        "difference" => world.x.difference(world.y),
-        _ => world.x.symmetric_difference(world.y),
+        "union" => world.x.union(&world.y),
+        "intersection" => world.x.intersection(&world.y),
+        "difference" => world.x.difference(&world.y),
+        _ => world.x.symmetric_difference(&world.y),
     }
 }
 
@@ -45,7 +45,5 @@ fn made<'g>(world: &World<'g>, call: &str) -> Result<PackageSet<'g>, Error> {
 
 pub(crate) fn ask(rt: &HostRuntime, world: &World<'_>, call: &str) -> Result<(), Error> {
     begin(rt);
-    let set = made(world, call)?;
-    tell_set(rt, &set);
-    Ok(())
+    tell_made(rt, made(world, call))
 }

@@ -2,7 +2,7 @@
 ghost use Rattle.std.specs.Iterator.{IsFinite};
 
 use guppy::graph::DependencyDirection;
-use guppy::{PackageMetadata, PackageSet};
+use guppy::{Error, PackageMetadata, PackageSet};
 use std::fmt::Display;
 
 /// The line behind which requests for memory count.
@@ -60,4 +60,19 @@ pub(crate) fn tell_set(rt: &HostRuntime, set: &PackageSet<'_>) {
         tell(rt, id.repr());
     }
     let _told = println!(rt; "in {}", set.len());
+}
+
+/// The set that was made, where it was.
+pub(crate) fn tell_made(
+    rt: &HostRuntime,
+    made: Result<PackageSet<'_>, Error>,
+) -> Result<(), Error> {
+    tell_set(rt, &made?);
+    Ok(())
+}
+
+/// The answer to a question, where there is one.
+pub(crate) fn tell_answer(rt: &HostRuntime, answer: Result<bool, Error>) -> Result<(), Error> {
+    tell_line(rt, &answer?);
+    Ok(())
 }

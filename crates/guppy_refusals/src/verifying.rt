@@ -1,6 +1,6 @@
 //! Verifying, and what stands on it: cycles over links that aren't dev-only, and the order to publish in.
 use crate::records::{Ends, id_of};
-use crate::told::{begin, tell_all, tell_line};
+use crate::told::{begin, tell_all, tell_answer, tell_line};
 use crate::world::{World, graph_of, tell_graph};
 use guppy::{DependencyKind, Error, PackageGraph};
 use guppy_publish::publish_order;
@@ -14,7 +14,6 @@ const TURNING: [Ends; 3] = [
 ];
 
 fn ask_verify(rt: &HostRuntime, graph: &PackageGraph) -> Result<(), Error> {
-    tell_graph(rt, graph);
     begin(rt);
     let verified = graph.verify();
     tell_graph(rt, graph);
@@ -24,7 +23,6 @@ fn ask_verify(rt: &HostRuntime, graph: &PackageGraph) -> Result<(), Error> {
 }
 
 fn ask_order(rt: &HostRuntime, graph: &PackageGraph) -> Result<(), Error> {
-    tell_graph(rt, graph);
     begin(rt);
     let order = publish_order(graph);
     tell_graph(rt, graph);
@@ -47,12 +45,10 @@ fn ask_witness(
     let mut ids = Vec::new(alloc);
     ids.push(id_of(alloc, first))?;
     ids.push(id_of(alloc, second))?;
-    tell_graph(rt, graph);
     begin(rt);
     let is_witness = graph.is_cycle_witness(ids.as_slice());
     tell_graph(rt, graph);
-    tell_line(rt, &is_witness?);
-    Ok(())
+    tell_answer(rt, is_witness)
 }
 
 fn ask_graph(
@@ -61,6 +57,7 @@ fn ask_graph(
     graph: &PackageGraph,
     call: &str,
 ) -> Result<(), Error> {
+    tell_graph(rt, graph);
     match call {
         "verify" | "verify_cycle" => ask_verify(rt, graph),
         "publish_order" | "publish_cycle" => ask_order(rt, graph),

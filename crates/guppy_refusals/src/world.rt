@@ -1,5 +1,5 @@
 //! What stands before a case begins: a graph, sets and a query of it.
-use crate::records::{Ends, records_of};
+use crate::records::{Ends, id_of, records_of};
 use crate::told::{tell, tell_line, tell_set};
 use guppy::graph::DependencyDirection;
 use guppy::{Error, IntoGraph, PackageGraph, PackageId, PackageQuery, PackageSet, Utf8Path};
@@ -15,41 +15,55 @@ pub(crate) fn graph_of(
 }
 
 /// A graph, and what was made of it.
-#[derive(Clone, Copy)]
+#[derive(Drop)]
 pub(crate) struct World<'g> {
     pub(crate) graph: &'g PackageGraph,
     pub(crate) a: &'g PackageId,
     pub(crate) b: &'g PackageId,
     pub(crate) c: &'g PackageId,
     /// Of no package
-    pub(crate) z: &'g PackageId,
+    pub(crate) z: PackageId,
     /// a and b
-    pub(crate) x: &'g PackageSet<'g>,
+    pub(crate) x: PackageSet<'g>,
     /// b and c
-    pub(crate) y: &'g PackageSet<'g>,
+    pub(crate) y: PackageSet<'g>,
     /// All packages
-    pub(crate) all: &'g PackageSet<'g>,
+    pub(crate) all: PackageSet<'g>,
     /// Forward from a
-    pub(crate) query: &'g PackageQuery<'g>,
+    pub(crate) query: PackageQuery<'g>,
+}
+
+/// Makes the sets and the query.
+pub(crate) fn world_of<'g>(
+    alloc: Global,
+    graph: &'g PackageGraph,
+    a: &'g PackageId,
+    b: &'g PackageId,
+    c: &'g PackageId,
+) -> Result<World<'g>, Error> {
+    let x = graph.resolve_ids([a, b].into_iter())?;
+    let y = graph.resolve_ids([b, c].into_iter())?;
+    let all = graph.resolve_all()?;
+    let query = graph.query_forward([a].into_iter())?;
+    Ok(World {
+        graph,
+        a,
+        b,
+        c,
+        z: id_of(alloc, "z"),
+        x,
+        y,
+        all,
+        query,
+    })
 }
 
 /// The ID of a member.
-pub(crate) fn member<'g>(graph: &'g PackageGraph, name: &str) -> Result<&'g PackageId, Error> {
-    Ok(graph.workspace().member_by_name(name)?.id())
-}
-
-/// The sets of a and b, of b and c, and of all packages.
-pub(crate) fn sets_of<'g>(
-    graph: &'g PackageGraph,
-    a: &PackageId,
-    b: &PackageId,
-    c: &PackageId,
-) -> Result<Vec<PackageSet<'g>>, Error> {
-    let mut sets = Vec::new(graph.alloc());
-    sets.push(graph.resolve_ids([a, b].into_iter())?)?;
-    sets.push(graph.resolve_ids([b, c].into_iter())?)?;
-    sets.push(graph.resolve_all()?)?;
-    Ok(sets)
+pub(crate) fn member<'g>(graph: &'g PackageGraph, name: &str) -> Option<&'g PackageId> {
+    match graph.workspace().member_by_name(name) {
+        Ok(package) => Some(package.id()),
+        Err(_) => None,
+    }
 }
 
 /// The paths of the members c and a, or in the place of the first one that is no member's.
@@ -89,7 +103,7 @@ pub(crate) fn tell_query(rt: &HostRuntime, query: &PackageQuery<'_>) {
 
 pub(crate) fn tell_world(rt: &HostRuntime, world: &World<'_>) {
     tell_graph(rt, world.graph);
-    tell_set(rt, world.x);
-    tell_set(rt, world.y);
-    tell_query(rt, world.query);
+    tell_set(rt, &world.x);
+    tell_set(rt, &world.y);
+    tell_query(rt, &world.query);
 }
