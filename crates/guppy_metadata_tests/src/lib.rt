@@ -1,5 +1,5 @@
 //! Tests of `guppy_metadata` and `guppy_target` through their public calls alone, each caller of `guppy_callers` once, and
-//! `guppy_sections`, for which a graph is read.
+//! `sections_on` of `guppy_extras`, for which a graph is read.
 #![tactic(auto)]
 
 #[cfg(test)]

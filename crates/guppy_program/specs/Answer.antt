@@ -25,9 +25,9 @@ use Rattle.guppy.specs.FirmCycles.{HasNoFirmCycle}
 use Rattle.guppy.specs.Verified.{IsVerified, IsVerifyFault as IsGraphFault}
 use Rattle.guppy.specs.Walked.{AreWalkedLinks}
 use Rattle.guppy_affected.specs.Affected.{AreAffectedIds}
-use Rattle.guppy_duplicates.specs.Duplicates.{AreDuplicates}
+use Rattle.guppy_extras.specs.Duplicates.{AreDuplicates}
 use Rattle.guppy_publish.specs.Publishing.{ArePublishIds}
-use Rattle.guppy_why.specs.Walk.{NoWalk, Between}
+use Rattle.guppy_extras.specs.Walk.{NoWalk, Between}
 use Rattle.guppy_command.specs.declared.options.Kinds.{Kinds}
 use Rattle.guppy_command.specs.declared.options.Options.{Options}
 use Rattle.guppy_command.specs.Cause.{Cause, library, ambiguous, no_walk}

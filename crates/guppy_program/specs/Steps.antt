@@ -5,7 +5,7 @@ use Rattle.guppy_data.specs.declared.records.LinkRecord.{LinkRecord}
 use Rattle.guppy.specs.DevOnly.{is_absent}
 use Rattle.guppy.specs.Graph.{GraphData}
 use Rattle.guppy.specs.Ids.{HasId}
-use Rattle.guppy_why.specs.Walk.{IsWalk, NoneShorter, Between}
+use Rattle.guppy_extras.specs.Walk.{IsWalk, NoneShorter, Between}
 use Rattle.guppy_command.specs.declared.options.Kinds.{Kinds}
 
 -- the kinds of the sections that the link has

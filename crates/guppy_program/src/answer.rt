@@ -23,7 +23,7 @@ use guppy_affected::affected;
 use guppy_command::command::parted;
 use guppy_command::fault::{passed_on, want_of_memory};
 use guppy_command::{Command, Kinds, ProgramFault};
-use guppy_duplicates::duplicates;
+use guppy_extras::duplicates;
 use std::alloc::{AllocError, Global};
 
 /// A package to which a walk of links leads.

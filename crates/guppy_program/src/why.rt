@@ -5,7 +5,7 @@ ghost use Rattle.guppy_data.specs.declared.texts.error.Error.TheVariants.{OutOfM
 ghost use Rattle.guppy.specs.DevOnly.{is_absent};
 ghost use Rattle.guppy.specs.Ids.{IsKnown};
 ghost use Rattle.guppy.specs.Views.{OfLink, link_graph, link_number};
-ghost use Rattle.guppy_why.specs.Walk.{NoWalk, Between};
+ghost use Rattle.guppy_extras.specs.Walk.{NoWalk, Between};
 ghost use Rattle.guppy_program.specs.Answer.{IsWhyAnswer, IsCommandFault};
 ghost use Rattle.guppy_command.specs.Command.{why};
 ghost use Rattle.guppy_program.specs.Shown.{answer_shown, step_shown};
@@ -17,7 +17,7 @@ use guppy::{Error, PackageGraph, PackageId, PackageLink};
 use guppy_command::Kinds;
 use guppy_command::fault::{no_walk, passed_on};
 use guppy_data::DependencyReq;
-use guppy_why::shortest_walk;
+use guppy_extras::shortest_walk;
 use std::alloc::{AllocError, Global};
 
 fn is_present(section: DependencyReq<'_>) -> bool

@@ -1,2 +1,0 @@
-pub mod Duplicates
-pub mod Sorted

@@ -1,0 +1,13 @@
+pub mod Places
+pub mod SearchedWalks
+pub mod SearchSteps
+pub mod WalkLists
+pub mod PackageSteps
+pub mod LeavingLinks
+pub mod WayBack
+pub mod FoundWalks
+pub mod NameOrder
+pub mod KeptPositions
+pub mod NamedAlike
+pub mod LinkRows
+pub mod DuplicateRows

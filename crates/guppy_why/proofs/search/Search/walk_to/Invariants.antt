@@ -1,8 +1,0 @@
-use Rattle.guppy_why.proofs.WayBack.{IsBack}
-use Rattle.guppy_why.proofs.search.Search.walk_to.Given as goal
-
-abbrev pub invariant-back : goal.invariant-back
-invariant-back l = IsBack l.self.start l.self.found.items l.place l.at l.walk.items
-
-abbrev pub decreases-back : goal.decreases-back
-decreases-back l = l.at
