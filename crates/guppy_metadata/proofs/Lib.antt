@@ -4,6 +4,7 @@ pub mod TextLists
 pub mod CodeNames
 pub mod Dependencies
 pub mod Features
+pub mod GatheredLinks
 pub mod FittingLists
 pub mod KnownMembers
 pub mod LetGo

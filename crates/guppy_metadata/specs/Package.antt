@@ -1,5 +1,5 @@
 -- What the JSON of a package says.
-use Rattle.std.specs.Prelude.{◌≡◌, ◌==◌, ◌⊎◌, ℕ, zero, suc, Bool, true, false, List, [], ◌∷◌, ◌++◌, Option, Some, None, IsSomeAnd, Ok, length, cond, String, filter, map, option_map, unwrap_or, string_bytes, codes}
+use Rattle.std.specs.Prelude.{◌≡◌, ◌==◌, ◌⊎◌, ℕ, zero, suc, Bool, true, false, List, [], ◌∷◌, ◌++◌, Option, Some, None, IsSomeAnd, Ok, length, cond, String, Vec, filter, map, option_map, unwrap_or, string_bytes, codes}
 use Rattle.std.specs.declared.alloc.Global.{Global}
 use Rattle.std.specs.List.{AllZip, last_or}
 use Rattle.std.specs.Option.{option_copied, option_or}
@@ -18,6 +18,7 @@ use Rattle.guppy_data.specs.declared.records.PackagePublishRecord.{PackagePublis
 use Rattle.guppy_data.specs.declared.records.PackagePublishRecord.TheVariants.{Unrestricted, Registries}
 use Rattle.guppy_data.specs.declared.records.PackageSourceRecord.{PackageSourceRecord}
 use Rattle.guppy_data.specs.declared.records.PackageSourceRecord.TheVariants.{Workspace, Path, External}
+use Rattle.guppy_data.specs.declared.texts.named_feature.NamedFeatureDep.{NamedFeatureDep}
 use Rattle.guppy_metadata.specs.declared.types.Declared.{Declared}
 use Rattle.guppy_metadata.specs.declared.types.Package.{Package}
 use Rattle.guppy_metadata.specs.Dependency.{IsDeclared, NamesOptional, AreOptional}
@@ -93,6 +94,10 @@ abbrev pub IsRustVersion : Json → Option Version → Type 0
 IsRustVersion d None = IsText (codes "rust_version") d None
 IsRustVersion d (Some version) = (text : List ℕ) × IsText (codes "rust_version") d (Some text)
     × (version_parts (whole_version text) ≡ Ok (parts_of version))
+
+-- these are the named features that are told of a package
+abbrev pub AreNamedFeatures : Json → List (String Global × Vec NamedFeatureDep Global) → Type 0
+AreNamedFeatures d features = IsSomeAnd (get (codes "features") d) (λ told. AreFeatures told features)
 
 -- what else is told of a package for Cargo
 pub record IsFilled (d : Json) (r : PackageRecord) : Type 0 where

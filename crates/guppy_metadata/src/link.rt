@@ -262,11 +262,10 @@ fn add_to_section(
         → IsSection before section.old → IsSection (before ++ declared.now ∷ []) section.new) }
 {
     if declared.optional {
-        add_to_side(alloc, &mut section.optional, declared)?;
+        add_to_side(alloc, &mut section.optional, declared)
     } else {
-        add_to_side(alloc, &mut section.required, declared)?;
+        add_to_side(alloc, &mut section.required, declared)
     }
-    Ok(())
 }
 
 // The own text, or else a copy of the other.
@@ -316,11 +315,10 @@ fn add_declared(
     link.registry = first_text(alloc, link.registry.take(), declared.registry)?;
     link.path = first_path(alloc, link.path.take(), declared.path)?;
     match declared.section {
-        DependencyKind::Normal => add_to_section(alloc, &mut link.normal, declared)?,
-        DependencyKind::Build => add_to_section(alloc, &mut link.build, declared)?,
-        DependencyKind::Development => add_to_section(alloc, &mut link.dev, declared)?,
+        DependencyKind::Normal => add_to_section(alloc, &mut link.normal, declared),
+        DependencyKind::Build => add_to_section(alloc, &mut link.build, declared),
+        DependencyKind::Development => add_to_section(alloc, &mut link.dev, declared),
     }
-    Ok(())
 }
 
 // Copies of the texts of a link of this name.

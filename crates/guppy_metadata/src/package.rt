@@ -9,7 +9,7 @@ ghost use Rattle.guppy_data.specs.Utf8Path.{path_text};
 ghost use Rattle.guppy_metadata.specs.Dependency.{NamesOptional};
 ghost use Rattle.guppy_metadata.specs.Fault.{NoneIs, IsRead};
 ghost use Rattle.guppy_metadata.specs.Members.{data_of, is_among, is_in_set, IsText};
-ghost use Rattle.guppy_metadata.specs.Package.{IsFrom, IsNamed, IsKnown, IsShown, IsDescribed, IsFilled, IsPlain, IsDetailed, IsTold, IsRecordOf, IsPublishable, IsRustVersion, AreAskedTargets, IsLibrary, AreDeclared, AreTold, AreAlike, ArePositions, dots_in, zeros_behind, whole_version};
+ghost use Rattle.guppy_metadata.specs.Package.{IsFrom, IsNamed, IsKnown, IsShown, IsDescribed, AreNamedFeatures, IsFilled, IsPlain, IsDetailed, IsTold, IsRecordOf, IsPublishable, IsRustVersion, AreAskedTargets, IsLibrary, AreDeclared, AreTold, AreAlike, ArePositions, dots_in, zeros_behind, whole_version};
 
 use crate::declared::{declared_dependencies, optional_names};
 use crate::fault::Misfit;
@@ -20,7 +20,7 @@ use crate::target::{build_targets, first_library};
 use crate::types::{Declared, Package};
 use crate::workspace::set_of;
 use guppy_data::{
-    BuildTargetRecord, PackageId, PackagePublishRecord, PackageRecord, PackageSourceRecord,
+    BuildTargetRecord, NamedFeatureDep, PackageId, PackagePublishRecord, PackageRecord, PackageSourceRecord,
     Utf8Path, Utf8PathBuf,
 };
 use indexmap::{IndexMap, IndexSet};
@@ -110,6 +110,18 @@ fn rust_version(json: Object<'_, '_>) -> Result<Option<Version>, Misfit>
     Ok(Some(version))
 }
 
+// The named features of a package: the members of the object `features`.
+fn features_of(json: Object<'_, '_>) -> Result<IndexMap<String, Vec<NamedFeatureDep>>, Misfit>
+    ensures { MatchResult result (λ named. AreNamedFeatures (data_of json.entry) named.entries)
+        (NoneIs (AreNamedFeatures (data_of json.entry))) }
+{
+    let value = json.required("features")?;
+    match named_features(json.alloc, value) {
+        Ok(named) => Ok(named),
+        Err(fault) => Err(fault.within(json.alloc, "features")),
+    }
+}
+
 // Fills in what else is told of a package for Cargo.
 fn fill(
     made: &mut PackageRecord,
@@ -123,16 +135,12 @@ fn fill(
     ensures named { (d : Json) → IsNamed d made.old → IsNamed d made.new }
     ensures described { (d : Json) → IsDescribed d made.old → IsDescribed d made.new }
 {
-    let alloc = json.alloc;
     made.metadata_table = json.table("metadata")?;
     made.links = json.optional_copied_text("links")?;
     made.default_run = json.optional_copied_text("default_run")?;
     made.rust_version = rust_version(json)?;
-    match named_features(alloc, json.required("features")?) {
-        Ok(features) => made.named_features = features,
-        Err(fault) => return Err(fault.within(alloc, "features")),
-    }
-    made.optional_deps = optional_names(alloc, declared)?;
+    made.named_features = features_of(json)?;
+    made.optional_deps = optional_names(json.alloc, declared)?;
     Ok(())
 }
 
