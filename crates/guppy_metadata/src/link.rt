@@ -403,6 +403,28 @@ fn add_fitting(
     Ok(())
 }
 
+// Adds the link that is named as the first of these declared dependencies, and gathered from those that were resolved to
+// the package, as the first one was.
+fn add_named_as(
+    links: &mut Vec<LinkRecord>,
+    alloc: Global,
+    first: &Declared<'_>,
+    declared: &[Declared<'_>],
+    wanted: &Wanted<'_, '_, '_>,
+) -> Result<(), AllocError>
+    requires first { slice_get declared.now 0 ≡ Some first.now }
+    requires fitting { IfSome (slice_get declared.now 0)
+        (λ first. fits wanted.now.from.now wanted.now.resolved.now wanted.now.needed.now first ≡ true) }
+    ensures { OnOk result ((link : LinkRecord) × (links.new.items ≡ links.old.items ++ link ∷ [])
+        × Joins wanted.now.from.now wanted.now.resolved.now.id.now wanted.now.resolved.now.name.now link
+        × IsLinkOf (filter (fits wanted.now.from.now wanted.now.resolved.now wanted.now.needed.now) declared.now) link) }
+{
+    let requirement = copied_requirement(&first.requirement)?;
+    let texts = link_texts(alloc, wanted.from, wanted.resolved, first.dep_name())?;
+    let link = links.push_mut(bare_link(alloc, texts, requirement))?;
+    add_fitting(alloc, link, declared, wanted)
+}
+
 // Adds the link between two packages.
 fn add_link_between(
     links: &mut Vec<LinkRecord>,
@@ -435,10 +457,7 @@ fn add_link_between(
     if !are_matched(usages, declared, &wanted) {
         return Err(Misfit::bad_text(alloc, "pkg", TextFault::NoDependency));
     }
-    let requirement = copied_requirement(&first.requirement)?;
-    let texts = link_texts(alloc, from, resolved, first.dep_name())?;
-    let link = links.push_mut(bare_link(alloc, texts, requirement))?;
-    Ok(add_fitting(alloc, link, declared, &wanted)?)
+    Ok(add_named_as(links, alloc, first, declared, &wanted)?)
 }
 
 // The link that is asked for in no section.
@@ -472,13 +491,12 @@ fn add_resolved(
     ensures refused { IfErr result (NoneIs (λ (link : LinkRecord). (d : Json) × IsResolved d resolved.now
         × IsLink packages.entry.packages.now from.now d link)) }
 {
-    let Some(asking) = asking else {
-        return Ok(links.push(unasked_link(alloc, from, resolved)?)?);
-    };
-    let Some(needed) = packages.with_id(resolved.id) else {
-        return Ok(links.push(unasked_link(alloc, from, resolved)?)?);
-    };
-    Ok(add_link_between(links, alloc, from, resolved, asking, needed)?)
+    match (asking, packages.with_id(resolved.id)) {
+        (Some(asking), Some(needed)) => {
+            add_link_between(links, alloc, from, resolved, asking, needed)
+        }
+        _ => Ok(links.push(unasked_link(alloc, from, resolved)?)?),
+    }
 }
 
 // Adds the link from the package with this ID, which is the one that asks, that an object tells.

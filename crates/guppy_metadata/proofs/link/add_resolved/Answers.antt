@@ -1,54 +1,56 @@
-use Rattle.std.proofs.Common.{◌≡◌, ◌∙◌, Some, None, sym, ap}
+use Rattle.std.proofs.Common.{◌≡◌, ◌∙◌, Result, Ok, Err, Some, None, sym, ap}
 use Rattle.std.specs.Option.{option_copied}
+use Rattle.std.specs.Prelude.{OnOk}
+use Rattle.std.proofs.lemmas.Result.{IfErr-weaker}
 use Rattle.guppy_metadata.specs.Package.{with_id}
-use Rattle.guppy_metadata.proofs.Refused.{refused}
 use Rattle.guppy_metadata.proofs.SamePackages.{asked_once}
+use Rattle.guppy_metadata.proofs.link.add_resolved.Goals.{in_default-via-in-Some+in_default, in_default-via-in_default}
 use Rattle.guppy_metadata.proofs.link.add_resolved.Goals as goal
 
-pub returns-in_default-clause-added : goal.returns-in_default-clause-added
-returns-in_default-clause-added c =
-    let none : with_id c.args.from.now c.args.packages.packages.now ≡ None = sym c.requires.asking ∙ ap option_copied c.in_default.is in (
-      c.in_ok-unasked_link.field-0,
-      c.in_ok-push.ensures.items,
-      λ d is. record {
-        resolved = c.args.resolved.now;
-        resolved_is = is;
-        joins = c.in_ok-unasked_link.ensures.joins;
-        asked = rw none c.in_ok-unasked_link.ensures.unasked;
-      },
-    )
+-- what two clauses say where all is well
+together : {T E P Q R : Type 0} (r : Result T E) → (P → Q → R) → OnOk r P → OnOk r Q → OnOk r R
+together (Ok x) follows p q = follows p q
+together (Err e) follows p q = tt
 
-pub returns-in_default-with_id-clause-added : goal.returns-in_default-with_id-clause-added
-returns-in_default-with_id-clause-added c =
-    let some : with_id c.args.from.now c.args.packages.packages.now ≡ Some c.in-Some.asking.now = sym c.requires.asking ∙ ap option_copied c.in-Some.is in (
-      c.in_ok-unasked_link-2.field-0,
-      c.in_ok-push-2.ensures.items,
-      λ d is. record {
-        resolved = c.args.resolved.now;
-        resolved_is = is;
-        joins = c.in_ok-unasked_link-2.ensures.joins;
-        asked = rw (some, sym c.in_default-with_id.ensures) c.in_ok-unasked_link-2.ensures.unasked;
-      },
-    )
-
-pub returns-clause-added : goal.returns-clause-added
-returns-clause-added c =
-    let added = c.in_ok-add_link_between.ensures.added in
-    let some : with_id c.args.from.now c.args.packages.packages.now ≡ Some c.in-Some.asking.now = sym c.requires.asking ∙ ap option_copied c.in-Some.is in (
+pub returns-in-Some-Some-clause-added : goal.returns-in-Some-Some-clause-added
+returns-in-Some-Some-clause-added c =
+    let some : with_id c.args.from.now c.args.packages.packages.now ≡ Some c.in-Some-Some.asking.now = sym c.requires.asking ∙ ap option_copied c.in-Some-Some.is-0 in
+    together c.add_link_between.result (λ added matched. (
       added.0,
       added.1,
       λ d is. record {
         resolved = c.args.resolved.now;
         resolved_is = is;
         joins = added.2;
-        asked = rw (some, sym c.in-Some-with_id.ensures) (added.3, c.in_ok-add_link_between.ensures.matched);
+        asked = rw (some, sym c.in-Some-Some.ensures) (added.3, matched);
+      },
+    )) c.add_link_between.ensures.added c.add_link_between.ensures.matched
+
+pub returns-in-Some-Some-clause-refused : goal.returns-in-Some-Some-clause-refused
+returns-in-Some-Some-clause-refused c =
+    let packages = c.args.packages.packages.now in
+    let some : with_id c.args.from.now packages ≡ Some c.in-Some-Some.asking.now = sym c.requires.asking ∙ ap option_copied c.in-Some-Some.is-0 in
+    IfErr-weaker c.add_link_between.result _ _
+    (λ e none other link holds. none other link (rw (some, sym c.in-Some-Some.ensures) at (asked_once packages c.args.from.now holds.0 link holds.2 c.args.resolved.now holds.1)))
+    c.add_link_between.ensures.refused
+
+pub returns-in_ok-push-in_default-clause-added : goal.returns-in_ok-push-in_default-clause-added
+returns-in_ok-push-in_default-clause-added c =
+    let packages = c.args.packages.packages.now in
+    let unasked = c.in_ok-unasked_link-in_default.ensures.unasked in (
+      c.in_ok-unasked_link-in_default.field-0,
+      c.in_ok-push-in_default.ensures.items,
+      λ d is. record {
+        resolved = c.args.resolved.now;
+        resolved_is = is;
+        joins = c.in_ok-unasked_link-in_default.ensures.joins;
+        asked = elim c.in_default.branch [
+          | in_default-via-in-Some+in_default w ↦
+              let some : with_id c.args.from.now packages ≡ Some w.in_default.field-0-0.now = sym c.requires.asking ∙ ap option_copied w.in_default.is-0 in
+              rw (some, sym w.in_default.ensures) unasked
+          | in_default-via-in_default w ↦
+              let none : with_id c.args.from.now packages ≡ None = sym c.requires.asking ∙ ap option_copied w.in_default.is-0 in
+              rw none unasked
+        ];
       },
     )
-
-pub returns-in_err-add_link_between-clause-refused : goal.returns-in_err-add_link_between-clause-refused
-returns-in_err-add_link_between-clause-refused c =
-    let packages = c.args.packages.packages.now in
-    let some : with_id c.args.from.now packages ≡ Some c.in-Some.asking.now = sym c.requires.asking ∙ ap option_copied c.in-Some.is in
-    refused _ _ _ c.from_residual-in_err-add_link_between.ensures
-    (λ link holds. (link, rw (some, sym c.in-Some-with_id.ensures) at (asked_once packages c.args.from.now holds.0 link holds.2 c.args.resolved.now holds.1)))
-    c.in_err-add_link_between.ensures.refused
