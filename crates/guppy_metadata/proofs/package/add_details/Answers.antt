@@ -1,3 +1,4 @@
+use Rattle.std.proofs.lemmas.Result.{IfOk-from_err}
 use Rattle.guppy_metadata.proofs.Refused.{refused}
 use Rattle.guppy_metadata.proofs.package.add_details.Goals as goal
 
@@ -6,3 +7,21 @@ returns-in_err-made-clause-refused c = refused _ _ _ c.from_residual.ensures (λ
 
 pub returns-in_err-describe-clause-refused : goal.returns-in_err-describe-clause-refused
 returns-in_err-describe-clause-refused c = refused _ _ _ c.from_residual-in_err-describe.ensures (λ r holds. (r, holds.1.described c.if-details.true)) c.in_err-describe.ensures.refused
+
+pub returns-in_err-made-clause-targets : goal.returns-in_err-made-clause-targets
+returns-in_err-made-clause-targets c = IfOk-from_err _ _ c.from_residual.ensures.0
+
+pub returns-in_err-made-clause-detailed : goal.returns-in_err-made-clause-detailed
+returns-in_err-made-clause-detailed c = IfOk-from_err _ _ c.from_residual.ensures.0
+
+pub returns-in_err-made-clause-optional : goal.returns-in_err-made-clause-optional
+returns-in_err-made-clause-optional c = IfOk-from_err _ _ c.from_residual.ensures.0
+
+pub returns-in_err-describe-clause-targets : goal.returns-in_err-describe-clause-targets
+returns-in_err-describe-clause-targets c = IfOk-from_err _ _ c.from_residual-in_err-describe.ensures.0
+
+pub returns-in_err-describe-clause-detailed : goal.returns-in_err-describe-clause-detailed
+returns-in_err-describe-clause-detailed c = IfOk-from_err _ _ c.from_residual-in_err-describe.ensures.0
+
+pub returns-in_err-describe-clause-optional : goal.returns-in_err-describe-clause-optional
+returns-in_err-describe-clause-optional c = IfOk-from_err _ _ c.from_residual-in_err-describe.ensures.0
