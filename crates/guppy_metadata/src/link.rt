@@ -197,8 +197,7 @@ fn add_feature(
     let status = statuses
         .entry(name)?
         .or_insert(PlatformStatusImpl::never(alloc));
-    status.add_spec(spec)?;
-    Ok(())
+    status.add_spec(spec)
 }
 
 // Adds that these features are asked for on the platforms.

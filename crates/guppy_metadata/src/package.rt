@@ -20,8 +20,8 @@ use crate::target::{build_targets, first_library};
 use crate::types::{Declared, Package};
 use crate::workspace::set_of;
 use guppy_data::{
-    BuildTargetRecord, NamedFeatureDep, PackageId, PackagePublishRecord, PackageRecord, PackageSourceRecord,
-    Utf8Path, Utf8PathBuf,
+    BuildTargetRecord, NamedFeatureDep, PackageId, PackagePublishRecord, PackageRecord,
+    PackageSourceRecord, Utf8Path, Utf8PathBuf,
 };
 use indexmap::{IndexMap, IndexSet};
 use json::Value;

@@ -1,9 +1,9 @@
-use Rattle.std.proofs.Common.{◌≡◌, ◌∙◌, [], ◌∷◌, filter, map, sym, ap, subst}
+use Rattle.std.proofs.Common.{◌≡◌, ◌∙◌, [], map, sym, ap, subst}
 use Rattle.std.specs.Prelude.{is_ok}
 use Rattle.std.proofs.lemmas.Result.{IfOk-from_err, on_ok_weaker}
 use Rattle.semver.specs.Identifiers.{comparator_view}
 use Rattle.guppy_metadata.specs.Fits.{fits}
-use Rattle.guppy_metadata.specs.Gathered.{IsGathered, IsNamedAs, IsLinkOf}
+use Rattle.guppy_metadata.specs.Gathered.{IsGathered, IsNamedAs}
 use Rattle.guppy_metadata.specs.Links.{Joins}
 use Rattle.guppy_metadata.proofs.MatchedDependencies.{picked_first}
 use Rattle.guppy_metadata.proofs.link.add_named_as.Goals as goal

@@ -1,6 +1,4 @@
-use Rattle.std.proofs.Common.{List, Option, String, Vec}
 use Rattle.std.proofs.lemmas.Result.{IfOk-from_err}
-use Rattle.std.specs.declared.alloc.Global.{Global}
 use Rattle.json.specs.Json.{Json}
 use Rattle.guppy_data.specs.declared.records.PackageRecord.{PackageRecord}
 use Rattle.guppy_metadata.specs.Package.{IsNamed, IsDescribed}
