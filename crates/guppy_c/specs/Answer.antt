@@ -6,9 +6,9 @@ use Rattle.guppy_data.specs.declared.records.PackageRecord.{PackageRecord}
 use Rattle.guppy_data.specs.declared.records.WorkspaceRecord.{WorkspaceRecord}
 use Rattle.guppy_command.specs.declared.fault.Fault.TheVariants.{Library}
 use Rattle.guppy_program.specs.Format.{IsReadingFault}
-use Rattle.guppy_cargo.specs.declared.fault.CargoFault.{CargoFault}
-use Rattle.guppy_cargo.specs.declared.fault.CargoFault.TheVariants.{Program}
-use Rattle.guppy_cargo.specs.Fault.{cause_of, fault_text}
+use Rattle.guppy_arguments.specs.declared.fault.CargoFault.{CargoFault}
+use Rattle.guppy_arguments.specs.declared.fault.CargoFault.TheVariants.{Program}
+use Rattle.guppy_arguments.specs.Fault.{cause_of, fault_text}
 use Rattle.guppy_cargo.specs.Json.{SaysRecords, json_format}
 use Rattle.guppy_cargo.specs.Words.{IsJsonFault}
 use Rattle.guppy_wire.specs.Wire.{records_text}

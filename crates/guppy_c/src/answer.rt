@@ -1,7 +1,7 @@
 //! Answers as text, of the JSON that `cargo metadata` prints.
 ghost use Rattle.std.specs.Prelude.{◌≡◌, ◌≢◌, ◌<◌, ◌≤◌, ◌⊎◌, ℕ, List, length, take, string_bytes, IfOk, IfErr};
 ghost use Rattle.guppy_program.specs.Format.{IsReadingFault};
-ghost use Rattle.guppy_cargo.specs.Fault.{cause_of};
+ghost use Rattle.guppy_arguments.specs.Fault.{cause_of};
 ghost use Rattle.guppy_cargo.specs.Json.{json_format};
 ghost use Rattle.guppy_cargo.specs.Words.{IsJsonAnswer};
 ghost use Rattle.guppy_c.specs.Answer.{AreRecords, AreRefused, IsRefusal, Refuses};

@@ -2,5 +2,4 @@ pub mod CalledPackages
 pub mod FirstElements
 pub mod KeyLists
 pub mod Meanings
-pub mod NearestName
 pub mod PackageNames

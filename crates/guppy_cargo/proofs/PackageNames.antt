@@ -11,7 +11,7 @@ use Rattle.guppy_data.specs.declared.records.PackageRecord.{PackageRecord}
 use Rattle.guppy.specs.Graph.{GraphData}
 use Rattle.guppy.specs.Iterators.{packages_of}
 use Rattle.guppy_cargo.specs.Names.{name_of}
-use Rattle.guppy_cargo.specs.Nearest.{IsFar, IsNearest}
+use Rattle.guppy_arguments.specs.Nearest.{IsFar, IsNearest}
 use Rattle.guppy_cargo.specs.Unknown.{IsFarFromNames, IsNearestName}
 
 -- the name of the package that is seen

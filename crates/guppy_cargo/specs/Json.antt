@@ -10,9 +10,9 @@ use Rattle.guppy_metadata.specs.Fault.{IsNotJson, IsNotResolved, IsOutOfMemory}
 use Rattle.guppy_metadata.specs.Members.{present}
 use Rattle.guppy_metadata.specs.Records.{AreRecordsWith, SaysNoRecordsWith}
 use Rattle.guppy_program.specs.Format.{Format}
-use Rattle.guppy_cargo.specs.declared.fault.CargoFault.{CargoFault}
-use Rattle.guppy_cargo.specs.declared.fault.CargoFault.TheVariants.{Metadata, NoText}
-use Rattle.guppy_cargo.specs.Command.{asked_of}
+use Rattle.guppy_arguments.specs.declared.fault.CargoFault.{CargoFault}
+use Rattle.guppy_arguments.specs.declared.fault.CargoFault.TheVariants.{Metadata, NoText}
+use Rattle.guppy_arguments.specs.Command.{asked_of}
 use Rattle.guppy_cargo.specs.Names.{text, meant}
 
 -- the input is JSON that says these records, without details

@@ -4,9 +4,9 @@ use Rattle.guppy_data.specs.declared.records.PackageRecord.{PackageRecord}
 use Rattle.guppy_data.specs.declared.texts.error.Error.TheVariants.{UnknownPackageId}
 use Rattle.guppy_command.specs.declared.fault.Fault.TheVariants.{Library}
 use Rattle.guppy_cargo.specs.Names.{name_of}
-use Rattle.guppy_cargo.specs.Nearest.{edits}
-use Rattle.guppy_cargo.specs.declared.fault.CargoFault.{CargoFault}
-use Rattle.guppy_cargo.specs.declared.fault.CargoFault.TheVariants.{Program, Unknown}
+use Rattle.guppy_arguments.specs.Nearest.{edits}
+use Rattle.guppy_arguments.specs.declared.fault.CargoFault.{CargoFault}
+use Rattle.guppy_arguments.specs.declared.fault.CargoFault.TheVariants.{Program, Unknown}
 
 -- more than three edits lead to the name of each package
 abbrev pub IsFarFromNames : List PackageRecord → List ℕ → Type 0

@@ -1,18 +1,13 @@
 -- Arguments as one run of bytes, and why they get no answer.
-use Rattle.std.specs.Prelude.{◌≡◌, ◌⊎◌, ◌==◌, ℕ, List}
-use Rattle.std.specs.List.{slice_split}
+use Rattle.std.specs.Prelude.{◌≡◌, ◌⊎◌, ℕ, List}
 use Rattle.std.specs.Str.{IsUtf8}
 use Rattle.guppy_command.specs.declared.fault.Fault.TheVariants.{BadArguments}
 use Rattle.guppy_program.specs.Run.{IsAnswered, IsAnswerFault}
-use Rattle.guppy_cargo.specs.declared.fault.CargoFault.{CargoFault}
-use Rattle.guppy_cargo.specs.declared.fault.CargoFault.TheVariants.{Program}
-use Rattle.guppy_cargo.specs.Fault.{cause_of}
+use Rattle.guppy_arguments.specs.declared.fault.CargoFault.{CargoFault}
+use Rattle.guppy_arguments.specs.declared.fault.CargoFault.TheVariants.{Program}
+use Rattle.guppy_arguments.specs.Fault.{cause_of}
+pub use Rattle.guppy_arguments.specs.Words.{arguments_in}
 use Rattle.guppy_cargo.specs.Json.{json_format}
-use Rattle.guppy_cargo.specs.Options.{options_first}
-
--- what stands before, between and after the zero bytes, options in front
-abbrev pub arguments_in : List ℕ → List (List ℕ)
-arguments_in bytes = options_first (slice_split (λ b. b == 0) bytes)
 
 -- the text is an answer to the arguments, of the graph that the JSON says
 abbrev pub IsJsonAnswer : List ℕ → List ℕ → List ℕ → Type 0

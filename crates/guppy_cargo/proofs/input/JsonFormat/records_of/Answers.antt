@@ -3,7 +3,7 @@ use Rattle.guppy_metadata.specs.declared.fault.MetadataFault.{MetadataFault}
 use Rattle.guppy_metadata.specs.declared.fault.MetadataFault.TheVariants.{NotJson, NotResolved, Missing, WrongKind, BadText, OutOfMemory}
 use Rattle.guppy_metadata.proofs.Refused.{of_error}
 use Rattle.guppy_program.specs.Format.{IsReadingFault}
-use Rattle.guppy_cargo.specs.Fault.{cause_of, of_metadata}
+use Rattle.guppy_arguments.specs.Fault.{cause_of, of_metadata}
 use Rattle.guppy_cargo.specs.Json.{IsMisread, json_format}
 use Rattle.guppy_cargo.proofs.input.JsonFormat.records_of.Goals as goal
 

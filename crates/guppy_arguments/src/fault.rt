@@ -1,0 +1,162 @@
+//! Why there is no answer.
+ghost use Rattle.std.specs.Prelude.{◌≡◌};
+ghost use Rattle.guppy_data.specs.declared.texts.error.Error.TheVariants.{OutOfMemory};
+ghost use Rattle.guppy_command.specs.declared.fault.Fault.TheVariants.{Library};
+ghost use Rattle.guppy_arguments.specs.declared.fault.CargoFault.TheVariants.{Program};
+
+use guppy_command::{Fault, ProgramFault};
+use guppy_data::Error;
+use guppy_metadata::MetadataFault;
+use std::alloc::{AllocError, AllocFailed};
+use std::fmt;
+
+/// Why the program gives no answer.
+#[derive(Debug, Drop)]
+pub enum CargoFault {
+    /// One that every program has.
+    Program(Fault),
+    /// The word may mean several packages: those that the choices name, parted by ` or `.
+    Ambiguous {
+        /// The word, as it was given.
+        word: String,
+        /// What to give in its place.
+        choices: String,
+    },
+    /// The word means no package, but the name of one is near it.
+    Unknown {
+        /// The word, as it was given.
+        word: String,
+        /// The name of a package.
+        nearest: String,
+    },
+    /// No command is called by the first word that is no option, but one is by a name near it.
+    NoCommand {
+        /// The word, as it was given.
+        word: String,
+        /// What a command is called.
+        nearest: String,
+    },
+    /// The input is not what `cargo metadata` prints.
+    Metadata(MetadataFault),
+    /// The input is no UTF-8.
+    NoText,
+    /// The file with paths could not be read.
+    PathsFailed(String),
+    /// The file with what is set for a platform could not be read.
+    CfgsFailed(String),
+    /// A line, counted from 1, doesn't say what is set for a platform.
+    BadCfg {
+        /// The platform.
+        triple: String,
+        /// The number of the line.
+        line: u128,
+    },
+}
+
+impl fmt::Display for CargoFault {
+    ghost use Rattle.std.specs.Prelude.{Some};
+    ghost use Rattle.guppy_arguments.specs.Fault.{fault_text};
+
+    ghost output = { λ fault. Some (fault_text fault) };
+
+    fn fmt<W: fmt::Write>(&self, f: &mut fmt::Formatter<W>) -> fmt::Result {
+        match self {
+            CargoFault::Program(Fault::Library(error)) => write!(f, "{error}"),
+            CargoFault::Program(Fault::BadArguments) => f.write_str(
+                "bad arguments: give `reach forward|reverse PACKAGE..`, `depends PACKAGE PACKAGE`, \
+                 `why PACKAGE PACKAGE`, `order`, `roots forward|reverse`, `links forward|reverse`, `cycles`, \
+                 `duplicates`, `dot PACKAGE..`, `verify`, `publish-order [--publishable]` \
+                 or `affected [--ignore FOLDER].. [--paths-from FILE] PATH..`, \
+                 and with each `--kinds normal,build,dev`, `--platform TRIPLE --cfgs FILE`, `--workspace` or `--ids`",
+            ),
+            CargoFault::Program(Fault::NoWalk { from, to }) => {
+                write!(f, "no links lead from {from} to {to}")
+            }
+            CargoFault::Ambiguous { word, choices } => {
+                write!(f, "ambiguous package {word}: give {choices}")
+            }
+            CargoFault::Unknown { word, nearest } => {
+                write!(f, "unknown package {word}: the nearest is {nearest}")
+            }
+            CargoFault::NoCommand { word, nearest } => write!(
+                f,
+                "{word} is no command: the nearest is {nearest}"
+            ),
+            CargoFault::Metadata(fault) => write!(f, "{fault}"),
+            CargoFault::NoText => f.write_str("the input is no UTF-8"),
+            CargoFault::PathsFailed(file) => write!(f, "{file}: the paths in it can't be read"),
+            CargoFault::CfgsFailed(file) => write!(f, "{file}: the cfgs in it can't be read"),
+            CargoFault::BadCfg { triple, line } => {
+                write!(
+                    f,
+                    "{triple}: line {line} of its cfgs is neither a name nor a key with a value"
+                )
+            }
+            CargoFault::Program(Fault::InputFailed) => f.write_str("input failed"),
+            CargoFault::Program(Fault::OutputFailed) => f.write_str("output failed"),
+        }
+    }
+}
+
+impl std::error::Error for CargoFault {}
+
+impl ProgramFault for CargoFault {
+    ghost use Rattle.guppy_arguments.specs.Fault.{cause_of, status_of};
+
+    ghost cause = { cause_of };
+
+    ghost ending = { status_of };
+
+    fn of(fault: Fault) -> Self {
+        CargoFault::Program(fault)
+    }
+
+    fn ending(&self) -> u8 {
+        match self {
+            CargoFault::Program(Fault::Library(_) | Fault::NoWalk { .. }) => 1,
+            CargoFault::Program(_)
+            | CargoFault::NoCommand { .. }
+            | CargoFault::PathsFailed(_)
+            | CargoFault::CfgsFailed(_)
+            | CargoFault::BadCfg { .. } => 2,
+            _ => 1,
+        }
+    }
+}
+
+impl From<MetadataFault> for CargoFault {
+    ghost use Rattle.guppy_arguments.specs.Fault.{of_metadata};
+
+    ghost from_gives = { λ fault given. given ≡ of_metadata fault };
+
+    fn from(fault: MetadataFault) -> Self {
+        match fault {
+            MetadataFault::OutOfMemory => CargoFault::Program(Fault::Library(Error::OutOfMemory)),
+            fault => CargoFault::Metadata(fault),
+        }
+    }
+}
+
+impl From<Error> for CargoFault {
+    ghost from_gives = { λ error fault. fault ≡ Program (Library error) };
+
+    fn from(error: Error) -> Self {
+        CargoFault::Program(Fault::Library(error))
+    }
+}
+
+impl From<AllocError> for CargoFault {
+    ghost from_gives = { λ _ fault. fault ≡ Program (Library OutOfMemory) };
+
+    fn from(_error: AllocError) -> Self {
+        CargoFault::Program(Fault::Library(Error::OutOfMemory))
+    }
+}
+
+impl<T: Drop> From<AllocFailed<T>> for CargoFault {
+    ghost from_gives = { λ _ fault. fault ≡ Program (Library OutOfMemory) };
+
+    fn from(_error: AllocFailed<T>) -> Self {
+        CargoFault::Program(Fault::Library(Error::OutOfMemory))
+    }
+}
