@@ -5,3 +5,4 @@ pub mod Nearest
 pub mod Commands
 pub mod Paths
 pub mod Words
+pub mod Names

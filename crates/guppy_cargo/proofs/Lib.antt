@@ -1,5 +1,2 @@
-pub mod CalledPackages
-pub mod FirstElements
-pub mod KeyLists
-pub mod Meanings
+pub mod KnownNames
 pub mod PackageNames

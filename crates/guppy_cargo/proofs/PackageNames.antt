@@ -10,7 +10,7 @@ use Rattle.std.proofs.lemmas.Option.{slice_get_within, slice_get-get_or, get_or_
 use Rattle.guppy_data.specs.declared.records.PackageRecord.{PackageRecord}
 use Rattle.guppy.specs.Graph.{GraphData}
 use Rattle.guppy.specs.Iterators.{packages_of}
-use Rattle.guppy_cargo.specs.Names.{name_of}
+use Rattle.guppy_arguments.specs.Names.{name_of}
 use Rattle.guppy_arguments.specs.Nearest.{IsFar, IsNearest}
 use Rattle.guppy_cargo.specs.Unknown.{IsFarFromNames, IsNearestName}
 

@@ -13,7 +13,7 @@ use Rattle.guppy_program.specs.Format.{Format}
 use Rattle.guppy_arguments.specs.declared.fault.CargoFault.{CargoFault}
 use Rattle.guppy_arguments.specs.declared.fault.CargoFault.TheVariants.{Metadata, NoText}
 use Rattle.guppy_arguments.specs.Command.{asked_of}
-use Rattle.guppy_cargo.specs.Names.{text, meant}
+use Rattle.guppy_arguments.specs.Names.{text, meant}
 
 -- the input is JSON that says these records, without details
 abbrev pub SaysRecords : List ℕ → List PackageRecord → List LinkRecord → WorkspaceRecord → Type 0

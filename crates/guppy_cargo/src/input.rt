@@ -2,13 +2,12 @@
 ghost use Rattle.std.specs.Prelude.{◌≡◌, map, string_bytes, IfOk, List};
 ghost use Rattle.guppy_program.specs.Format.{alternatives};
 ghost use Rattle.guppy_cargo.specs.Json.{json_format};
-ghost use Rattle.guppy_cargo.specs.Names.{AreNames, text};
+ghost use Rattle.guppy_arguments.specs.Names.{AreNames, text};
 ghost use Rattle.guppy_data.specs.declared.records.PackageRecord.{PackageRecord as PackageData};
 
-use crate::names::Names;
 use crate::unknown::unknown;
 use guppy::{PackageGraph, PackageId};
-use guppy_arguments::{CargoFault, asked_of};
+use guppy_arguments::{CargoFault, Names, asked_of};
 use guppy_command::Asked;
 use guppy_data::{PackageRecord, Records};
 use guppy_metadata::plain_records_of;

@@ -1,23 +1,21 @@
 //! The program `guppy-cargo`, over any source and sink: answers on the packages of a Cargo workspace, of which
 //! it reads what `cargo metadata` prints.
 //!
-//! What the arguments say is `guppy_arguments`', whose items are passed on. The modules above that, from the bottom up:
+//! What the arguments say, and what packages are called, is `guppy_arguments`', whose items are passed on. The modules
+//! above that, from the bottom up:
 //!
-//! - `names`, `unknown`: what packages are called, and the name nearest to a word that means none;
+//! - `unknown`: the package's name nearest to a word that means none;
 //! - `input`: how the program reads its input;
-//! - `words`: arguments as one run of bytes, answered;
-//! - `laws`: what is printed for a package means this package.
+//! - `words`: arguments as one run of bytes, answered.
 #![tactic(auto)]
 
 mod input;
-pub mod laws;
-mod names;
 mod unknown;
 mod words;
 
 pub use guppy_arguments::{
-    COMMANDS, CargoFault, asked_of, check_command, help_of, options_first, with_cfgs, with_paths,
+    COMMANDS, CargoFault, Names, asked_of, check_command, help_of, laws, options_first, with_cfgs,
+    with_paths,
 };
 pub use input::Json;
-pub use names::Names;
 pub use words::answer_json;

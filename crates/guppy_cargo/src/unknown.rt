@@ -4,7 +4,7 @@ ghost use Rattle.std.specs.List.Sorted.{IsPermutation};
 ghost use Rattle.guppy_data.specs.declared.texts.error.Error.TheVariants.{UnknownPackageId};
 ghost use Rattle.guppy_command.specs.Cause.{library};
 ghost use Rattle.guppy_arguments.specs.Fault.{cause_of};
-ghost use Rattle.guppy_cargo.specs.Names.{name_of};
+ghost use Rattle.guppy_arguments.specs.Names.{name_of};
 ghost use Rattle.guppy_cargo.specs.Unknown.{IsNearestName, IsFarFromNames, TellsUnknown};
 
 use guppy::{Error, PackageGraph, PackageId};

@@ -1,5 +1,6 @@
 pub mod Device
 pub mod Cause
+pub mod Ids
 pub mod Platforms
 pub mod Options
 pub mod Command

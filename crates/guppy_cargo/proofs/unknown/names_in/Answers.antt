@@ -6,7 +6,7 @@ use Rattle.guppy.specs.Graph.{GraphData}
 use Rattle.guppy.specs.Iterators.{packages_left, packages_of}
 use Rattle.guppy.specs.Views.{graph_packages, package_position, package_seen}
 use Rattle.guppy_program.proofs.IncludedIds.{all_given}
-use Rattle.guppy_cargo.specs.Names.{name_of}
+use Rattle.guppy_arguments.specs.Names.{name_of}
 use Rattle.guppy_cargo.proofs.PackageNames.{name_seen, name_at, names_seen}
 use Rattle.guppy_cargo.proofs.unknown.names_in.Goals as goal
 

@@ -1,7 +1,7 @@
 use Rattle.std.proofs.Common.{List, ℕ, Bor, map, sym, subst}
 use Rattle.std.specs.List.Sorted.{IsPermutation}
 use Rattle.std.proofs.lemmas.Result.{IfOk-weaker}
-use Rattle.guppy_cargo.specs.Names.{name_of}
+use Rattle.guppy_arguments.specs.Names.{name_of}
 use Rattle.guppy_cargo.proofs.PackageNames.{nearest_among}
 use Rattle.guppy_cargo.proofs.unknown.nearest_name.Goals as goal
 

@@ -1,13 +1,12 @@
 -- Packages that are called by a text, found one by one.
-use Rattle.std.proofs.Common.{◌≡◌, ◌∙◌, ℕ, zero, suc, ◌+◌, ◌<◌, Bool, true, false, cond, ◌||◌, List, [], ◌∷◌, ◌++◌, filter, map, take, length, get_or, refl, sym, ap, arith, codes, append_assoc, length-append}
+use Rattle.std.proofs.Common.{◌≡◌, ◌∙◌, ℕ, ◌+◌, ◌<◌, Bool, true, false, cond, ◌||◌, List, [], ◌∷◌, ◌++◌, filter, map, take, length, get_or, refl, sym, ap, arith, codes, append_assoc, length-append}
 use Rattle.std.specs.Str.{bytes_eq}
 use Rattle.std.proofs.lemmas.List.{map-append}
 use Rattle.std.proofs.lemmas.List.Elements.{filter_more}
 use Rattle.std.proofs.lemmas.Slice.Eq.{bytes_eq-Decides}
 use Rattle.semver.specs.Identifiers.{version_text}
 use Rattle.guppy_data.specs.declared.records.PackageRecord.{PackageRecord}
-use Rattle.guppy.specs.Ids.{IsKnown}
-use Rattle.guppy_cargo.specs.Names.{name_of, full_name_of, is_called, called}
+use Rattle.guppy_arguments.specs.Names.{name_of, full_name_of, is_called, called}
 
 -- no text goes on behind itself
 longer : (name rest : List ℕ) → name ≡ name ++ codes "@" ++ rest → ⊥
@@ -34,17 +33,3 @@ called_more packages k r other low is text =
     ap ids (filter_more (is_called text) packages k other low) ∙ (map-append (λ p. p.id) before _
     ∙ (ap (λ p. ids before ++ ids (cond (is_called text p) (p ∷ []) [])) (sym is)
     ∙ (ap (λ more. ids before ++ more) (either_of (λ p. p.id) r by_name by_full (called_once text r)) ∙ sym (append_assoc (ids before) _ _))))
-
-first_known : (r : PackageRecord) (rs others : List PackageRecord) (id : List ℕ) (rest : List (List ℕ)) → (map (λ (p : PackageRecord). p.id) others ≡ id ∷ rest → IsKnown rs id)
-    → (here : Bool) → map (λ (p : PackageRecord). p.id) (cond here (r ∷ others) others) ≡ id ∷ rest → IsKnown (r ∷ rs) id
-first_known r rs others id rest among true is = (zero, cc is)
-first_known r rs others id rest among false is = let known = among is in (suc known.0, known.1)
-
--- the first ID of the packages that are called so is a package's
-pub called_known : (packages : List PackageRecord) (text id : List ℕ) (rest : List (List ℕ)) → called packages text ≡ id ∷ rest → IsKnown packages id
-called_known [] text id rest is = absurd (cc is)
-called_known (r ∷ rs) text id rest is = first_known r rs (filter (is_called text) rs) id rest (called_known rs text id rest) (is_called text r) is
-
-pub first_called : (packages : List PackageRecord) (text : List ℕ) (ids : List (List ℕ)) (other : List ℕ) → ids ≡ called packages text → 0 < length ids → IsKnown packages (get_or ids 0 other)
-first_called packages text [] other is some = absurd (omega (arith, some))
-first_called packages text (id ∷ rest) other is some = called_known packages text id rest (sym is)

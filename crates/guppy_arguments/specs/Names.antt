@@ -10,8 +10,8 @@ use Rattle.std.specs.String.{string_bytes}
 use Rattle.indexmap.specs.IndexSet.{IndexSet, contains_by}
 use Rattle.semver.specs.Identifiers.{version_text}
 use Rattle.guppy_data.specs.declared.records.PackageRecord.{PackageRecord}
-use Rattle.guppy_program.specs.Format.{has_id}
-use Rattle.guppy_cargo.specs.declared.names.Names.{Names}
+use Rattle.guppy_command.specs.Ids.{has_id}
+use Rattle.guppy_arguments.specs.declared.names.Names.{Names}
 
 abbrev pub name_of : PackageRecord → List ℕ
 name_of r = string_bytes r.name

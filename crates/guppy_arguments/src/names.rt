@@ -5,7 +5,7 @@ ghost use Rattle.std.specs.Option.{option_map_or};
 ghost use Rattle.indexmap.specs.IndexMap.{get_by_text};
 ghost use Rattle.std.specs.Str.{bytes_eq};
 ghost use Rattle.guppy_data.specs.declared.records.PackageRecord.{PackageRecord};
-ghost use Rattle.guppy_cargo.specs.Names.{full_name_of, called, meant, is_only, printed, text, AreIds, AreCalled, AreTexts, AreNames};
+ghost use Rattle.guppy_arguments.specs.Names.{full_name_of, called, meant, is_only, printed, text, AreIds, AreCalled, AreTexts, AreNames};
 
 use guppy_data::{PackageId, PackageRecord};
 use indexmap::{IndexMap, IndexSet};

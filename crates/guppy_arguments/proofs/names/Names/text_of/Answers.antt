@@ -1,7 +1,7 @@
 use Rattle.std.proofs.Common.{◌∙◌, ap, string_bytes}
 use Rattle.indexmap.specs.IndexMap.{get_by_text}
 use Rattle.std.specs.Option.{option_map_or}
-use Rattle.guppy_cargo.proofs.names.Names.text_of.Goals as goal
+use Rattle.guppy_arguments.proofs.names.Names.text_of.Goals as goal
 
 pub returns-in-Some : goal.returns-in-Some
 returns-in-Some c packages are =

@@ -1,5 +1,5 @@
-use Rattle.guppy_cargo.proofs.CalledPackages.{called_more}
-use Rattle.guppy_cargo.proofs.names.called_by_text.Goals as goal
+use Rattle.guppy_arguments.proofs.CalledPackages.{called_more}
+use Rattle.guppy_arguments.proofs.names.called_by_text.Goals as goal
 
 pub loop-package-preserved : goal.loop-package-preserved
 loop-package-preserved c text =

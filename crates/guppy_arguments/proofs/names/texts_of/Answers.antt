@@ -5,9 +5,9 @@ use Rattle.std.specs.Str.{bytes_eq}
 use Rattle.std.proofs.lemmas.List.{take_all, take_more}
 use Rattle.std.proofs.lemmas.Map.Text.{hash_map_updates_text}
 use Rattle.guppy_data.specs.declared.records.PackageRecord.{PackageRecord}
-use Rattle.guppy_cargo.specs.Names.{printed}
-use Rattle.guppy_cargo.proofs.FirstElements.{first_with, HasFirsts, HasFirsts-stays, HasFirsts-put, map_or_same}
-use Rattle.guppy_cargo.proofs.names.texts_of.Goals as goal
+use Rattle.guppy_arguments.specs.Names.{printed}
+use Rattle.guppy_arguments.proofs.FirstElements.{first_with, HasFirsts, HasFirsts-stays, HasFirsts-put, map_or_same}
+use Rattle.guppy_arguments.proofs.names.texts_of.Goals as goal
 
 pub loop-package-preserved-then-contains_key : goal.loop-package-preserved-then-contains_key
 loop-package-preserved-then-contains_key c are_ids are_called =

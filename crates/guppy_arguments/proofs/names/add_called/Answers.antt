@@ -7,8 +7,8 @@ use Rattle.std.proofs.lemmas.Map.Text.{hash_map_text_same, hash_map_updates_text
 use Rattle.std.proofs.lemmas.Slice.Eq.{bytes_eq-Decides}
 use Rattle.indexmap.specs.Entry.{entry_value, map_with_value}
 use Rattle.indexmap.specs.IndexMap.{get_by_text}
-use Rattle.guppy_cargo.proofs.KeyLists.{items_or_none, one_put}
-use Rattle.guppy_cargo.proofs.names.add_called.Goals as goal
+use Rattle.guppy_arguments.proofs.KeyLists.{items_or_none, one_put}
+use Rattle.guppy_arguments.proofs.names.add_called.Goals as goal
 
 pub returns : goal.returns
 returns c other =

@@ -2,9 +2,9 @@ use Rattle.std.proofs.Common.{◌∙◌, ◌||◌, sym, ap, take, arith}
 use Rattle.std.specs.Str.{bytes_eq}
 use Rattle.std.proofs.lemmas.List.{take_all}
 use Rattle.std.proofs.lemmas.List.Folds.{list_any_more}
-use Rattle.guppy_program.specs.Format.{has_id}
+use Rattle.guppy_command.specs.Ids.{has_id}
 use Rattle.guppy_metadata.proofs.TextLists.{in_keys, among_inserted}
-use Rattle.guppy_cargo.proofs.names.ids_of.Goals as goal
+use Rattle.guppy_arguments.proofs.names.ids_of.Goals as goal
 
 pub loop-package-preserved : goal.loop-package-preserved
 loop-package-preserved c id =

@@ -1,8 +1,8 @@
 //! Laws on what is printed for packages, each stated by the contract of a function.
 ghost use Rattle.std.specs.Prelude.{◌≡◌, ℕ, List, [], ◌∷◌, true};
 ghost use Rattle.guppy_data.specs.declared.records.PackageRecord.{PackageRecord};
-ghost use Rattle.guppy_program.specs.Format.{has_id};
-ghost use Rattle.guppy_cargo.specs.Names.{meant, text};
+ghost use Rattle.guppy_command.specs.Ids.{has_id};
+ghost use Rattle.guppy_arguments.specs.Names.{meant, text};
 
 /// What is printed for a package means this package alone.
 pub fn printed_reads_back()
