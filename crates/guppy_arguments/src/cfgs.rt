@@ -75,6 +75,27 @@ fn behind(before: Before, word: &str) -> Before {
     }
 }
 
+// Adds the word that stands behind this, or what its file has to the name of its platform.
+fn add_word<R: Files + AllocGlobal>(
+    rt: &R,
+    all: &mut Vec<String>,
+    before: Before,
+    word: String,
+) -> Result<(), CargoFault> {
+    match before {
+        Before::Cfgs => match all.last_mut() {
+            Some(name) => add_lines(rt, name, word),
+            None => Ok(()),
+        },
+        _ => {
+            if before == Before::Platform {
+                check(rt.alloc(), word.as_str())?;
+            }
+            Ok(all.push(word)?)
+        }
+    }
+}
+
 /// The arguments, whose options stand in front, with the lines that FILE has behind TRIPLE, in one word, for each
 /// `--platform TRIPLE --cfgs FILE`. Takes memory for them all.
 ///
@@ -88,15 +109,8 @@ pub fn with_cfgs<R: Files + AllocGlobal>(
     let mut before = Before::Other;
     for word in args {
         let next = behind(before, word.as_str());
-        if before == Before::Cfgs {
-            if let Some(name) = all.last_mut() {
-                add_lines(rt, name, word)?;
-            }
-        } else if next != Before::Cfgs {
-            if before == Before::Platform {
-                check(rt.alloc(), word.as_str())?;
-            }
-            all.push(word)?;
+        if next != Before::Cfgs {
+            add_word(rt, &mut all, before, word)?;
         }
         before = next;
     }

@@ -5,7 +5,7 @@ ghost use Rattle.std.specs.Option.{option_map_or};
 ghost use Rattle.indexmap.specs.IndexMap.{get_by_text};
 ghost use Rattle.std.specs.Str.{bytes_eq};
 ghost use Rattle.guppy_data.specs.declared.records.PackageRecord.{PackageRecord};
-ghost use Rattle.guppy_arguments.specs.Names.{full_name_of, called, meant, is_only, printed, text, AreIds, AreCalled, AreTexts, AreNames};
+ghost use Rattle.guppy_arguments.specs.Names.{name_of, full_name_of, called, meant, is_only, printed, text, AreIds, AreCalled, AreTexts, AreNames};
 
 use guppy_data::{PackageId, PackageRecord};
 use indexmap::{IndexMap, IndexSet};
@@ -43,6 +43,24 @@ fn full_name(alloc: Global, package: &PackageRecord) -> Result<String, AllocErro
     format!(in alloc; "{}@{}", package.name, package.version)
 }
 
+// Adds the package's ID to those with its name, and to those with its name and version.
+fn add_package(
+    ids_by_text: &mut IndexMap<String, Vec<PackageId>>,
+    alloc: Global,
+    package: &PackageRecord,
+) -> Result<(), AllocError>
+    ensures { OnOk result ((other : List ℕ)
+        → option_map_or (λ ids. ids.items) (get_by_text ids_by_text.new other) []
+        ≡ option_map_or (λ ids. ids.items) (get_by_text ids_by_text.old other) []
+        ++ (if bytes_eq other (name_of «package».now) then «package».now.id ∷ [] else [])
+        ++ (if bytes_eq other (full_name_of «package».now) then «package».now.id ∷ [] else [])) }
+{
+    let name = package.name.clone()?;
+    add_called(ids_by_text, alloc, name, package.id.clone()?)?;
+    let full = full_name(alloc, package)?;
+    add_called(ids_by_text, alloc, full, package.id.clone()?)
+}
+
 // The IDs of the packages that are called by each text.
 fn called_by_text(
     alloc: Global,
@@ -52,10 +70,7 @@ fn called_by_text(
 {
     let mut ids_by_text = IndexMap::new(alloc);
     for package in packages {
-        let name = package.name.clone()?;
-        add_called(&mut ids_by_text, alloc, name, package.id.clone()?)?;
-        let full = full_name(alloc, package)?;
-        add_called(&mut ids_by_text, alloc, full, package.id.clone()?)?;
+        add_package(&mut ids_by_text, alloc, package)?;
     }
     Ok(ids_by_text)
 }
