@@ -1,5 +1,5 @@
 -- The names of a graph's packages, in the order in which the packages are given.
-use Rattle.std.proofs.Common.{◌≡◌, ◌∙◌, refl, sym, ap, ℕ, zero, suc, ◌<◌, List, [], ◌∷◌, length, map, get_or, Bor, ext_get_or, Contains, Option, None, Some, arith}
+use Rattle.std.proofs.Common.{◌≡◌, ◌∙◌, sym, ap, ℕ, zero, suc, List, [], ◌∷◌, length, map, get_or, Bor, ext_get_or, Contains, Option, None, Some, arith}
 use Rattle.std.specs.Prelude.{MatchOption, IsSomeAnd, slice_get, string_bytes}
 use Rattle.std.specs.List.{range_with_len}
 use Rattle.std.specs.List.Sorted.{IsPermutation}

@@ -1,8 +1,7 @@
-use Rattle.std.proofs.Common.{◌≡◌, ◌∙◌, sym, ap, subst, List, [], ◌∷◌, ◌++◌, map, Bor, ℕ}
+use Rattle.std.proofs.Common.{◌∙◌, sym, ap, subst, List, [], ◌∷◌, ◌++◌, map, Bor, ℕ}
 use Rattle.std.specs.List.Sorted.{IsPermutation}
 use Rattle.std.proofs.lemmas.List.{map_push}
 use Rattle.std.proofs.lemmas.List.Sorted.{IsPermutation-map}
-use Rattle.guppy.specs.Graph.{GraphData}
 use Rattle.guppy.specs.Iterators.{packages_left, packages_of}
 use Rattle.guppy.specs.Views.{graph_packages, package_position, package_seen}
 use Rattle.guppy_program.proofs.IncludedIds.{all_given}
