@@ -1,10 +1,7 @@
-pub mod Prefixes
-pub mod Elements
 pub mod Walks
 pub mod Iterators
 pub mod ReverseResolves
 pub mod Tests
-pub mod Sets
 pub mod Local
 pub mod Owners
 pub mod Members

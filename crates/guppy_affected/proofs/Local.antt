@@ -1,24 +1,18 @@
 -- The packages of this machine, by their folders.
-use Rattle.std.proofs.Common.{◌≡◌, ◌∙◌, inl, inr, ⊎_elim, sym, ap, subst, ℕ, zero, suc, ◌<◌, List, [], ◌∷◌, ◌++◌, length, map, Contains, Bor, arith}
+use Rattle.std.proofs.Common.{◌≡◌, inl, inr, ⊎_elim, sym, ap, subst, ℕ, zero, suc, ◌<◌, List, [], ◌∷◌, ◌++◌, length, Contains, Bor, arith}
 use Rattle.std.specs.Prelude.{◌↔◌, IsSomeAnd, None, Some}
 use Rattle.std.specs.List.{range_with_len}
 use Rattle.std.specs.List.Sorted.{IsPermutation}
-use Rattle.std.specs.declared.vec.Vec.{Vec}
-use Rattle.std.specs.declared.alloc.Global.{Global}
-use Rattle.std.proofs.lemmas.List.{map_push}
 use Rattle.std.proofs.lemmas.List.Elements.{Contains-append_left, Contains-push, Contains-push_cases}
 use Rattle.std.proofs.lemmas.List.FromFn.{length-range_with_len, get_or-range_with_len}
 use Rattle.std.proofs.lemmas.List.Sorted.{Contains-permutation, IsPermutation-sym}
 use Rattle.guppy.specs.Path.{Part, components}
-use Rattle.guppy.specs.Component.{part_shown}
 use Rattle.guppy.specs.DataTypes.records.PackageRecord.{PackageRecord}
-use Rattle.guppy.specs.DataTypes.texts.component.Component.{Component}
 use Rattle.guppy.specs.Graph.{GraphData}
 use Rattle.guppy.specs.Iterators.{packages_of}
 use Rattle.guppy_affected.specs.Folders.{folder_at}
-use Rattle.guppy_affected.specs.Found.{lists_in, IsFolder}
-use Rattle.guppy.proofs.CyclicComponents.{Contains-map, from_map}
-use Rattle.guppy_affected.proofs.Elements.{One, One-push}
+use Rattle.guppy_affected.specs.Found.{IsFolder}
+use Rattle.guppy_folders.proofs.Elements.{Contains-map, from_map, One, One-push}
 
 -- the package that is seen is of this machine, with this folder
 abbrev pub HasFolder : List Part → Bor GraphData × ℕ → Type 0
@@ -51,17 +45,16 @@ module _ (g : Bor GraphData) (seen : List (Bor GraphData × ℕ)) (all : IsPermu
   )
 
 -- a list for each package of this machine that was seen
-module _ (lists : List (Vec Component Global)) (seen : List (Bor GraphData × ℕ)) (so_far : (folder : List Part) → Contains (lists_in lists) folder ↔ One seen (HasFolder folder)) (e : Bor GraphData × ℕ) where
-  pub with_more : (list : Vec Component Global) (own : List ℕ) → Some own ≡ folder_at e.0.now.packages e.1 → map part_shown list.items ≡ components own → (folder : List Part) → Contains (lists_in (lists ++ list ∷ [])) folder ↔ One (seen ++ e ∷ []) (HasFolder folder)
-  with_more list own is parts folder =
-      let more = One-push (HasFolder folder) seen e in
-      let push : lists_in (lists ++ list ∷ []) ≡ lists_in lists ++ map part_shown list.items ∷ [] = map_push (λ (l : Vec Component Global). map part_shown l.items) lists list in (
-        λ there. more.1 (⊎_elim (λ early. inl ((so_far folder).0 early)) (λ same. inr (rw (← is) (sym parts ∙ same))) (Contains-push_cases (lists_in lists) (map part_shown list.items) folder (subst (λ l. Contains l folder) push there))),
-        λ one. subst (λ l. Contains l folder) (sym push) (⊎_elim (λ early. Contains-append_left (lists_in lists) (map part_shown list.items ∷ []) folder ((so_far folder).1 early))
-            (λ has. let own_is : components own ≡ folder = rw (← is) at has in subst (λ c. Contains (lists_in lists ++ map part_shown list.items ∷ []) c) (parts ∙ own_is) (Contains-push (lists_in lists) (map part_shown list.items))) (more.0 one)),
+module _ (lists : List (List Part)) (seen : List (Bor GraphData × ℕ)) (so_far : (folder : List Part) → Contains lists folder ↔ One seen (HasFolder folder)) (e : Bor GraphData × ℕ) where
+  pub with_more : (own : List ℕ) → Some own ≡ folder_at e.0.now.packages e.1 → (folder : List Part) → Contains (lists ++ components own ∷ []) folder ↔ One (seen ++ e ∷ []) (HasFolder folder)
+  with_more own is folder =
+      let more = One-push (HasFolder folder) seen e in (
+        λ there. more.1 (⊎_elim (λ early. inl ((so_far folder).0 early)) (λ same. inr (rw (← is) same)) (Contains-push_cases lists (components own) folder there)),
+        λ one. ⊎_elim (λ early. Contains-append_left lists (components own ∷ []) folder ((so_far folder).1 early))
+            (λ has. let own_is : components own ≡ folder = rw (← is) at has in subst (λ c. Contains (lists ++ components own ∷ []) c) own_is (Contains-push lists (components own))) (more.0 one),
       )
 
-  pub with_none : None ≡ folder_at e.0.now.packages e.1 → (folder : List Part) → Contains (lists_in lists) folder ↔ One (seen ++ e ∷ []) (HasFolder folder)
+  pub with_none : None ≡ folder_at e.0.now.packages e.1 → (folder : List Part) → Contains lists folder ↔ One (seen ++ e ∷ []) (HasFolder folder)
   with_none is folder =
       let more = One-push (HasFolder folder) seen e in (
         λ there. more.1 (inl ((so_far folder).0 there)),

@@ -1,8 +1,8 @@
 -- Which packages the paths touch, by the folders that hold them.
-use Rattle.std.proofs.Common.{◌≡◌, ◌⊎◌, inl, inr, ⊎_elim, refl, sym, ap, subst, ℕ, zero, suc, ◌<◌, Bool, false, List, [], ◌∷◌, ◌++◌, length, replicate, Contains, Bor, None, Some, arith}
+use Rattle.std.proofs.Common.{◌≡◌, ◌∙◌, ◌⊎◌, inl, inr, ⊎_elim, refl, sym, ap, subst, ℕ, zero, suc, ◌<◌, Bool, false, List, [], ◌∷◌, length, replicate, Contains, Bor, None, Some, arith}
 use Rattle.std.specs.Prelude.{◌↔◌, Option, IsSomeAnd}
 use Rattle.std.specs.List.Sorted.{IsPermutation}
-use Rattle.std.proofs.lemmas.List.Elements.{Contains-append_cases, Contains-append_left, Contains-append_right, Contains-push, Contains-push_cases}
+use Rattle.std.proofs.lemmas.List.Elements.{Contains-append_right}
 use Rattle.guppy.specs.IxSet.{IsIn, IsUnion}
 use Rattle.guppy.specs.Path.{Part, components}
 use Rattle.guppy.specs.DataTypes.records.PackageRecord.{PackageRecord}
@@ -10,74 +10,14 @@ use Rattle.guppy.specs.Graph.{GraphData}
 use Rattle.guppy.specs.Iterators.{packages_of}
 use Rattle.guppy.specs.Members.{IsMember}
 use Rattle.guppy.specs.Query.{IsSetWhere}
-use Rattle.guppy_affected.specs.Folders.{folder_at, Begins, Holds, Belongs, depth}
-use Rattle.guppy_affected.specs.Affected.{IsIgnored, OfOne, IsOfWorkspace}
-use Rattle.guppy_affected.specs.Found.{AreFolders, IsLongest, HoldsNone}
-use Rattle.guppy_affected.specs.Changed.{IsForAll, AreChanged, IsOneOutside, AreLongest, HasFolderIn}
-use Rattle.guppy_affected.proofs.Elements.{from_one, here_first}
+use Rattle.guppy_folders.specs.Folders.{Begins, IsLongest, HoldsNone}
+use Rattle.guppy_folders.specs.Touched.{IsOneOutside, AreLongest}
+use Rattle.guppy_affected.specs.Folders.{folder_at, Holds, Belongs, depth}
+use Rattle.guppy_affected.specs.Found.{AreFolders}
+use Rattle.guppy_affected.specs.Changed.{IsForAll, AreChanged, HasFolderIn, IsAdded}
 use Rattle.guppy_affected.proofs.Iterators.{where_along}
 use Rattle.guppy_affected.proofs.Local.{was_seen, of_graph}
-use Rattle.guppy_affected.proofs.Sets.{same_prefix}
 use Rattle.guppy_affected.proofs.Tests.{none_in}
-
-module _ (ignored : List (List ℕ)) (P : List ℕ → Type 0) where
-  OfOne-none : OfOne [] ignored P → ⊥
-  OfOne-none (path, (k, within, same), counts, h) = absurd (omega arith)
-
-  -- with one more path
-  OfOne-push : (paths : List (List ℕ)) (path : List ℕ) → OfOne (paths ++ path ∷ []) ignored P ↔ (OfOne paths ignored P ⊎ ((IsIgnored ignored path → ⊥) × P path))
-  OfOne-push paths path = (
-    λ (own, there, counts, h). ⊎_elim (λ early. inl (own, early, counts, h)) (λ late. let same = sym (from_one path own late) in inr (subst (λ l. IsIgnored ignored l → ⊥) same counts, subst P same h)) (Contains-append_cases paths (path ∷ []) own there),
-    λ either. ⊎_elim (λ (own, there, counts, h). (own, Contains-append_left paths (path ∷ []) own there, counts, h)) (λ now. (path, Contains-append_right paths (path ∷ []) path (here_first path []), now.0, now.1)) either,
-  )
-
-module _ (folders : List (List Part)) (ignored : List (List ℕ)) where
-  -- no path touches anything
-  pub longest_none : AreLongest folders [] ignored []
-  longest_none = record {
-    inside = λ one. OfOne-none ignored (λ path. IsOfWorkspace path ⊎ HoldsNone folders (components path)) one;
-    longest = λ folder. (
-      λ there. absurd (omega (arith, there.1)),
-      λ one. absurd (OfOne-none ignored (λ path. IsLongest folders (components path) folder) one),
-    );
-  }
-
-  -- the longest folder that holds a path is one
-  one_longest : (path : List Part) (a b : List Part) → IsLongest folders path a → IsLongest folders path b → a ≡ b
-  one_longest path a b own other =
-      let least = other.longest a own.is_one own.holds in
-      let most = own.longest b other.is_one other.holds in
-      same_prefix path a b own.holds other.holds (omega arith)
-
-  module _ (paths : List (List ℕ)) (lists : List (List Part)) (are : AreLongest folders paths ignored lists) (path : List ℕ) where
-    -- a path to be left out touches nothing
-    pub longest_skipped : IsIgnored ignored path → AreLongest folders (paths ++ path ∷ []) ignored lists
-    longest_skipped skipped = record {
-      inside = λ one. ⊎_elim are.inside (λ late. late.0 skipped) ((OfOne-push ignored (λ path. IsOfWorkspace path ⊎ HoldsNone folders (components path)) paths path).0 one);
-      longest = λ folder.
-          let more = OfOne-push ignored (λ path. IsLongest folders (components path) folder) paths path in (
-            λ there. more.1 (inl ((are.longest folder).0 there)),
-            λ one. ⊎_elim (λ early. (are.longest folder).1 early) (λ late. absurd (late.0 skipped)) (more.0 one),
-          );
-    }
-
-    -- and any other the longest folder that holds it
-    pub longest_more : (IsIgnored ignored path → ⊥) → (IsOfWorkspace path → ⊥) → (own : List Part) → IsLongest folders (components path) own → AreLongest folders (paths ++ path ∷ []) ignored (lists ++ own ∷ [])
-    longest_more counts apart own is = record {
-      inside = λ one. ⊎_elim are.inside (λ late. ⊎_elim apart (λ none. none own is.is_one is.holds) late.1) ((OfOne-push ignored (λ path. IsOfWorkspace path ⊎ HoldsNone folders (components path)) paths path).0 one);
-      longest = λ folder.
-          let more = OfOne-push ignored (λ path. IsLongest folders (components path) folder) paths path in (
-            λ there. more.1 (⊎_elim (λ early. inl ((are.longest folder).0 early)) (λ same. inr (counts, subst (IsLongest folders (components path)) same is)) (Contains-push_cases lists own folder there)),
-            λ one. ⊎_elim (λ early. Contains-append_left lists (own ∷ []) folder ((are.longest folder).1 early))
-                (λ late. subst (Contains (lists ++ own ∷ [])) (one_longest (components path) own folder is late.1) (Contains-push lists own)) (more.0 one),
-          );
-    }
-
-  pub longest_along : (paths : List (List ℕ)) (lists others : List (List Part)) → AreLongest folders paths ignored lists → ((c : List Part) → Contains others c ↔ Contains lists c) → AreLongest folders paths ignored others
-  longest_along paths lists others are same = record {
-    inside = are.inside;
-    longest = λ folder. (λ there. (are.longest folder).0 ((same folder).0 there), λ one. (same folder).1 ((are.longest folder).1 one));
-  }
 
 -- of the packages with P, those that were seen are in the set, and the others are still to come
 pub record ArePicked (graph : GraphData) (P : ℕ → Type 0) (left : List (Bor GraphData × ℕ)) (set : List Bool) : Type 0 where
@@ -107,20 +47,39 @@ module _ (graph : GraphData) (P : ℕ → Type 0) (set : List Bool) where
     first_or_later b p (zero, within, same) = inl (ap (λ (d : Bor GraphData × ℕ). d.1) same)
     first_or_later b p (suc k, within, same) = inr (k, omega arith, same)
 
-    pub picked_more : P e.1 → (one more : List Bool) → ((p : ℕ) → IsIn one p ↔ (p ≡ e.1)) → IsUnion set one more → ArePicked graph P left more
-    picked_more has one more only both = record {
+    picked_more : P e.1 → (more : List Bool) → ((q : ℕ) → IsIn more q ↔ (IsIn set q ⊎ (q ≡ e.1))) → ArePicked graph P left more
+    picked_more has more both = record {
       of_graph = later_of;
-      inside = λ p h. ⊎_elim (are.inside p) (λ k. subst P (sym ((only p).0 k)) has) ((both p).0 h);
+      inside = λ p h. ⊎_elim (are.inside p) (λ same. subst P (sym same) has) ((both p).0 h);
       rest = λ p h. ⊎_elim (λ k. inl ((both p).1 (inl k)))
-          (λ (b, there). ⊎_elim (λ same. inl ((both p).1 (inr ((only p).1 (sym same))))) (λ later. inr (b, later)) (first_or_later b p there)) (are.rest p h);
+          (λ (b, there). ⊎_elim (λ same. inl ((both p).1 (inr (sym same)))) (λ later. inr (b, later)) (first_or_later b p there)) (are.rest p h);
     }
 
-    pub picked_not : (P e.1 → ⊥) → ArePicked graph P left set
+    picked_not : (P e.1 → ⊥) → ArePicked graph P left set
     picked_not has_not = record {
       of_graph = later_of;
       inside = are.inside;
       rest = λ p h. ⊎_elim (λ k. inl k) (λ (b, there). ⊎_elim (λ same. absurd (has_not (subst P (sym same) h))) (λ later. inr (b, later)) (first_or_later b p there)) (are.rest p h);
     }
+
+-- with one more package, where its folder is one of these
+module _ (g : GraphData) (folders : List (List Part)) (e : Bor GraphData × ℕ) (left : List (Bor GraphData × ℕ)) (set more : List Bool)
+    (picked : ArePicked g (HasFolderIn g.packages folders) (e ∷ left) set) (added : IsAdded e.0.now.packages folders e.1 set more) where
+  added_here : IsAdded g.packages folders e.1 set more
+  added_here = subst (λ (g : GraphData). IsAdded g.packages folders e.1 set more) (picked_graph g (HasFolderIn g.packages folders) set e left picked) added
+
+  pub picked_added : ArePicked g (HasFolderIn g.packages folders) left more
+  picked_added = ⊎_elim (λ (has, count, both). picked_more g (HasFolderIn g.packages folders) set e left picked has more both)
+      (λ (has_not, same). subst (ArePicked g (HasFolderIn g.packages folders) left) (sym same) (picked_not g (HasFolderIn g.packages folders) set e left picked has_not)) added_here
+
+  pub count_added : length set ≡ length g.packages → length more ≡ length g.packages
+  count_added count_is = ⊎_elim (λ (has, count, both). count) (λ (has_not, same). ap length same ∙ count_is) added_here
+
+pub union_with_one : (set one more : List Bool) (n : ℕ) → ((p : ℕ) → IsIn one p ↔ (p ≡ n)) → IsUnion set one more → (p : ℕ) → IsIn more p ↔ (IsIn set p ⊎ (p ≡ n))
+union_with_one set one more n only both p = (
+  λ h. ⊎_elim (λ k. inl k) (λ k. inr ((only p).0 k)) ((both p).0 h),
+  λ either. (both p).1 (⊎_elim (λ k. inl k) (λ same. inr ((only p).1 same)) either),
+)
 
 -- the folder of a package of this machine, with what holds of it
 with_own : (P : List ℕ → Type 0) (o : Option (List ℕ)) → IsSomeAnd o P → (own : List ℕ) × (o ≡ Some own) × P own

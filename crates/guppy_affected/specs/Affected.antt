@@ -1,7 +1,6 @@
 -- Which members of a workspace are to be tested after files changed.
-use Rattle.std.specs.Prelude.{◌≡◌, ◌≢◌, ◌⊎◌, ◌↔◌, ℕ, List, Contains, codes}
+use Rattle.std.specs.Prelude.{◌≡◌, ◌≢◌, ◌⊎◌, ◌↔◌, ℕ, List}
 use Rattle.guppy.specs.SearchTypes.ix.direction.DependencyDirection.TheVariants.{Forward, Reverse}
-use Rattle.guppy.specs.Path.{components}
 use Rattle.guppy.specs.DataTypes.records.PackageRecord.{PackageRecord}
 use Rattle.guppy.specs.FirmCycles.{HasNoFirmCycle}
 use Rattle.guppy.specs.Graph.{GraphData}
@@ -11,26 +10,8 @@ use Rattle.guppy.specs.Members.{IsMember}
 use Rattle.guppy.specs.Ordered.{FirmStep}
 use Rattle.guppy.specs.Query.{SetData}
 use Rattle.guppy.specs.Reach.{LinkStep, Walk}
-use Rattle.guppy_affected.specs.Folders.{LiesIn, Holds, Belongs}
-
--- one of the folders to leave out holds the path
-abbrev pub IsIgnored : List (List ℕ) → List ℕ → Type 0
-IsIgnored ignored path = (folder : List ℕ) × Contains ignored folder × LiesIn folder path
-
--- P holds of one of the paths that aren't to be left out
-abbrev pub OfOne : List (List ℕ) → List (List ℕ) → (List ℕ → Type 0) → Type 0
-OfOne paths ignored P = (path : List ℕ) × Contains paths path × (¬ IsIgnored ignored path) × P path
-
--- the paths have the same components
-abbrev pub IsPath : List ℕ → List ℕ → Type 0
-IsPath text path = components path ≡ components text
-
--- the path is that of the workspace's own manifest, of what Cargo locked or of the toolchain, or lies in the
--- folder of Cargo's settings
-abbrev pub IsOfWorkspace : List ℕ → Type 0
-IsOfWorkspace path = IsPath (codes "Cargo.toml") path ⊎ (IsPath (codes "Cargo.lock") path
-    ⊎ (IsPath (codes "rust-toolchain") path ⊎ (IsPath (codes "rust-toolchain.toml") path
-    ⊎ LiesIn (codes ".cargo") path)))
+use Rattle.guppy_affected.specs.Folders.{Holds, Belongs}
+pub use Rattle.guppy_folders.specs.Touched.{IsIgnored, OfOne, IsPath, IsOfWorkspace}
 
 -- the path is everyone's: it is of the workspace, or no folder of a package of this machine holds it
 abbrev pub IsEveryones : List PackageRecord → List ℕ → Type 0

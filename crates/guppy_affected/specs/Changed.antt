@@ -1,15 +1,12 @@
 -- Which packages the paths touch, and the folders that this is told by.
-use Rattle.std.specs.Prelude.{◌⊎◌, ◌↔◌, ℕ, Bool, List, Option, Contains, MatchOption, IsSomeAnd}
-use Rattle.std.specs.declared.vec.Vec.{Vec}
-use Rattle.std.specs.declared.alloc.Global.{Global}
+use Rattle.std.specs.Prelude.{◌≡◌, ◌⊎◌, ◌↔◌, ℕ, Bool, List, length, Contains, IsSomeAnd}
+use Rattle.guppy.specs.IxSet.{IsIn}
 use Rattle.guppy.specs.Path.{Part, components}
 use Rattle.guppy.specs.DataTypes.records.PackageRecord.{PackageRecord}
-use Rattle.guppy.specs.DataTypes.texts.component.Component.{Component}
 use Rattle.guppy.specs.Members.{IsMember}
 use Rattle.guppy.specs.Query.{IsSetWhere}
 use Rattle.guppy_affected.specs.Folders.{folder_at, Belongs}
-use Rattle.guppy_affected.specs.Affected.{OfOne, IsOfWorkspace, IsEveryones}
-use Rattle.guppy_affected.specs.Found.{lists_in, HoldsNone, IsLongest}
+use Rattle.guppy_affected.specs.Affected.{OfOne, IsEveryones}
 
 -- one of the paths is everyone's
 abbrev pub IsForAll : List PackageRecord → List (List ℕ) → List (List ℕ) → Type 0
@@ -27,30 +24,14 @@ AreChanged packages paths ignored set =
     ⊎ ((¬ IsForAll packages paths ignored)
     × IsSetWhere packages (IsTouched packages paths ignored) set)
 
--- one of the paths is of the workspace, or none of the folders holds it
-abbrev pub IsOneOutside : List (List Part) → List (List ℕ) → List (List ℕ) → Type 0
-IsOneOutside folders paths ignored =
-    OfOne paths ignored (λ path. IsOfWorkspace path ⊎ HoldsNone folders (components path))
-
--- the folder is the longest that holds one of the paths
-abbrev pub IsLongestOfOne : List (List Part) → List (List ℕ) → List (List ℕ) → List Part → Type 0
-IsLongestOfOne folders paths ignored folder =
-    OfOne paths ignored (λ path. IsLongest folders (components path) folder)
-
--- exactly the longest folders that hold the paths, and none where one of these is outside of them
-pub record AreLongest (folders : List (List Part)) (paths ignored : List (List ℕ))
-    (touched : List (List Part)) : Type 0 where
-  pub inside : ¬ IsOneOutside folders paths ignored
-  pub longest : (folder : List Part) → Contains touched folder
-      ↔ IsLongestOfOne folders paths ignored folder
-
--- the longest folders that hold the paths were found, or nothing where one of these is outside of them
-abbrev pub AreTouchedFolders : List (List Part) → List (List ℕ) → List (List ℕ)
-    → Option (List (Vec Component Global)) → Type 0
-AreTouchedFolders folders paths ignored found = MatchOption found
-    (IsOneOutside folders paths ignored) (λ set. AreLongest folders paths ignored (lists_in set))
-
 -- the folder of the package at the position is one of these
 abbrev pub HasFolderIn : List PackageRecord → List (List Part) → ℕ → Type 0
 HasFolderIn packages folders p =
     IsSomeAnd (folder_at packages p) (λ own. Contains folders (components own))
+
+-- the set has the package at the position, too, where its folder is one of these, and else is as before
+abbrev pub IsAdded : List PackageRecord → List (List Part) → ℕ → List Bool → List Bool → Type 0
+IsAdded packages folders p set more = (HasFolderIn packages folders p
+    × (length more ≡ length packages)
+    × ((q : ℕ) → IsIn more q ↔ (IsIn set q ⊎ (q ≡ p))))
+    ⊎ ((¬ HasFolderIn packages folders p) × (more ≡ set))

@@ -1,9 +1,10 @@
 -- The folders of the packages of this machine, and to which of these packages a path belongs.
-use Rattle.std.specs.Prelude.{◌≡◌, ℕ, ◌≤◌, List, ◌++◌, length, Option, IsSomeAnd}
+use Rattle.std.specs.Prelude.{ℕ, ◌≤◌, List, length, Option, IsSomeAnd}
 use Rattle.guppy.specs.Path.{components}
 use Rattle.guppy.specs.DataTypes.records.PackageRecord.{PackageRecord}
 use Rattle.guppy.specs.Keys.{or_empty, item_key}
 use Rattle.guppy.specs.PackageSource.{local_path, recorded_origin}
+pub use Rattle.guppy_folders.specs.Folders.{Begins, LiesIn}
 
 -- the folder of a package of this machine: the path of a member, or the path that the package comes from
 abbrev pub folder_of : PackageRecord → Option (List ℕ)
@@ -12,14 +13,6 @@ folder_of r = local_path (recorded_origin r.source)
 -- the folder of the package at the position, where it is one of this machine
 abbrev pub folder_at : List PackageRecord → ℕ → Option (List ℕ)
 folder_at = item_key folder_of
-
--- the list begins with these
-abbrev pub Begins : {X : Type 0} → List X → List X → Type 0
-Begins {X} front list = (rest : List X) × (list ≡ front ++ rest)
-
--- the path lies in the folder, or is the folder: the folder's components begin the path's
-abbrev pub LiesIn : List ℕ → List ℕ → Type 0
-LiesIn folder path = Begins (components folder) (components path)
 
 -- the folder of the package at the position holds the path
 abbrev pub Holds : List PackageRecord → List ℕ → ℕ → Type 0

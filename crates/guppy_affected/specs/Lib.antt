@@ -1,5 +1,5 @@
 pub mod Folders
 pub mod Affected
-pub mod Tested
 pub mod Found
 pub mod Changed
+pub mod Tested

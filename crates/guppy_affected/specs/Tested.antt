@@ -1,11 +1,13 @@
 -- Sets of packages, by where links lead from them.
-use Rattle.std.specs.Prelude.{◌⊎◌, ◌↔◌, ℕ}
+use Rattle.std.specs.Prelude.{◌≡◌, ◌⊎◌, ◌↔◌, ℕ, List}
 use Rattle.guppy.specs.SearchTypes.ix.direction.DependencyDirection.TheVariants.{Forward}
+use Rattle.guppy.specs.Graph.{GraphData}
 use Rattle.guppy.specs.IxSet.{IsIn}
 use Rattle.guppy.specs.Ordered.{FirmStep}
 use Rattle.guppy.specs.Query.{SetData}
 use Rattle.guppy.specs.Reach.{LinkStep, Walk}
 use Rattle.guppy_affected.specs.Affected.{IsTestedWith}
+use Rattle.guppy_affected.specs.Changed.{AreChanged}
 
 -- exactly the packages from which walks over links that aren't dev-only lead into the set
 abbrev pub AreBuiltFrom : SetData → SetData → Type 0
@@ -22,3 +24,8 @@ AreWithDependents set both = (p : ℕ) → IsIn both.included p
 abbrev pub AreTestedWith : SetData → SetData → Type 0
 AreTestedWith set tested = (p : ℕ) → IsIn tested.included p
     ↔ ((q : ℕ) × IsIn set.included q × IsTestedWith set.graph p q)
+
+-- exactly the packages that are tested with one that the paths touch
+abbrev pub AreTestedAfter : GraphData → List (List ℕ) → List (List ℕ) → SetData → Type 0
+AreTestedAfter g paths ignored tested = (changed : SetData) × (changed.graph ≡ g)
+    × AreChanged g.packages paths ignored changed.included × AreTestedWith changed tested

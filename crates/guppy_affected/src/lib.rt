@@ -2,7 +2,7 @@
 //!
 //! The modules, from the bottom up:
 //!
-//! - `folders`: the folders of the packages of this machine, and which of them holds a path;
+//! - `folders`: the folders of the packages of this machine; `guppy_folders` tells which of them holds a path;
 //! - `touched`: the packages that changed themselves;
 //! - `tested`: the packages whose tests are built from changed ones;
 //! - the crate itself: the members among these.
@@ -11,6 +11,7 @@
 ghost use Rattle.std.specs.Prelude.{◌≡◌, map, string_bytes, IfOk, IsOkUnless};
 ghost use Rattle.guppy.specs.Query.{IsSetWhere};
 ghost use Rattle.guppy_affected.specs.Affected.{AreAffectedIds, IsAffected};
+ghost use Rattle.guppy_affected.specs.Tested.{AreTestedAfter};
 
 mod folders;
 mod tested;
@@ -20,6 +21,21 @@ use crate::tested::tested_with;
 use crate::touched::changed_packages;
 use guppy::graph::DependencyDirection;
 use guppy::{Error, PackageGraph, PackageId, PackageSet};
+
+// The packages that are tested with those that changed.
+fn tested_set<'g>(
+    graph: &'g PackageGraph,
+    paths: &[String],
+    ignored: &[String],
+) -> Result<PackageSet<'g>, Error>
+    ensures graph { IfOk result (λ set. set.graph ≡ graph.now) }
+    ensures tested { IfOk result (AreTestedAfter graph.now (map string_bytes paths.now)
+        (map string_bytes ignored.now)) }
+    ensures error { IsOkUnless result Error.OutOfMemory }
+{
+    let changed = changed_packages(graph, paths, ignored)?;
+    tested_with(&changed)
+}
 
 // The members to test.
 fn affected_set<'g>(
@@ -33,11 +49,9 @@ fn affected_set<'g>(
         set.included) }
     ensures error { IsOkUnless result Error.OutOfMemory }
 {
-    let changed = changed_packages(graph, paths, ignored)?;
-    let tested = tested_with(&changed)?;
+    let tested = tested_set(graph, paths, ignored)?;
     let members = graph.resolve_workspace()?;
-    let affected = tested.intersection(&members)?;
-    Ok(affected)
+    tested.intersection(&members)
 }
 
 /// The IDs of the workspace's members to test when the files at `paths` changed: each once, its

@@ -1,19 +1,28 @@
-use Rattle.std.proofs.Common.{◌∙◌, map, string_bytes, sym, ap, length}
+use Rattle.std.proofs.Common.{◌≡◌, ◌∙◌, map, string_bytes, sym, ap, length}
 use Rattle.guppy.specs.Graph.{GraphData}
 use Rattle.guppy.specs.Ids.{ids_of}
+use Rattle.guppy.specs.Query.{IsSetWhere, SetData}
+use Rattle.guppy_affected.specs.Affected.{IsAffected}
+use Rattle.guppy_affected.proofs.Iterators.{IfOk-along, IfOk-along_both}
 use Rattle.guppy_affected.proofs.Members.{affected_members}
 use Rattle.guppy_affected.proofs.affected_set.Goals as goal
 
 pub intersection-requires : goal.intersection-requires
 intersection-requires c =
-    record { same_packages = ap (λ (g : GraphData). ids_of g.packages) (c.in_ok-tested.ensures.graph ∙ c.in_ok-changed.ensures.graph ∙ sym c.in_ok-members.ensures.graph) }
+    record { same_packages = ap (λ (g : GraphData). ids_of g.packages) (c.in_ok-tested.ensures.graph ∙ sym c.in_ok-members.ensures.graph) }
 
 pub returns-clause-graph : goal.returns-clause-graph
-returns-clause-graph c = c.in_ok-affected.ensures.graph ∙ c.in_ok-tested.ensures.graph ∙ c.in_ok-changed.ensures.graph
+returns-clause-graph c =
+    IfOk-along c.intersection.result _ (λ (set : SetData). set.graph ≡ c.args.graph.now)
+    (λ set same. same ∙ c.in_ok-tested.ensures.graph) c.intersection.ensures.graph
 
 pub returns-clause-members : goal.returns-clause-members
 returns-clause-members c =
-    let same = c.in_ok-tested.ensures.graph ∙ c.in_ok-changed.ensures.graph in
-    affected_members c.args.graph.now (map string_bytes c.args.paths.now) (map string_bytes c.args.ignored.now) c.in_ok-changed.changed c.in_ok-tested.tested c.in_ok-members.members.included c.in_ok-affected.affected.included
-    c.in_ok-changed.ensures.graph c.in_ok-changed.ensures.changed c.in_ok-tested.ensures.tested c.in_ok-members.ensures.members
-    (c.in_ok-affected.ensures.count ∙ ap (λ (g : GraphData). length g.packages) same) c.in_ok-affected.ensures.members
+    let paths = map string_bytes c.args.paths.now in
+    let ignored = map string_bytes c.args.ignored.now in
+    let of_changed = c.in_ok-tested.ensures.tested in
+    IfOk-along_both c.intersection.result _ _ (λ (set : SetData). IsSetWhere c.args.graph.now.packages (IsAffected c.args.graph.now paths ignored) set.included)
+    (λ set count both. affected_members c.args.graph.now paths ignored of_changed.0 c.in_ok-tested.tested c.in_ok-members.members.included set.included
+    of_changed.1 of_changed.2 of_changed.3 c.in_ok-members.ensures.members
+    (count ∙ ap (λ (g : GraphData). length g.packages) c.in_ok-tested.ensures.graph) both)
+    c.intersection.ensures.count c.intersection.ensures.members

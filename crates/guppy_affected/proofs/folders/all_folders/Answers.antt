@@ -1,28 +1,27 @@
 use Rattle.std.proofs.Common.{sym, subst, List, [], ◌∷◌, ◌++◌, map, Contains, Bor, ℕ}
 use Rattle.std.specs.Prelude.{◌↔◌}
-use Rattle.std.specs.declared.vec.Vec.{Vec}
-use Rattle.std.specs.declared.alloc.Global.{Global}
 use Rattle.std.proofs.lemmas.List.{map_push}
-use Rattle.guppy.specs.DataTypes.texts.component.Component.{Component}
+use Rattle.guppy.specs.Path.{Part, components}
 use Rattle.guppy.specs.Graph.{GraphData}
 use Rattle.guppy.specs.Iterators.{packages_left}
 use Rattle.guppy.specs.Utf8Path.{path_text}
 use Rattle.guppy.specs.Views.{package_seen}
-use Rattle.guppy_affected.specs.Found.{lists_in}
-use Rattle.guppy_affected.proofs.Elements.{One}
+use Rattle.guppy_folders.specs.Folders.{lists_in}
+use Rattle.guppy_folders.proofs.Elements.{One}
 use Rattle.guppy_affected.proofs.Iterators.{all_given}
 use Rattle.guppy_affected.proofs.Local.{HasFolder, folders_seen, with_more, with_none}
-use Rattle.guppy_affected.proofs.Sets.{set_made}
+use Rattle.guppy_folders.proofs.Sets.{set_made}
 use Rattle.guppy_affected.proofs.folders.all_folders.Goals as goal
 
-pub loop-package-preserved-in_ok-push : goal.loop-package-preserved-in_ok-push
-loop-package-preserved-in_ok-push c = λ folder.
+pub loop-package-preserved-in-Continue-1 : goal.loop-package-preserved-in-Continue-1
+loop-package-preserved-in-Continue-1 c = λ folder.
     let here = c.in-Some.package in
     let before = c.loop-package.folders.items in
     let yielded = c.loop-package.yielded in
-    let more = with_more before (map package_seen yielded) c.loop-package.invariant (package_seen here) c.in_ok-parts_of.field-0 (path_text c.in-Some-folder_of.folder) c.in-Some-folder_of.ensures c.in_ok-parts_of.ensures folder in
-    subst (λ (lists : List (Vec Component Global)). Contains (lists_in lists) folder ↔ One (map package_seen (yielded ++ here ∷ [])) (HasFolder folder)) (sym c.in_ok-push.ensures.items)
-    (subst (λ (seen : List (Bor GraphData × ℕ)). Contains (lists_in (before ++ c.in_ok-parts_of.field-0 ∷ [])) folder ↔ One seen (HasFolder folder)) (sym (map_push package_seen yielded here)) more)
+    let own = path_text c.in-Some-folder_of.folder in
+    let more = with_more (lists_in before) (map package_seen yielded) c.loop-package.invariant (package_seen here) own c.in-Some-folder_of.ensures folder in
+    subst (λ (lists : List (List Part)). Contains lists folder ↔ One (map package_seen (yielded ++ here ∷ [])) (HasFolder folder)) (sym c.in_ok-add_folder.ensures)
+    (subst (λ (seen : List (Bor GraphData × ℕ)). Contains (lists_in before ++ components own ∷ []) folder ↔ One seen (HasFolder folder)) (sym (map_push package_seen yielded here)) more)
 
 pub loop-package-preserved : goal.loop-package-preserved
 loop-package-preserved c = λ folder.
@@ -30,7 +29,7 @@ loop-package-preserved c = λ folder.
     let before = c.loop-package.folders.items in
     let yielded = c.loop-package.yielded in
     subst (λ (seen : List (Bor GraphData × ℕ)). Contains (lists_in before) folder ↔ One seen (HasFolder folder)) (sym (map_push package_seen yielded here))
-    (with_none before (map package_seen yielded) c.loop-package.invariant (package_seen here) c.in_default.ensures folder)
+    (with_none (lists_in before) (map package_seen yielded) c.loop-package.invariant (package_seen here) c.in_default.ensures folder)
 
 pub returns : goal.returns
 returns c = λ folder.

@@ -2,8 +2,8 @@ use Rattle.std.proofs.Common.{List, map, Contains}
 use Rattle.std.specs.Prelude.{◌↔◌}
 use Rattle.guppy.specs.Path.{Part}
 use Rattle.guppy.specs.Views.{package_seen}
-use Rattle.guppy_affected.specs.Found.{lists_in}
-use Rattle.guppy_affected.proofs.Elements.{One}
+use Rattle.guppy_folders.specs.Folders.{lists_in}
+use Rattle.guppy_folders.proofs.Elements.{One}
 use Rattle.guppy_affected.proofs.Local.{HasFolder}
 use Rattle.guppy_affected.proofs.folders.all_folders.Given as goal
 

@@ -1,6 +1,6 @@
 use Rattle.std.proofs.Common.{map, string_bytes}
 use Rattle.guppy_affected.specs.Changed.{AreChanged}
-use Rattle.guppy_affected.specs.Found.{lists_in}
+use Rattle.guppy_folders.specs.Folders.{lists_in}
 use Rattle.guppy_affected.proofs.Iterators.{IfOk-along}
 use Rattle.guppy_affected.proofs.Owners.{changed_all, changed_some}
 use Rattle.guppy_affected.proofs.touched.changed_packages.Goals as goal

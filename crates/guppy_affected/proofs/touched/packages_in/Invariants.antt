@@ -1,6 +1,6 @@
 use Rattle.std.proofs.Common.{◌≡◌, length}
 use Rattle.guppy.specs.Iterators.{packages_left}
-use Rattle.guppy_affected.specs.Found.{lists_in}
+use Rattle.guppy_folders.specs.Folders.{lists_in}
 use Rattle.guppy_affected.specs.Changed.{HasFolderIn}
 use Rattle.guppy_affected.proofs.Owners.{ArePicked}
 use Rattle.guppy_affected.proofs.touched.packages_in.Given as goal

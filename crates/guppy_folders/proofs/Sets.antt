@@ -8,15 +8,14 @@ use Rattle.std.specs.declared.vec.Vec.{Vec}
 use Rattle.std.specs.declared.alloc.Global.{Global}
 use Rattle.std.proofs.lemmas.Bool.{cases_lt}
 use Rattle.std.proofs.lemmas.List.{append-nil, length-append}
-use Rattle.guppy.specs.Path.{Part}
-use Rattle.guppy.specs.Component.{part_shown}
-use Rattle.guppy.specs.Sorted.{KeepsUpTo}
-use Rattle.guppy.specs.DataContracts.texts.component.ComponentPartialEq.TheImpl.{eq-value}
-use Rattle.guppy.specs.DataTypes.texts.component.Component.{Component}
-use Rattle.guppy_affected.specs.Folders.{Begins}
-use Rattle.guppy_affected.specs.Found.{lists_in}
-use Rattle.guppy_affected.proofs.Prefixes.{equal_shown, shown_equal}
-use Rattle.guppy.proofs.CyclicComponents.{Contains-map, from_map}
+use Rattle.guppy_data.specs.Path.{Part}
+use Rattle.guppy_data.specs.Component.{part_shown}
+use Rattle.guppy_data.specs.Sorted.{KeepsUpTo}
+use Rattle.guppy_data.specs.contracts.texts.component.ComponentPartialEq.TheImpl.{eq-value}
+use Rattle.guppy_data.specs.declared.texts.component.Component.{Component}
+use Rattle.guppy_folders.specs.Folders.{Begins, lists_in}
+use Rattle.guppy_folders.proofs.Prefixes.{equal_shown, shown_equal}
+use Rattle.guppy_folders.proofs.Elements.{Contains-map, from_map}
 
 both_true : (a b : Bool) → (a && b) ≡ true → (a ≡ true) × (b ≡ true)
 both_true true b h = (refl, h)

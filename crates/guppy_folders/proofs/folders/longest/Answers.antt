@@ -1,13 +1,12 @@
 use Rattle.std.proofs.Common.{◌≡◌, ◌∙◌, ap, subst, rules, arith, true, List, length, map, Contains}
 use Rattle.std.specs.Option.{option_to_list}
 use Rattle.std.proofs.lemmas.List.{map-append, length-append, length-map}
-use Rattle.guppy.specs.Path.{Part, components}
-use Rattle.guppy.specs.Component.{part_shown}
-use Rattle.guppy.specs.Utf8Path.{path_text}
-use Rattle.guppy_affected.specs.Folders.{Begins}
-use Rattle.guppy_affected.specs.Found.{lists_in}
-use Rattle.guppy_affected.proofs.Sets.{set_has, shorter_than, Begins-shorter, popped_one, popped_none}
-use Rattle.guppy_affected.proofs.folders.longest.Goals as goal
+use Rattle.guppy_data.specs.Path.{Part, components}
+use Rattle.guppy_data.specs.Component.{part_shown}
+use Rattle.guppy_data.specs.Utf8Path.{path_text}
+use Rattle.guppy_folders.specs.Folders.{Begins, lists_in}
+use Rattle.guppy_folders.proofs.Sets.{set_has, shorter_than, Begins-shorter, popped_one, popped_none}
+use Rattle.guppy_folders.proofs.folders.longest.Goals as goal
 
 pub returns-then-contains : goal.returns-then-contains
 returns-then-contains c = record {

@@ -1,6 +1,6 @@
 use Rattle.std.proofs.Common.{rules, refl}
-use Rattle.guppy_affected.proofs.Prefixes.{Begins-empty, next_same, next_other}
-use Rattle.guppy_affected.proofs.folders.lies_in.Goals as goal
+use Rattle.guppy_folders.proofs.Prefixes.{Begins-empty, next_same, next_other}
+use Rattle.guppy_folders.proofs.folders.lies_in.Goals as goal
 
 pub loop-part-init : goal.loop-part-init
 loop-part-init c = rw (c.into_iter-part-iterator.ensures.into_iter_gives, c.components-part-items.ensures, c.components-rest.ensures) (λ b. b, λ b. b)

@@ -5,7 +5,6 @@ use Rattle.std.specs.Prelude.{◌↔◌}
 use Rattle.std.specs.declared.string.String.{String}
 use Rattle.std.specs.declared.alloc.Global.{Global}
 use Rattle.std.proofs.lemmas.List.Elements.{Contains-append_cases, Contains-append_left, Contains-append_right}
-use Rattle.guppy.proofs.CyclicComponents.{Contains-map}
 
 module _ {X : Type 0} where
   -- a list of one has that one
@@ -29,6 +28,19 @@ module _ {X : Type 0} where
     λ (y, there, h). ⊎_elim (λ early. inl (y, early, h)) (λ late. inr (subst P (sym (from_one x y late)) h)) (Contains-append_cases xs (x ∷ []) y there),
     λ either. ⊎_elim (λ (y, there, h). (y, Contains-append_left xs (x ∷ []) y there, h)) (λ h. (x, Contains-append_right xs (x ∷ []) x (here_first x []), h)) either,
   )
+
+-- what is done to each element of a list is done to its elements
+pub Contains-map : {X Y : Type 0} (f : X → Y) (xs : List X) (x : X) → Contains xs x → Contains (map f xs) (f x)
+Contains-map f [] x (k, within, same) = absurd (omega arith)
+Contains-map f (y ∷ ys) x (zero, within, same) = (zero, omega arith, ap f same)
+Contains-map f (y ∷ ys) x (suc k, within, same) = Contains-append_right (f y ∷ []) (map f ys) (f x) (Contains-map f ys x (k, omega arith, same))
+
+pub from_map : {X Y : Type 0} (f : X → Y) (xs : List X) (y : Y) → Contains (map f xs) y → (x : X) × Contains xs x × (f x ≡ y)
+from_map f [] y (k, within, same) = absurd (omega arith)
+from_map f (x ∷ xs) y (zero, within, same) = (x, (zero, omega arith, refl), same)
+from_map f (x ∷ xs) y (suc k, within, same) =
+    let later = from_map f xs y (k, omega arith, same) in
+    (later.0, Contains-append_right (x ∷ []) xs later.0 later.1, later.2)
 
 -- texts in the order of their list
 module _ (texts : List (String Global)) (i : ℕ) (text : String Global) (within : i < length texts) (is : text ≡ get_or texts i text) where

@@ -2,17 +2,16 @@ use Rattle.std.proofs.Common.{◌≡◌, ◌∙◌, inl, inr, sym, ap, subst, �
 use Rattle.std.specs.declared.vec.Vec.{Vec}
 use Rattle.std.specs.declared.alloc.Global.{Global}
 use Rattle.std.proofs.lemmas.List.{map_push, take_all}
-use Rattle.guppy.specs.Path.{components}
-use Rattle.guppy.specs.Component.{part_shown}
-use Rattle.guppy.specs.Utf8Path.{path_text}
-use Rattle.guppy.specs.DataTypes.texts.component.Component.{Component}
-use Rattle.guppy_affected.specs.Affected.{IsIgnored, IsOfWorkspace}
-use Rattle.guppy_affected.specs.Found.{lists_in, HoldsNone, IsLongest}
-use Rattle.guppy_affected.specs.Changed.{AreLongest}
-use Rattle.guppy_affected.proofs.Elements.{one_more, text_there}
-use Rattle.guppy_affected.proofs.Owners.{longest_skipped, longest_more, longest_along}
-use Rattle.guppy_affected.proofs.Sets.{set_made}
-use Rattle.guppy_affected.proofs.touched.touched_folders.Goals as goal
+use Rattle.guppy_data.specs.Path.{components}
+use Rattle.guppy_data.specs.Component.{part_shown}
+use Rattle.guppy_data.specs.Utf8Path.{path_text}
+use Rattle.guppy_data.specs.declared.texts.component.Component.{Component}
+use Rattle.guppy_folders.specs.Touched.{IsIgnored, IsOfWorkspace, AreLongest}
+use Rattle.guppy_folders.specs.Folders.{lists_in, HoldsNone, IsLongest}
+use Rattle.guppy_folders.proofs.Elements.{one_more, text_there}
+use Rattle.guppy_folders.proofs.LongestFolders.{longest_skipped, longest_more, longest_along}
+use Rattle.guppy_folders.proofs.Sets.{set_made}
+use Rattle.guppy_folders.proofs.touched.touched_folders.Goals as goal
 
 pub loop-path-preserved-then-is_ignored : goal.loop-path-preserved-then-is_ignored
 loop-path-preserved-then-is_ignored c =

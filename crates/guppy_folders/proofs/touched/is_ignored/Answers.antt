@@ -1,10 +1,10 @@
 use Rattle.std.proofs.Common.{◌≡◌, ◌∙◌, ⊎_elim, subst, true, map, take, string_bytes, List, ℕ}
 use Rattle.std.proofs.lemmas.List.{take_all}
-use Rattle.guppy.specs.Utf8Path.{path_text}
-use Rattle.guppy_affected.specs.Folders.{LiesIn}
-use Rattle.guppy_affected.specs.Affected.{IsIgnored}
-use Rattle.guppy_affected.proofs.Elements.{One-push, one_more}
-use Rattle.guppy_affected.proofs.touched.is_ignored.Goals as goal
+use Rattle.guppy_data.specs.Utf8Path.{path_text}
+use Rattle.guppy_folders.specs.Folders.{LiesIn}
+use Rattle.guppy_folders.specs.Touched.{IsIgnored}
+use Rattle.guppy_folders.proofs.Elements.{One-push, one_more}
+use Rattle.guppy_folders.proofs.touched.is_ignored.Goals as goal
 
 pub loop-folder-preserved : goal.loop-folder-preserved
 loop-folder-preserved c = λ ignored.

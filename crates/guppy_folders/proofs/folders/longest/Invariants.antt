@@ -1,11 +1,10 @@
 use Rattle.std.proofs.Common.{length, map}
-use Rattle.guppy.specs.Path.{components}
-use Rattle.guppy.specs.Component.{part_shown}
-use Rattle.guppy.specs.Utf8Path.{path_text}
-use Rattle.guppy_affected.specs.Folders.{Begins}
-use Rattle.guppy_affected.specs.Found.{lists_in}
-use Rattle.guppy_affected.proofs.Sets.{NoLonger}
-use Rattle.guppy_affected.proofs.folders.longest.Given as goal
+use Rattle.guppy_data.specs.Path.{components}
+use Rattle.guppy_data.specs.Component.{part_shown}
+use Rattle.guppy_data.specs.Utf8Path.{path_text}
+use Rattle.guppy_folders.specs.Folders.{Begins, lists_in}
+use Rattle.guppy_folders.proofs.Sets.{NoLonger}
+use Rattle.guppy_folders.proofs.folders.longest.Given as goal
 
 abbrev pub invariant-loop-folder : goal.invariant-loop-folder
 invariant-loop-folder l = record {

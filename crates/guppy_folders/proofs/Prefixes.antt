@@ -4,13 +4,13 @@ use Rattle.std.specs.Prelude.{◌↔◌, Option}
 use Rattle.std.specs.Option.{option_eq}
 use Rattle.std.specs.Iterator.{YieldsFirstBy}
 use Rattle.std.proofs.lemmas.Slice.Eq.{bytes_eq-Decides}
-use Rattle.guppy.specs.Path.{Part}
-use Rattle.guppy.specs.Component.{part_shown, parts_left}
-use Rattle.guppy.specs.DataContracts.texts.component.ComponentPartialEq.TheImpl.{eq-value}
-use Rattle.guppy.specs.DataTypes.texts.component.Component.{Component}
-use Rattle.guppy.specs.DataTypes.texts.component.Component.TheVariants.{RootDir, CurDir, ParentDir, Normal}
-use Rattle.guppy.specs.DataTypes.texts.component.Components.{Components}
-use Rattle.guppy_affected.specs.Folders.{Begins}
+use Rattle.guppy_data.specs.Path.{Part}
+use Rattle.guppy_data.specs.Component.{part_shown, parts_left}
+use Rattle.guppy_data.specs.contracts.texts.component.ComponentPartialEq.TheImpl.{eq-value}
+use Rattle.guppy_data.specs.declared.texts.component.Component.{Component}
+use Rattle.guppy_data.specs.declared.texts.component.Component.TheVariants.{RootDir, CurDir, ParentDir, Normal}
+use Rattle.guppy_data.specs.declared.texts.component.Components.{Components}
+use Rattle.guppy_folders.specs.Folders.{Begins}
 
 module _ {X : Type 0} where
   -- the empty list begins every list

@@ -1,0 +1,25 @@
+use Rattle.std.proofs.Common.{◌≡◌, ◌∙◌, inl, inr, refl, ap, true, length}
+use Rattle.guppy.specs.Graph.{GraphData}
+use Rattle.guppy.specs.Views.{graph_packages, package_position}
+use Rattle.guppy_folders.specs.Folders.{lists_in}
+use Rattle.guppy_affected.specs.Changed.{HasFolderIn}
+use Rattle.guppy_affected.proofs.Owners.{union_with_one}
+use Rattle.guppy_affected.proofs.touched.add_if_in.Goals as goal
+use Rattle.guppy_affected.proofs.touched.add_if_in.Goals.{then-branch+in_ok-to_package_set+in_ok-set, else-branch}
+
+pub returns-clause-added : goal.returns-clause-added
+returns-clause-added c =
+    let here = package_position c.args.metadata in
+    let before = c.args.set.now in
+    let has = c.in_ok-has_folder_in.ensures in
+    elim c.if-branch.branch [
+      | then-branch+in_ok-to_package_set+in_ok-set w ↦ rw w.set-is (inl (
+        has.0 w.if-branch.true,
+        w.in_ok-set.ensures.count ∙ ap (λ (g : GraphData). length g.packages) c.requires.same_graph,
+        union_with_one before.included w.in_ok-to_package_set.field-0.included w.in_ok-set.field-0.included here w.in_ok-to_package_set.ensures.members.members w.in_ok-set.ensures.members,
+      ))
+      | else-branch w ↦ rw w.set-is (inr (
+        λ (h : HasFolderIn (graph_packages c.args.metadata) (lists_in c.args.folders.now) here). let is : c.in_ok-has_folder_in.field-0 ≡ true = has.1 h in absurd (cc),
+        refl,
+      ))
+    ]

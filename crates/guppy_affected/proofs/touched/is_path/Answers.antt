@@ -1,6 +1,0 @@
-use Rattle.guppy_affected.proofs.Iterators.{same_path}
-use Rattle.guppy.specs.Utf8Path.{path_text}
-use Rattle.guppy_affected.proofs.touched.is_path.Goals as goal
-
-pub returns : goal.returns
-returns c = rw c.new.ensures at (same_path (path_text c.args.path) (path_text c.new.result) c.eq.result c.eq.ensures)

@@ -1,0 +1,5 @@
+pub mod Elements
+pub mod Prefixes
+pub mod Sets
+pub mod SamePaths
+pub mod LongestFolders

@@ -1,0 +1,49 @@
+-- Which paths count, and the longest folders that hold them.
+use Rattle.std.specs.Prelude.{◌≡◌, ◌⊎◌, ◌↔◌, ℕ, List, Option, Contains, MatchOption, codes}
+use Rattle.std.specs.declared.vec.Vec.{Vec}
+use Rattle.std.specs.declared.alloc.Global.{Global}
+use Rattle.guppy_data.specs.Path.{Part, components}
+use Rattle.guppy_data.specs.declared.texts.component.Component.{Component}
+use Rattle.guppy_folders.specs.Folders.{LiesIn, lists_in, HoldsNone, IsLongest}
+
+-- one of the folders to leave out holds the path
+abbrev pub IsIgnored : List (List ℕ) → List ℕ → Type 0
+IsIgnored ignored path = (folder : List ℕ) × Contains ignored folder × LiesIn folder path
+
+-- P holds of one of the paths that aren't to be left out
+abbrev pub OfOne : List (List ℕ) → List (List ℕ) → (List ℕ → Type 0) → Type 0
+OfOne paths ignored P = (path : List ℕ) × Contains paths path × (¬ IsIgnored ignored path) × P path
+
+-- the paths have the same components
+abbrev pub IsPath : List ℕ → List ℕ → Type 0
+IsPath text path = components path ≡ components text
+
+-- the path is that of the workspace's own manifest, of what Cargo locked or of the toolchain, or lies in the
+-- folder of Cargo's settings
+abbrev pub IsOfWorkspace : List ℕ → Type 0
+IsOfWorkspace path = IsPath (codes "Cargo.toml") path ⊎ (IsPath (codes "Cargo.lock") path
+    ⊎ (IsPath (codes "rust-toolchain") path ⊎ (IsPath (codes "rust-toolchain.toml") path
+    ⊎ LiesIn (codes ".cargo") path)))
+
+-- one of the paths is of the workspace, or none of the folders holds it
+abbrev pub IsOneOutside : List (List Part) → List (List ℕ) → List (List ℕ) → Type 0
+IsOneOutside folders paths ignored =
+    OfOne paths ignored (λ path. IsOfWorkspace path ⊎ HoldsNone folders (components path))
+
+-- the folder is the longest that holds one of the paths
+abbrev pub IsLongestOfOne : List (List Part) → List (List ℕ) → List (List ℕ) → List Part → Type 0
+IsLongestOfOne folders paths ignored folder =
+    OfOne paths ignored (λ path. IsLongest folders (components path) folder)
+
+-- exactly the longest folders that hold the paths, and none where one of these is outside of them
+pub record AreLongest (folders : List (List Part)) (paths ignored : List (List ℕ))
+    (touched : List (List Part)) : Type 0 where
+  pub inside : ¬ IsOneOutside folders paths ignored
+  pub longest : (folder : List Part) → Contains touched folder
+      ↔ IsLongestOfOne folders paths ignored folder
+
+-- the longest folders that hold the paths were found, or nothing where one of these is outside of them
+abbrev pub AreTouchedFolders : List (List Part) → List (List ℕ) → List (List ℕ)
+    → Option (List (Vec Component Global)) → Type 0
+AreTouchedFolders folders paths ignored found = MatchOption found
+    (IsOneOutside folders paths ignored) (λ set. AreLongest folders paths ignored (lists_in set))

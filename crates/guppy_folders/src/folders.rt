@@ -1,0 +1,78 @@
+//! When a folder holds a path, and the longest of several that does.
+ghost use Rattle.std.specs.Prelude.{◌≡◌, ◌↔◌, IsTrue, [], ◌∷◌, ◌++◌, map, Contains, MatchOption, IfOk};
+ghost use Rattle.guppy_data.specs.Path.{components};
+ghost use Rattle.guppy_data.specs.Component.{part_shown};
+ghost use Rattle.guppy_data.specs.Utf8Path.{path_text};
+ghost use Rattle.guppy_folders.specs.Folders.{LiesIn, lists_in, IsLongest, HoldsNone};
+
+use guppy_data::{Component, SortedSet, Utf8Path};
+use std::alloc::{AllocError, Global};
+
+/// Whether the path lies in the folder: whether the folder's components begin the path's.
+pub(crate) fn lies_in(path: Utf8Path<'_>, folder: Utf8Path<'_>) -> bool
+    ensures { IsTrue result ↔ LiesIn (path_text folder.entry) (path_text path.entry) }
+{
+    let mut rest = path.components();
+    for part in folder.components() {
+        if rest.next() != Some(part) {
+            return false;
+        }
+    }
+    true
+}
+
+/// The components of the path.
+fn parts_of<'a>(alloc: Global, path: Utf8Path<'a>) -> Result<Vec<Component<'a>>, AllocError>
+    ensures { IfOk result (λ parts. map part_shown parts.items ≡ components (path_text path.entry)) }
+{
+    path.components().collect(alloc)
+}
+
+/// Adds the folder, as the list of its components, to such lists.
+pub fn add_folder<'a>(
+    folders: &mut Vec<Vec<Component<'a>>>,
+    alloc: Global,
+    folder: Utf8Path<'a>,
+) -> Result<(), AllocError>
+    ensures { IfOk result (λ _. lists_in folders.new.items
+        ≡ lists_in folders.old.items ++ components (path_text folder.entry) ∷ []) }
+{
+    folders.push(parts_of(alloc, folder)?)?;
+    Ok(())
+}
+
+/// Whether the folder is one of these.
+pub fn is_one_of<'a>(
+    folders: &SortedSet<Vec<Component<'a>>>,
+    alloc: Global,
+    folder: Utf8Path<'a>,
+) -> Result<bool, AllocError>
+    ensures { IfOk result (λ is. IsTrue is
+        ↔ Contains (lists_in folders.now) (components (path_text folder.entry))) }
+{
+    let parts = parts_of(alloc, folder)?;
+    Ok(folders.contains(&parts))
+}
+
+/// The longest of the folders that holds the path, or `None` where none does. The path's own folder is
+/// looked up first, and then those that it lies in, from the longest on.
+pub(crate) fn longest<'a>(
+    alloc: Global,
+    folders: &SortedSet<Vec<Component<'a>>>,
+    path: Utf8Path<'a>,
+) -> Result<Option<Vec<Component<'a>>>, AllocError>
+    ensures { IfOk result (λ found. MatchOption found
+        (HoldsNone (lists_in folders.now) (components (path_text path.entry)))
+        (λ folder. IsLongest (lists_in folders.now) (components (path_text path.entry))
+        (map part_shown folder.items))) }
+{
+    let mut folder = parts_of(alloc, path)?;
+    loop {
+        if folders.contains(&folder) {
+            return Ok(Some(folder));
+        }
+        if folder.pop().is_none() {
+            return Ok(None);
+        }
+    }
+}
