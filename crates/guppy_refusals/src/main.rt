@@ -6,28 +6,22 @@
 //! call is refused. A call that answers want of memory is done again, and then answers in full.
 #![tactic(auto)]
 
-mod data;
 mod filters;
-mod ixs;
 mod lists;
 mod look_ups;
-mod positions;
 mod queries;
 mod quiet;
-mod records;
 mod resolves;
-mod searches;
 mod sets;
 mod told;
 mod verifying;
 mod world;
 
-use crate::positions::DevLinks;
-use crate::records::{Ends, records_of};
 use crate::world::{World, graph_of, member, tell_world, world_of};
-use guppy::positions::Graph;
 use guppy::{DependencyKind, Error, IntoGraph, PackageGraph};
-use std::alloc::{AllocError, Global};
+use guppy_core_cases::ask_apart;
+use guppy_core_cases::records::{Ends, records_of};
+use std::alloc::Global;
 use std::process::ExitCode;
 use std::{env, io};
 
@@ -49,31 +43,6 @@ fn ask_from_records(rt: &HostRuntime, alloc: Global) -> Result<(), Error> {
     let graph = records.into_graph()?;
     world::tell_graph(rt, &graph);
     Ok(())
-}
-
-// Cases that need a graph by position.
-fn ask_by_position(
-    rt: &HostRuntime,
-    graph: &Graph<DevLinks>,
-    group: &str,
-    call: &str,
-) -> Result<(), AllocError> {
-    match group {
-        "positions" => positions::ask(rt, graph, call),
-        "ixs" => ixs::ask(rt, graph, call),
-        _ => searches::ask(rt, graph, call),
-    }
-}
-
-// Cases that need nothing of the world.
-fn ask_apart(rt: &HostRuntime, alloc: Global, group: &str, call: &str) -> Result<(), AllocError> {
-    if group == "data" {
-        return data::ask(rt, alloc, call);
-    }
-    if let "from_parts" | "thousand_by_sevens" = call {
-        return positions::ask_for_parts(rt, alloc, call);
-    }
-    ask_by_position(rt, &positions::graph_of(alloc)?, group, call)
 }
 
 fn ask(

@@ -1,42 +1,22 @@
 //! Calls that take no memory.
 ghost use Rattle.std.specs.Iterator.{IsFinite};
 
-use crate::data::status_of;
+use crate::lists;
 use crate::look_ups::tell_depends;
-use crate::positions::{DevLinks, index_of, set_of, tell_positions};
 use crate::told::{begin, tell, tell_all, tell_line, tell_names, tell_set};
 use crate::world::{World, graph_of, tell_graph};
-use crate::{lists, positions};
-use guppy::graph::{DependencyDirection, ExternalSource, IndexType, PackageIx};
-use guppy::platform::{
-    EnabledTernary, PlatformSpec, PlatformStatus, PlatformStatusImpl, TargetEval, TargetSpec,
-};
-use guppy::positions::{Graph, ResolveCore};
+use guppy::graph::DependencyDirection;
+use guppy::platform::{EnabledTernary, PlatformSpec};
 use guppy::{
-    CycleIds, DependsCache, Error, PackageId, PackageLink, PackageMetadata, PackageSet, SortedSet,
-    Utf8Path,
+    CycleIds, DependsCache, Error, PackageId, PackageLink, PackageMetadata, PackageSet, Utf8Path,
 };
-use std::alloc::{AllocError, Global};
+use guppy_core_cases::{KnowsNothing, ask_quiet};
+use std::alloc::Global;
 use std::fmt::Display;
 
 const FORWARD: DependencyDirection = DependencyDirection::Forward;
 
 const REVERSE: DependencyDirection = DependencyDirection::Reverse;
-
-// Answers nothing to each text.
-struct KnowsNothing;
-
-impl TargetEval for KnowsNothing {
-    ghost use Rattle.std.specs.Prelude.{None};
-
-    type Platform = ();
-
-    ghost answer = { λ _ _ _. None };
-
-    fn eval(&self, _spec: &TargetSpec, _platform: &()) -> Option<bool> {
-        None
-    }
-}
 
 fn tell_links(
     rt: &HostRuntime,
@@ -166,78 +146,6 @@ fn ask_cache(rt: &HostRuntime, world: &World<'_>) -> Result<(), Error> {
     Ok(())
 }
 
-fn ask_positions(rt: &HostRuntime, graph: &Graph<DevLinks>) -> Result<(), AllocError> {
-    let y = set_of(graph, &[1, 2])?;
-    let mut x = set_of(graph, &[0, 1])?;
-    begin(rt);
-    x.union_with(&y);
-    tell_positions(rt, &x);
-    x.symmetric_difference_with(&y);
-    tell_positions(rt, &x);
-    x.intersect_with(&y);
-    tell_positions(rt, &x);
-    Ok(())
-}
-
-// The same of the sets that resolves included.
-fn ask_cores(rt: &HostRuntime, graph: &Graph<DevLinks>) -> Result<(), AllocError> {
-    let y = ResolveCore::from_included(set_of(graph, &[1, 2])?);
-    let mut x = ResolveCore::from_included(set_of(graph, &[0, 1])?);
-    begin(rt);
-    x.union_with(&y);
-    tell(rt, x.len());
-    x.symmetric_difference_with(&y);
-    tell(rt, x.len());
-    x.intersect_with(&y);
-    tell_line(rt, &x.is_empty());
-    Ok(())
-}
-
-// Positions are sorted by their places in an index.
-fn ask_index(rt: &HostRuntime, graph: &Graph<DevLinks>) -> Result<(), AllocError> {
-    let topo = index_of(graph)?;
-    let mut ixs = [PackageIx::new(2), PackageIx::new(0), PackageIx::new(1)];
-    begin(rt);
-    topo.sort_nodes(&mut ixs);
-    tell_all(rt, ixs.iter().copied(), &"in this order");
-    Ok(())
-}
-
-fn ask_numbers(rt: &HostRuntime, alloc: Global, call: &str) -> Result<(), AllocError> {
-    let graph = positions::graph_of(alloc)?;
-    match call {
-        "index" => ask_index(rt, &graph),
-        "cores" => ask_cores(rt, &graph),
-        _ => ask_positions(rt, &graph),
-    }
-}
-
-// Sorted sets, sources, paths and statuses.
-fn tell_data(
-    rt: &HostRuntime,
-    items: Vec<&str>,
-    status: &mut PlatformStatusImpl,
-    platform: &PlatformSpec<()>,
-) -> Result<(), AllocError> {
-    begin(rt);
-    let set = SortedSet::new(items);
-    tell(rt, set.contains(&"a"));
-    tell(rt, ExternalSource::new("git+u?branch=b#r").is_some());
-    tell(rt, Utf8Path::new("a/./b") == Utf8Path::new("a/b"));
-    let value = PlatformStatus::new(status).enabled_on(platform, &KnowsNothing);
-    tell(rt, value == EnabledTernary::Unknown);
-    status.add_spec(None)?;
-    tell_line(rt, &status.is_never());
-    Ok(())
-}
-
-fn ask_data(rt: &HostRuntime, alloc: Global) -> Result<(), AllocError> {
-    let mut status = status_of(alloc, &["x", "y"])?;
-    let platform = PlatformSpec::one(alloc, ())?;
-    let items = vec![in alloc; "b", "a", "b"]?;
-    tell_data(rt, items, &mut status, &platform)
-}
-
 pub(crate) fn ask(
     rt: &HostRuntime,
     alloc: Global,
@@ -250,8 +158,7 @@ pub(crate) fn ask(
         "iterators" => ask_iterators(rt, &world.all),
         "cache" => ask_cache(rt, world),
         "verify" => ask_verify(rt, alloc),
-        "data" => Ok(ask_data(rt, alloc)?),
-        "index" | "cores" | "positions" => Ok(ask_numbers(rt, alloc, call)?),
+        "data" | "index" | "cores" | "positions" => Ok(ask_quiet(rt, alloc, call)?),
         "fields" => ask_fields(rt, world),
         _ => ask_lists(rt, world),
     }

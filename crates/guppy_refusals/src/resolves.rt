@@ -2,7 +2,6 @@
 ghost use Rattle.std.specs.Prelude.{◌≡◌, ◌==◌, ℕ, ◌+◌, ◌%◌, ◌^◌, ◌<◌, length, not};
 ghost use Rattle.guppy.specs.Visitors.{MayVisitAt};
 
-use crate::records::Ends;
 use crate::told::{begin, tell, tell_calls, tell_line, tell_made, tell_set};
 use crate::world::{World, graph_of};
 use guppy::graph::DependencyDirection;
@@ -10,6 +9,7 @@ use guppy::{
     DependencyKind, Error, PackageGraph, PackageLink, PackageLinkContext, PackageLinkVisitor,
     PackageQuery, PackageSet,
 };
+use guppy_core_cases::records::Ends;
 use std::alloc::Global;
 
 const FORWARD: DependencyDirection = DependencyDirection::Forward;

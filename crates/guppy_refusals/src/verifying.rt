@@ -1,8 +1,8 @@
 //! Verifying, and what stands on it: cycles over links that aren't dev-only, and the order to publish in.
-use crate::records::{Ends, id_of};
 use crate::told::{begin, tell_all, tell_answer, tell_line};
 use crate::world::{World, graph_of, tell_graph};
 use guppy::{DependencyKind, Error, PackageGraph};
+use guppy_core_cases::records::{Ends, id_of};
 use guppy_publish::publish_order;
 use std::alloc::Global;
 

@@ -1,8 +1,8 @@
 //! What stands before a case begins: a graph, sets and a query of it.
-use crate::records::{Ends, id_of, records_of};
 use crate::told::{tell, tell_line, tell_set};
 use guppy::graph::DependencyDirection;
 use guppy::{Error, IntoGraph, PackageGraph, PackageId, PackageQuery, PackageSet, Utf8Path};
+use guppy_core_cases::records::{Ends, id_of, records_of};
 use std::alloc::Global;
 
 /// The graph of packages with these names, and of links with these ends.

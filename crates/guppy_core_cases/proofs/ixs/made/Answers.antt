@@ -1,7 +1,7 @@
 use Rattle.std.proofs.Common.{◌<◌, All, rules, subst, sym}
 use Rattle.guppy_search.specs.declared.ix.index_type.PackageIx.{PackageIx}
 use Rattle.guppy_search.proofs.IteratorItems.{holds_copied}
-use Rattle.guppy_refusals.proofs.ixs.made.Goals as goal
+use Rattle.guppy_core_cases.proofs.ixs.made.Goals as goal
 
 pub from_ixs-requires-clause-below : goal.from_ixs-requires-clause-below
 from_ixs-requires-clause-below c =

@@ -4,15 +4,14 @@ ghost use Rattle.std.specs.Iterator.{IsFinite};
 ghost use Rattle.std.specs.List.{concat};
 
 use crate::told::{begin, tell, tell_all, tell_line};
-use guppy::graph::{DependencyDirection, IndexType, PackageIx};
-use guppy::positions::{
-    CountedGraph, EdgeDfs, Graph, GraphSpec, IxSet, Link, ResolveCore, Sccs, TopoWithCycles,
-    reachable,
+use guppy_core::{
+    CountedGraph, DependencyDirection, EdgeDfs, Graph, GraphSpec, IndexType, IxSet, Link,
+    PackageIx, ResolveCore, Sccs, TopoWithCycles, reachable,
 };
 use std::alloc::{AllocError, Global};
 
 /// A graph whose links say whether they are dev-only.
-pub(crate) enum DevLinks {}
+pub enum DevLinks {}
 
 impl GraphSpec for DevLinks {
     type Node = ();
@@ -63,16 +62,13 @@ fn made_of(nodes: Vec<()>, links: Vec<Link<bool>>) -> Result<Graph<DevLinks>, Al
     }
 }
 
-pub(crate) fn graph_of(alloc: Global) -> Result<Graph<DevLinks>, AllocError> {
+pub fn graph_of(alloc: Global) -> Result<Graph<DevLinks>, AllocError> {
     let nodes = vec![in alloc; (); 4]?;
     made_of(nodes, links_of(alloc)?)
 }
 
 /// The set of those of the positions that the graph has.
-pub(crate) fn set_of(
-    graph: &Graph<DevLinks>,
-    positions: &[usize],
-) -> Result<IxSet<DevLinks>, AllocError>
+pub fn set_of(graph: &Graph<DevLinks>, positions: &[usize]) -> Result<IxSet<DevLinks>, AllocError>
     ensures { IfOk result (λ set. length set ≡ length graph.now.nodes) }
 {
     let mut set = IxSet::empty(graph.alloc(), graph.node_count())?;
@@ -84,12 +80,12 @@ pub(crate) fn set_of(
     Ok(set)
 }
 
-pub(crate) fn tell_positions(rt: &HostRuntime, set: &IxSet<DevLinks>) {
+pub fn tell_positions(rt: &HostRuntime, set: &IxSet<DevLinks>) {
     tell_all(rt, set.ones(), &"positions");
 }
 
 /// The positions of what was included, where memory was found.
-pub(crate) fn tell_core(
+pub fn tell_core(
     rt: &HostRuntime,
     core: Result<ResolveCore<DevLinks>, AllocError>,
 ) -> Result<(), AllocError> {
@@ -97,7 +93,7 @@ pub(crate) fn tell_core(
     Ok(())
 }
 
-pub(crate) fn index_of(graph: &Graph<DevLinks>) -> Result<TopoWithCycles<PackageIx>, AllocError>
+pub fn index_of(graph: &Graph<DevLinks>) -> Result<TopoWithCycles<PackageIx>, AllocError>
     ensures { IfOk result (λ topo. length topo ≡ length graph.now.nodes) }
 {
     let mut counted = CountedGraph::new(graph);
@@ -265,7 +261,7 @@ fn ask_of_sets(
     }
 }
 
-pub(crate) fn ask(rt: &HostRuntime, graph: &Graph<DevLinks>, call: &str) -> Result<(), AllocError> {
+pub fn ask(rt: &HostRuntime, graph: &Graph<DevLinks>, call: &str) -> Result<(), AllocError> {
     let x = ResolveCore::from_included(set_of(graph, &[0, 1])?);
     let y = ResolveCore::from_included(set_of(graph, &[1, 2])?);
     ask_of_sets(rt, graph, &x, &y, call)
@@ -286,7 +282,7 @@ fn ask_parts(
 }
 
 /// Makes a graph by position of its parts.
-pub(crate) fn ask_for_parts(rt: &HostRuntime, alloc: Global, call: &str) -> Result<(), AllocError> {
+pub fn ask_for_parts(rt: &HostRuntime, alloc: Global, call: &str) -> Result<(), AllocError> {
     if call == "from_parts" {
         return ask_parts(rt, alloc, 4, links_of(alloc)?);
     }

@@ -1,15 +1,16 @@
 //! The records that graphs are made of, from names and a table of links.
-use guppy::graph::{
-    DependencyReqImpl, LinkRecord, PackageRecord, PackageSourceRecord, Records, WorkspaceRecord,
+use guppy_data::{
+    DependencyKind, DependencyReqImpl, LinkRecord, PackageId, PackageRecord, PackageSourceRecord,
+    Records, Utf8PathBuf, WorkspaceRecord,
 };
-use guppy::{DependencyKind, PackageId, Utf8PathBuf, Version, VersionReq};
+use semver::{Version, VersionReq};
 use std::alloc::{AllocError, Global};
 
 /// From which package a link leads to which, and in what section, if in one.
-pub(crate) type Ends = (&'static str, &'static str, Option<DependencyKind>);
+pub type Ends = (&'static str, &'static str, Option<DependencyKind>);
 
 /// A copy of the text. Where no memory is found it is empty, but none is refused before a call.
-pub(crate) fn copy_of(alloc: Global, text: &str) -> String {
+pub fn copy_of(alloc: Global, text: &str) -> String {
     String::from_str(alloc, text).unwrap_or(String::new(alloc))
 }
 
@@ -18,7 +19,7 @@ fn path_of(alloc: Global, text: &str) -> Utf8PathBuf {
 }
 
 /// The ID that a text is.
-pub(crate) fn id_of(alloc: Global, text: &str) -> PackageId {
+pub fn id_of(alloc: Global, text: &str) -> PackageId {
     PackageId::new(copy_of(alloc, text))
 }
 
@@ -76,11 +77,7 @@ fn links_of(alloc: Global, ends: &[Ends]) -> Result<Vec<LinkRecord>, AllocError>
 }
 
 /// The records of packages with these names, all of them members, and of links with these ends.
-pub(crate) fn records_of(
-    alloc: Global,
-    names: &[&str],
-    ends: &[Ends],
-) -> Result<Records, AllocError> {
+pub fn records_of(alloc: Global, names: &[&str], ends: &[Ends]) -> Result<Records, AllocError> {
     let links = links_of(alloc, ends)?;
     Ok(Records {
         packages: packages_of(alloc, names)?,

@@ -3,8 +3,7 @@ ghost use Rattle.std.specs.Prelude.{◌<◌, length, All, IfOk};
 
 use crate::positions::{DevLinks, tell_core};
 use crate::told::{begin, tell_all, tell_line};
-use guppy::graph::{IndexType, PackageIx};
-use guppy::positions::{CountedGraph, Graph, IxSet, ResolveCore, find_cycle};
+use guppy_core::{CountedGraph, Graph, IndexType, IxSet, PackageIx, ResolveCore, find_cycle};
 use std::alloc::AllocError;
 
 // Those of the positions that the graph has.
@@ -79,7 +78,7 @@ fn ask_set(
     tell_core(rt, core)
 }
 
-pub(crate) fn ask(rt: &HostRuntime, graph: &Graph<DevLinks>, call: &str) -> Result<(), AllocError> {
+pub fn ask(rt: &HostRuntime, graph: &Graph<DevLinks>, call: &str) -> Result<(), AllocError> {
     if let "find_cycle" | "find_no_cycle" = call {
         return ask_cycle(rt, graph, call);
     }

@@ -1,8 +1,9 @@
 //! Sorted sets, statuses and questions.
 use crate::records::{copy_of, id_of};
 use crate::told::{begin, tell, tell_all, tell_line};
-use guppy::platform::{PlatformSpec, PlatformStatus, PlatformStatusImpl, TargetSpec};
-use guppy::{PackageId, SortedSet};
+use guppy_data::{
+    PackageId, PlatformSpec, PlatformStatus, PlatformStatusImpl, SortedSet, TargetSpec,
+};
 use std::alloc::{AllocError, Global};
 
 fn spec_of(alloc: Global, text: &str) -> TargetSpec {
@@ -10,7 +11,7 @@ fn spec_of(alloc: Global, text: &str) -> TargetSpec {
 }
 
 // The status of these texts.
-pub(crate) fn status_of(alloc: Global, texts: &[&str]) -> Result<PlatformStatusImpl, AllocError> {
+pub fn status_of(alloc: Global, texts: &[&str]) -> Result<PlatformStatusImpl, AllocError> {
     let mut status = PlatformStatusImpl::never(alloc);
     for text in texts {
         status.add_spec(Some(&spec_of(alloc, text)))?;
@@ -76,7 +77,7 @@ fn ask_id(rt: &HostRuntime, id: &PackageId) -> Result<(), AllocError> {
     Ok(())
 }
 
-pub(crate) fn ask(rt: &HostRuntime, alloc: Global, call: &str) -> Result<(), AllocError> {
+pub fn ask(rt: &HostRuntime, alloc: Global, call: &str) -> Result<(), AllocError> {
     match call {
         "from_items" => ask_sorted(rt, alloc),
         "platforms" | "one" => ask_question(rt, alloc, call),

@@ -1,15 +1,14 @@
 //! Searches by position, with filters that count what they are asked.
 ghost use Rattle.std.specs.Prelude.{◌≡◌, ◌<◌, length, All, IfOk};
-ghost use Rattle.guppy.specs.Resolve.{IsCallable};
-ghost use Rattle.guppy.specs.SearchTypes.ix.direction.DependencyDirection.TheVariants.{Forward};
+ghost use Rattle.guppy_search.specs.Resolve.{IsCallable};
+ghost use Rattle.guppy_search.specs.declared.ix.direction.DependencyDirection.TheVariants.{Forward};
 
 use crate::positions::{DevLinks, set_of, tell_core, tell_positions};
 use crate::told::{begin, tell, tell_calls, tell_line};
-use guppy::graph::{DependencyDirection, IndexType, PackageIx};
-use guppy::positions::{
-    BufferedEdgeFilter, Graph, IxSet, LinkVisitor, ReachCache, Recorder, ResolveCore,
-    reachable_buffered, reachable_buffered_mut, reachable_filtered, reachable_recorded,
-    reachable_with, reachable_with_fn,
+use guppy_core::{
+    BufferedEdgeFilter, DependencyDirection, Graph, IndexType, IxSet, LinkVisitor, PackageIx,
+    ReachCache, Recorder, ResolveCore, reachable_buffered, reachable_buffered_mut,
+    reachable_filtered, reachable_recorded, reachable_with, reachable_with_fn,
 };
 use std::alloc::{AllocError, Global};
 
@@ -242,7 +241,7 @@ fn ask_from(
     }
 }
 
-pub(crate) fn ask(rt: &HostRuntime, graph: &Graph<DevLinks>, call: &str) -> Result<(), AllocError> {
+pub fn ask(rt: &HostRuntime, graph: &Graph<DevLinks>, call: &str) -> Result<(), AllocError> {
     let start = set_of(graph, &[0])?;
     ask_from(rt, graph, &start, call)
 }

@@ -1,0 +1,22 @@
+//! Cases for a run in which a request for memory is refused, of calls by position and of data, for the program that
+//! `guppy_refusals` is. They stand below it, since they need no graph of packages.
+//!
+//! - `told`: what a case tells;
+//! - `records`: the records that graphs of packages are made of;
+//! - `data`: sorted sets, statuses, questions and IDs;
+//! - `positions`, `ixs`, `searches`: graphs and sets by position, lists of positions, searches;
+//! - `apart`: all these cases by their groups;
+//! - `quiet`: those that take no memory.
+#![tactic(auto)]
+
+mod apart;
+mod data;
+mod ixs;
+mod positions;
+mod quiet;
+pub mod records;
+mod searches;
+pub mod told;
+
+pub use apart::ask_apart;
+pub use quiet::{KnowsNothing, ask_quiet};
