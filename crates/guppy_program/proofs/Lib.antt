@@ -8,3 +8,4 @@ pub mod PublishableMembers
 pub mod Runs
 pub mod WholeSet
 pub mod Drawings
+pub mod GrowingLines

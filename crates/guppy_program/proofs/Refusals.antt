@@ -1,8 +1,9 @@
 -- Why a command is refused.
-use Rattle.std.proofs.Common.{◌≡◌, ◌∙◌, sym, subst, ℕ, zero, suc, ◌<◌, List, [], ◌∷◌, ◌++◌, length, get_or, arith, Ok, Err}
-use Rattle.std.specs.Prelude.{Result, IfOk, All}
+use Rattle.std.proofs.Common.{◌≡◌, ◌∙◌, sym, ap, subst, ℕ, zero, suc, ◌<◌, List, [], ◌∷◌, ◌++◌, length, get_or, arith, Ok, Err}
+use Rattle.std.specs.Prelude.{Result, IfOk, IfErr, IsOkUnless, All}
 use Rattle.std.specs.List.{AllZip}
 use Rattle.guppy_data.specs.declared.records.PackageRecord.{PackageRecord}
+use Rattle.guppy_data.specs.declared.texts.error.Error.{Error}
 use Rattle.guppy_data.specs.declared.texts.error.Error.TheVariants.{PackageGraphConstructError, UnknownPackageId, UnknownFeatureId, UnknownWorkspacePath, UnknownWorkspaceName, PackageGraphInternalError, FeatureGraphInternalError, OutOfMemory}
 use Rattle.guppy_command.specs.Cause.{Cause, library, bad_arguments, ambiguous, no_walk, bad_input, input_failed, output_failed}
 use Rattle.guppy_command.specs.Command.{Command}
@@ -19,6 +20,9 @@ clear_at meant (word ∷ words) (id ∷ ids) means (suc k) d within = clear_at m
 -- words that mean one package each are clear
 pub all_clear : (meant : List ℕ → List (List ℕ)) (words ids : List (List ℕ)) → AllZip (Means meant) words ids → All (IsClear meant) words
 all_clear meant words ids means k d within = clear_at meant words ids means k d within
+
+pub none_clear : (meant : List ℕ → List (List ℕ)) → All (IsClear meant) []
+none_clear meant k d within = absurd (omega arith)
 
 pub one_clear : (meant : List ℕ → List (List ℕ)) (word : List ℕ) → IsClear meant word → All (IsClear meant) (word ∷ [])
 one_clear meant word clear zero d within = clear
@@ -82,3 +86,13 @@ module _ {Fault : Type 0} (format : Format Fault) where
 pub passed_ok : {T E F : Type 0} (given : Result T E) (result : Result T F) (P : T → Type 0) → IfOk given P → IfOk result (λ x. given ≡ Ok x) → IfOk result P
 passed_ok given (Ok x) P is passed = subst (λ r. IfOk r P) passed is
 passed_ok given (Err e) P is passed = tt
+
+-- where memory is the only error, what is passed on tells that it is wanted
+pub told_memory : {T : Type 0} (given : Result T Error) (cause : Cause) (P : Cause → Type 0) → IsOkUnless given OutOfMemory → ((error : Error) × (given ≡ Err error) × (cause ≡ library error)) → P (library OutOfMemory) → P cause
+told_memory given cause P only (error, is, told) memory =
+    let wanted : error ≡ OutOfMemory = subst (λ r. IsOkUnless r OutOfMemory) is only in
+    subst P (sym (told ∙ ap library wanted)) memory
+
+pub passed_memory : {T F : Type 0} (given : Result T Error) (result : Result T F) (cause : F → Cause) (P : Cause → Type 0) → IsOkUnless given OutOfMemory → IfErr result (λ fault. (error : Error) × (given ≡ Err error) × (cause fault ≡ library error)) → P (library OutOfMemory) → IfErr result (λ fault. P (cause fault))
+passed_memory given (Ok x) cause P only passed memory = tt
+passed_memory given (Err fault) cause P only passed memory = told_memory given (cause fault) P only passed memory

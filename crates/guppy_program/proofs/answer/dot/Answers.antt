@@ -1,5 +1,8 @@
-use Rattle.std.proofs.Common.{refl}
+use Rattle.std.proofs.Common.{refl, map, string_bytes}
+use Rattle.std.proofs.lemmas.Result.{err_from_is_err_and}
+use Rattle.guppy_program.specs.Answer.{IsWordFault}
 use Rattle.guppy_program.specs.Dot.{drawing_shown}
+use Rattle.guppy_program.proofs.Refusals.{told_memory}
 use Rattle.guppy_program.proofs.answer.dot.Goals as goal
 
 pub returns-clause-ok : goal.returns-clause-ok
@@ -13,3 +16,15 @@ returns-clause-ok g c =
       exact = rw c.deref.ensures.value at exact;
       told = refl;
     }
+
+pub returns-in_err-ids-clause-err : goal.returns-in_err-ids-clause-err
+returns-in_err-ids-clause-err g c =
+    let passed_on = err_from_is_err_and c.from_residual.result c.from_residual.ensures.1 in
+    rw (passed_on.1, passed_on.2) c.in_err-ids.ensures.err
+
+pub returns-in_err-drawing-clause-err : goal.returns-in_err-drawing-clause-err
+returns-in_err-drawing-clause-err g c =
+    let passed_on = err_from_is_err_and c.from_residual-in_err-drawing.result c.from_residual-in_err-drawing.ensures.1 in
+    rw (passed_on.1, passed_on.2) (told_memory c.drawing_of.result _
+    (IsWordFault g.F.Format.format c.args.graph.now.packages (map string_bytes c.args.words.now))
+    c.drawing_of.ensures.err c.in_err-drawing.ensures.err tt)

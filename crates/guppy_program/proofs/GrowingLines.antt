@@ -1,0 +1,13 @@
+-- A text that grows by a line, item by item.
+use Rattle.std.proofs.Common.{◌≡◌, ◌∙◌, sym, ap, ℕ, ◌+◌, ◌<◌, List, [], ◌∷◌, ◌++◌, length, map, take, get_or}
+use Rattle.std.proofs.lemmas.List.{append-nil, map_push, take_more}
+use Rattle.std.proofs.lemmas.List.Concat.{flat_map-append}
+use Rattle.guppy_command.specs.Printed.{line_of, lines_of}
+
+-- what is viewed of the items up to the next, which is this one
+pub viewed_more : {X Y : Type 0} (view : X → Y) (items : List X) (i : ℕ) (x : X) → i < length items → x ≡ get_or items i x → map view (take (i + 1) items) ≡ map view (take i items) ++ view x ∷ []
+viewed_more view items i x within is = ap (map view) (take_more items i x within) ∙ map_push view (take i items) (get_or items i x) ∙ ap (λ y. map view (take i items) ++ view y ∷ []) (sym is)
+
+-- their lines, with that of one more
+pub lines_more : {Y : Type 0} (text : Y → List ℕ) (ys : List Y) (y : Y) → lines_of (map text (ys ++ y ∷ [])) ≡ lines_of (map text ys) ++ line_of (text y)
+lines_more text ys y = ap lines_of (map_push text ys y) ∙ flat_map-append line_of (map text ys) (text y ∷ []) ∙ ap (λ l. lines_of (map text ys) ++ l) (append-nil (line_of (text y)))
