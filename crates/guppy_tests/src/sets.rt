@@ -28,12 +28,28 @@ pub(super) fn direction_of(word: &str) -> DependencyDirection {
     }
 }
 
-// All packages, by a copy of a query that starts at a copy of their set.
-fn all_again(graph: &PackageGraph) -> Result<PackageSet<'_>, Error> {
-    let copy = graph.resolve_all()?.clone()?;
-    let query = copy.to_package_query(DependencyDirection::Forward)?;
+// What a copy of the query leads to.
+fn reached_by_copy<'g>(query: &PackageQuery<'g>) -> Result<PackageSet<'g>, Error> {
     let copy = query.clone()?;
     copy.resolve()
+}
+
+// What the set leads to, by a copy of a query that starts at it.
+fn reached_from<'g>(set: &PackageSet<'g>) -> Result<PackageSet<'g>, Error> {
+    let query = set.to_package_query(DependencyDirection::Forward)?;
+    reached_by_copy(&query)
+}
+
+// The same of a copy of the set.
+fn reached_from_copy<'g>(set: &PackageSet<'g>) -> Result<PackageSet<'g>, Error> {
+    let copy = set.clone()?;
+    reached_from(&copy)
+}
+
+// All packages, by a copy of a query that starts at a copy of their set.
+fn all_again(graph: &PackageGraph) -> Result<PackageSet<'_>, Error> {
+    let all = graph.resolve_all()?;
+    reached_from_copy(&all)
 }
 
 // The set of the package alone.
