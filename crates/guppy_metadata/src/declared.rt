@@ -2,7 +2,6 @@
 ghost use Rattle.std.specs.Prelude.{◌≡◌, false, Some, map, length, IfOk, IfSome, MatchOption, MatchResult};
 ghost use Rattle.std.specs.Option.{option_copied};
 ghost use Rattle.json.specs.Json.{Json, value};
-ghost use Rattle.json.specs.Value.{value_view};
 ghost use Rattle.guppy_data.specs.declared.texts.dependency_kind.DependencyKind.{DependencyKind};
 ghost use Rattle.guppy_metadata.specs.Asked.{AreValuesOf, HasName};
 ghost use Rattle.guppy_metadata.specs.declared.declared.TheConstants.{ASKED};
@@ -91,22 +90,6 @@ fn declared_of<'a>(dependency: Object<'_, 'a>, details: bool) -> Result<Declared
     })
 }
 
-// The dependency that the item of the list `dependencies` at this index is, with details or without.
-fn declared_at<'a>(
-    alloc: Global,
-    index: usize,
-    item: &Value<'a>,
-    details: bool,
-) -> Result<Declared<'a>, Misfit>
-    ensures { IsRead (IsDeclared details (value_view item.now)) result }
-{
-    let dependency = Object::of_item(alloc, "dependencies", index, item)?;
-    match declared_of(dependency, details) {
-        Ok(declared) => Ok(declared),
-        Err(fault) => Err(fault.within_item(alloc, "dependencies", index)),
-    }
-}
-
 /// The dependencies that a package declares, with details or without: the items of the list `dependencies`.
 pub(crate) fn declared_dependencies<'a>(
     json: Object<'_, 'a>,
@@ -120,7 +103,11 @@ pub(crate) fn declared_dependencies<'a>(
     let items = json.list("dependencies")?;
     let mut declared = Vec::with_capacity(alloc, items.len())?;
     for (index, item) in items.iter().enumerate() {
-        declared.push(declared_at(alloc, index, item, details)?)?;
+        let dependency = Object::of_item(alloc, "dependencies", index, item)?;
+        match declared_of(dependency, details) {
+            Ok(dependency) => declared.push(dependency)?,
+            Err(fault) => return Err(fault.within_item(alloc, "dependencies", index)),
+        }
     }
     Ok(declared)
 }

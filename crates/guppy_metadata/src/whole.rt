@@ -1,16 +1,14 @@
 //! All records, of JSON that is read item by item, or where that gives none, as a whole.
 ghost use Rattle.std.specs.Prelude.{◌≡◌, List, true, Some, IsSome, IsSomeAnd, IfOk, OnOk, IfErr, MatchResult, None, map, codes};
-ghost use Rattle.json.specs.Json.{document, array, string};
-ghost use Rattle.json.specs.Find.{get};
+ghost use Rattle.json.specs.Json.{document, array};
 ghost use Rattle.json.specs.Value.{items_of, value_view};
 ghost use Rattle.guppy_data.specs.declared.records.LinkRecord.{LinkRecord};
 ghost use Rattle.guppy_data.specs.declared.records.PackageRecord.{PackageRecord};
 ghost use Rattle.guppy_data.specs.declared.records.WorkspaceRecord.{WorkspaceRecord};
-ghost use Rattle.guppy_data.specs.Utf8Path.{path_text};
 ghost use Rattle.guppy_metadata.specs.Fault.{IsNotJson, IsNotResolved, IsOutOfMemory, NoneIs};
-ghost use Rattle.guppy_metadata.specs.Links.{AreLinksWith, AreLinksOfAll, nodes_in};
+ghost use Rattle.guppy_metadata.specs.Links.{AreLinksOfAll, nodes_in};
 ghost use Rattle.guppy_metadata.specs.Members.{data_of, present};
-ghost use Rattle.guppy_metadata.specs.Package.{ArePackagesWith, are_known};
+ghost use Rattle.guppy_metadata.specs.Package.{are_known};
 ghost use Rattle.guppy_metadata.specs.Records.{AreRecordsWith, SaysNoRecordsWith};
 
 use crate::by_item::records_by_item;
@@ -20,7 +18,7 @@ use crate::object::Object;
 use crate::package::{package_records, packages_of, positions_of};
 use crate::types::Package;
 use crate::workspace::{member_ids, workspace_record};
-use guppy_data::{LinkRecord, PackageRecord, Records, Utf8Path};
+use guppy_data::{LinkRecord, Records};
 use json::{Error, MAX_DEPTH, Reader, Scratch, Value};
 use std::alloc::Global;
 
@@ -82,30 +80,6 @@ fn links_between(
     }
 }
 
-// The records of the packages of a workspace at this root, and of the links of these nodes between them, with details
-// or without.
-fn packages_and_links(
-    metadata: Object<'_, '_>,
-    root: Utf8Path<'_>,
-    nodes: &[Value<'_>],
-    details: bool,
-) -> Result<(Vec<PackageRecord>, Vec<LinkRecord>), Misfit>
-    requires root { get (codes "workspace_root") (data_of metadata) ≡ Some (string (path_text root)) }
-    requires nodes { nodes_in (data_of metadata) ≡ Some (array (items_of (map value_view nodes.now))) }
-    ensures { MatchResult result
-        (λ said. ArePackagesWith details (data_of metadata.entry) said.0.items
-        × AreLinksWith details (data_of metadata.entry) said.1.items)
-        (NoneIs (λ (said : List PackageRecord × List LinkRecord × WorkspaceRecord).
-        AreRecordsWith details (data_of metadata.entry) said.0 said.1 said.2)) }
-{
-    let alloc = metadata.alloc;
-    let members = member_ids(metadata)?;
-    let packages = packages_of(metadata, details)?;
-    let links = links_between(alloc, packages.as_slice(), members.as_slice(), nodes)?;
-    let packages = package_records(alloc, packages, members.as_slice(), root)?;
-    Ok((packages, links))
-}
-
 // The records that the JSON says, with details or without.
 fn records_in(metadata: Object<'_, '_>, details: bool) -> Result<Records, Misfit>
     ensures { MatchResult result
@@ -113,10 +87,15 @@ fn records_in(metadata: Object<'_, '_>, details: bool) -> Result<Records, Misfit
         (NoneIs (λ (said : List PackageRecord × List LinkRecord × WorkspaceRecord).
         AreRecordsWith details (data_of metadata.entry) said.0 said.1 said.2)) }
 {
+    let alloc = metadata.alloc;
     let nodes = nodes_of(metadata)?;
     let workspace = workspace_record(metadata)?;
+    let members = member_ids(metadata)?;
+    let packages = packages_of(metadata, details)?;
+    let nodes = nodes.as_slice();
+    let links = links_between(alloc, packages.as_slice(), members.as_slice(), nodes)?;
     let root = workspace.root.as_path();
-    let (packages, links) = packages_and_links(metadata, root, nodes.as_slice(), details)?;
+    let packages = package_records(alloc, packages, members.as_slice(), root)?;
     Ok(Records {
         packages,
         links,
