@@ -1,7 +1,6 @@
 -- How a program reads its input, and what it calls packages.
-use Rattle.std.specs.Prelude.{◌≡◌, ◌<◌, ℕ, Bool, List, [], Option, length, map, codes}
-use Rattle.std.specs.List.{join_by, list_any}
-use Rattle.std.specs.Str.{bytes_eq}
+use Rattle.std.specs.Prelude.{◌≡◌, ◌<◌, ℕ, List, [], Option, length, map, codes}
+use Rattle.std.specs.List.{join_by}
 use Rattle.guppy_data.specs.declared.records.PackageRecord.{PackageRecord}
 use Rattle.guppy_data.specs.declared.records.LinkRecord.{LinkRecord}
 use Rattle.guppy_data.specs.declared.records.WorkspaceRecord.{WorkspaceRecord}
@@ -30,10 +29,6 @@ IsReadingFault format input fault _ = ⊥
 -- these texts, parted by ` or `
 abbrev pub alternatives : List (List ℕ) → List ℕ
 alternatives texts = join_by (λ text. text) (codes " or ") texts
-
--- one of the packages has the ID
-abbrev pub has_id : List ℕ → List PackageRecord → Bool
-has_id id packages = list_any (λ r. bytes_eq id r.id) packages
 
 -- the word means no package, or it may mean several, whose texts are told, or memory ran out
 abbrev pub IsUnclear : {Fault : Type 0} → Format Fault → List PackageRecord → List ℕ → Cause → Type 0

@@ -6,7 +6,8 @@ use Rattle.guppy_data.specs.declared.records.WorkspaceRecord.{WorkspaceRecord}
 use Rattle.guppy_command.specs.declared.lines.fault.RunFault.{RunFault}
 use Rattle.guppy_command.specs.declared.lines.fault.RunFault.TheVariants.{BadLine}
 use Rattle.guppy_command.specs.Command.{asked_by, command_of}
-use Rattle.guppy_program.specs.Format.{Format, has_id}
+use Rattle.guppy_command.specs.Ids.{has_id}
+use Rattle.guppy_program.specs.Format.{Format}
 use Rattle.guppy_command.specs.Text.{IsAllGood, IsFirstBadLine, statements_of}
 use Rattle.guppy_command.specs.Records.{AreRecordsOf}
 

@@ -2,7 +2,8 @@
 ghost use Rattle.std.specs.Prelude.{◌≡◌, ◌∷◌, [], List, map, string_bytes, option_map, IfOk, IfErr, IsOkUnless};
 ghost use Rattle.guppy_data.specs.declared.records.PackageRecord.{PackageRecord as PackageData};
 ghost use Rattle.guppy.specs.Ids.{IsKnown};
-ghost use Rattle.guppy_program.specs.Format.{Format as FormatOf, IsReadingFault, IsUnclear, has_id};
+ghost use Rattle.guppy_command.specs.Ids.{has_id};
+ghost use Rattle.guppy_program.specs.Format.{Format as FormatOf, IsReadingFault, IsUnclear};
 ghost use Rattle.guppy_command.specs.Shown.{asked_shown};
 
 use guppy::{Error, PackageGraph, PackageId};

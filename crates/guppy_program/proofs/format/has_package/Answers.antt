@@ -1,6 +1,6 @@
 use Rattle.std.proofs.Common.{sym}
 use Rattle.std.proofs.lemmas.Bool.{false_from_ne_true}
-use Rattle.guppy_program.specs.Format.{has_id}
+use Rattle.guppy_command.specs.Ids.{has_id}
 use Rattle.guppy_program.proofs.KnownIds.{known-has_id, has_id-known}
 use Rattle.guppy_program.proofs.format.has_package.Goals as goal
 
