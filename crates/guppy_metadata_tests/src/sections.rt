@@ -2,8 +2,8 @@
 
 use guppy::IntoGraph;
 use guppy::platform::{EnabledTernary, PlatformSpec};
-use guppy_metadata::records_of;
 use guppy_extras::{SectionsOn, sections_on};
+use guppy_metadata::records_of;
 use guppy_target::{CfgEval, Platform};
 use std::process::Abort;
 
