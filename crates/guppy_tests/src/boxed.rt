@@ -1,12 +1,11 @@
 //! A visitor in a box, which is handed over by value.
 
 use crate::drawn::{Case, judge_resolve, query_of};
-use crate::records::numbered_graph;
+use crate::judge::Given;
+use crate::records::{numbered_graph, numbered_ids};
 use crate::visitors::Odd;
 use guppy::graph::DependencyDirection;
 use guppy::{PackageLinkVisitor, PackageQuery};
-use guppy_test_parts::judge::Given;
-use guppy_test_parts::records::numbered_ids;
 use std::alloc::Global;
 use std::process::Abort;
 

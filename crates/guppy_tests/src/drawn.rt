@@ -1,18 +1,17 @@
 //! Graphs of up to eight packages that are drawn by numbers, and searches of them, each judged.
-ghost use Rattle.std.specs.Prelude.{ℕ, ◌<◌, length};
+ghost use Rattle.std.specs.Prelude.{ℕ, ◌≡◌, ◌<◌, ◌++◌, ◌∷◌, length, map, All, IfOk};
 ghost use Rattle.guppy.specs.Visitors.{MayVisitAt};
 
-use crate::records::numbered_graph;
+use crate::judge::{Event, Given, NOWHERE, has};
+use crate::lists::{DevLinks, positions_graph};
+use crate::reach::Reach;
+use crate::records::{numbered_graph, numbered_ids};
 use crate::sets::positions_of;
 use crate::visitors::{ByPattern, DevOnly, First, Odd, Rising};
-use guppy::graph::DependencyDirection;
+use guppy::graph::{DependencyDirection, IndexType, PackageIx};
+use guppy::positions::{BufferedEdgeFilter, Graph, IxSet, reachable_buffered};
 use guppy::{PackageGraph, PackageId, PackageLinkVisitor, PackageQuery, PackageSet, Recorder};
-use guppy_test_parts::buffered::judge_by_position;
-use guppy_test_parts::drawn::{bits_of, drawn_pairs, links_of, mixed};
-use guppy_test_parts::judge::Given;
-use guppy_test_parts::reach::{Reach, is_kept, links_inside};
-use guppy_test_parts::records::numbered_ids;
-use std::alloc::Global;
+use std::alloc::{AllocError, Global};
 use std::process::Abort;
 
 const ASCENDING: [usize; 8] = [0, 1, 2, 3, 4, 5, 6, 7];
@@ -21,6 +20,44 @@ const DIRECTIONS: [DependencyDirection; 2] = [
     DependencyDirection::Forward,
     DependencyDirection::Reverse,
 ];
+
+// A number that looks drawn, the same for the same seed.
+fn mixed(seed: u64) -> u64 {
+    let spread = seed.wrapping_add(1).wrapping_mul(0x9E37_79B9_7F4A_7C15);
+    let once = (spread ^ (spread >> 30)).wrapping_mul(0xBF58_476D_1CE4_E5B9);
+    let twice = (once ^ (once >> 27)).wrapping_mul(0x94D0_49BB_1331_11EB);
+    twice ^ (twice >> 31)
+}
+
+// The lowest bits of the number, so many.
+fn bits_of(rt: &impl Abort, alloc: Global, count: usize, number: u64) -> Vec<bool> {
+    let mut bits = Vec::new(alloc);
+    for place in 0..count.min(64) {
+        bits.push((number >> place) & 1 == 1).expect(rt, "bits");
+    }
+    bits
+}
+
+// Links between the first positions, so many. Bit 8 a + b says whether there is one from a to b, and in
+// the second number whether it is dev-only. Their numbers don't go by their ends.
+fn links_of(
+    rt: &impl Abort,
+    alloc: Global,
+    count: usize,
+    pairs: u64,
+    dev_only: u64,
+) -> Vec<(usize, usize, bool)> {
+    let mut links = Vec::new(alloc);
+    for step in 0..64 {
+        let pair = (step * 11 + 5) % 64;
+        let (from, to) = (pair / 8, pair % 8);
+        if (pairs >> pair) & 1 == 1 && from < count && to < count {
+            let link = (from, to, (dev_only >> pair) & 1 == 1);
+            links.push(link).expect(rt, "links");
+        }
+    }
+    links
+}
 
 /// A graph with its IDs by position, and what a search of it is given.
 #[derive(Clone, Copy)]
@@ -121,6 +158,37 @@ fn all_small_graphs(rt: HostRuntime) {
         let graph = numbered_graph(&rt, rt.alloc(), 3, links.as_slice());
         judge_small_graph(&rt, &graph, ids.as_slice(), links.as_slice());
     }
+}
+
+// Whether the list is the order with all but the members left out.
+fn is_kept(order: &[usize], members: &[bool], list: &[usize]) -> bool {
+    let mut rest = list.iter();
+    for position in order {
+        if has(members, *position) && rest.next() != Some(position) {
+            return false;
+        }
+    }
+    rest.next().is_none()
+}
+
+// The links, of which those that aren't between members have no ends.
+fn links_inside(
+    rt: &impl Abort,
+    alloc: Global,
+    links: &[(usize, usize, bool)],
+    members: &[bool],
+) -> Vec<(usize, usize, bool)> {
+    let mut inside = Vec::new(alloc);
+    for (from, to, is_dev_only) in links {
+        let is_inside = has(members, *from) && has(members, *to);
+        let (from, to) = if is_inside {
+            (*from, *to)
+        } else {
+            (NOWHERE, NOWHERE)
+        };
+        inside.push((from, to, *is_dev_only)).expect(rt, "links");
+    }
+    inside
 }
 
 // The positions of the set's roots.
@@ -234,12 +302,133 @@ fn judge_visitors(rt: &impl Abort, case: Case<'_>, pattern: &[bool]) {
     judge_resolve(rt, case, query_of(rt, case), Rising { highest: 0 });
 }
 
+// Hands back links that look drawn, and notes each question and, behind it, what it handed back.
+#[derive(Drop)]
+struct Drawing {
+    drawn: u64,
+    events: Vec<Event>,
+}
+
+// The links whose bits are set, below the count.
+fn links_at(alloc: Global, link_count: usize, bits: u64) -> Result<Vec<usize>, AllocError>
+    ensures { IfOk result (λ links. All (λ n. n < link_count) links.items) }
+{
+    let mut links = Vec::new(alloc);
+    for link in 0..link_count.min(64) {
+        if (bits >> link) & 1 == 1 {
+            links.push(link)?;
+        }
+    }
+    Ok(links)
+}
+
+// Adds the question, and each link that is handed back.
+fn note(events: &mut Vec<Event>, question: Event, handed: &[usize]) -> Result<(), AllocError>
+    ensures { IfOk result (λ _. events.new.items
+        ≡ events.old.items ++ question ∷ map Event.HandBack handed.now) }
+{
+    events.push(question)?;
+    for link in handed {
+        events.push(Event::HandBack(*link))?;
+    }
+    Ok(())
+}
+
+impl Drawing {
+    fn answer(
+        &mut self,
+        alloc: Global,
+        link_count: usize,
+        question: Event,
+    ) -> Result<Vec<usize>, AllocError>
+        ensures below { IfOk result (λ handed. All (λ n. n < link_count) handed.items) }
+        ensures noted { IfOk result (λ handed. self.new.events.items
+            ≡ self.old.events.items ++ question ∷ map Event.HandBack handed.items) }
+    {
+        self.drawn = mixed(self.drawn);
+        let bits = self.drawn & mixed(self.drawn) & mixed(!self.drawn);
+        let handed = links_at(alloc, link_count, bits)?;
+        note(&mut self.events, question, handed.as_slice())?;
+        Ok(handed)
+    }
+}
+
+impl BufferedEdgeFilter<DevLinks> for Drawing {
+    ghost use Rattle.std.specs.Prelude.{◌≡◌, ◌++◌, ◌∷◌, map, IfSome};
+    ghost use Rattle.guppy_tests.specs.declared.judge.Event.TheVariants.{Discover, Filter, HandBack};
+
+    ghost filters = { λ _ s n answer t. IfSome answer (λ handed. t.events.items
+        ≡ s.events.items ++ Filter n ∷ map HandBack handed) };
+
+    ghost discovers = { λ _ s p answer t. IfSome answer (λ handed. t.events.items
+        ≡ s.events.items ++ Discover p ∷ map HandBack handed) };
+
+    fn filter(&mut self, graph: &Graph<DevLinks>, link: usize) -> Result<Vec<usize>, AllocError> {
+        self.answer(graph.alloc(), graph.link_count(), Event::Filter(link))
+    }
+
+    fn discover(
+        &mut self,
+        graph: &Graph<DevLinks>,
+        node: PackageIx,
+    ) -> Result<Vec<usize>, AllocError> {
+        let question = Event::Discover(node.index());
+        self.answer(graph.alloc(), graph.link_count(), question)
+    }
+}
+
+fn set_of(rt: &impl Abort, graph: &Graph<DevLinks>, members: &[bool]) -> IxSet<DevLinks>
+    ensures { length result ≡ length graph.now.nodes }
+{
+    let mut set = IxSet::empty(graph.alloc(), graph.node_count()).expect(rt, "a set");
+    for (position, is_member) in members.iter().enumerate() {
+        if *is_member && position < graph.node_count() && position < 4_294_967_295 {
+            set.insert_position(position);
+        }
+    }
+    set
+}
+
+fn members_by_position(rt: &impl Abort, alloc: Global, set: &IxSet<DevLinks>) -> Vec<bool> {
+    let mut members = Vec::new(alloc);
+    for position in 0..set.node_count() {
+        let is_member = set.has_position(position);
+        members.push(is_member).expect(rt, "members");
+    }
+    members
+}
+
+fn judge_buffered(rt: &impl Abort, graph: &Graph<DevLinks>, given: Given<'_>, drawn: u64) {
+    let starts = set_of(rt, graph, given.starts);
+    let events = Vec::new(graph.alloc());
+    let mut filter = Drawing { drawn, events };
+    let set = reachable_buffered(graph, &starts, given.direction, &mut filter);
+    let members = members_by_position(rt, graph.alloc(), &set.expect(rt, "a buffered search"));
+    let broken = given.broken_buffered_rule(filter.events.as_slice(), members.as_slice());
+    assert!(rt; broken.is_none(), "buffered: {broken:?}");
+}
+
+// A half of the pairs, a quarter or an eighth.
+fn drawn_pairs(drawn: u64) -> u64 {
+    match drawn % 3 {
+        0 => mixed(drawn),
+        1 => mixed(drawn) & mixed(drawn ^ 1),
+        _ => mixed(drawn) & mixed(drawn ^ 1) & mixed(drawn ^ 2),
+    }
+}
+
+// Judges a buffered search of the same graph.
+fn judge_by_position(rt: &impl Abort, case: Case<'_>, drawn: u64) {
+    let (count, links) = (case.ids.len(), case.given.links);
+    let graph = positions_graph(rt, case.graph.alloc(), count, links);
+    judge_buffered(rt, &graph, case.given, drawn);
+}
+
 fn judge_drawn_case(rt: &impl Abort, case: Case<'_>, drawn: u64) {
     let pattern = bits_of(rt, case.graph.alloc(), 64, mixed(drawn ^ 5));
     judge_visitors(rt, case, pattern.as_slice());
     judge_sets(rt, case, Reach::new(case.given.links));
-    let (alloc, count) = (case.graph.alloc(), case.ids.len());
-    judge_by_position(rt, alloc, count, case.given, drawn);
+    judge_by_position(rt, case, drawn);
 }
 
 fn judge_drawn_graph(rt: &impl Abort, alloc: Global, drawn: u64) {

@@ -1,9 +1,9 @@
 //! Graphs: what they hold, which records make none, what depends on what, and whether they are verified.
+use crate::examples::{Answer, Question};
 use crate::lists::{put_affected, put_cycles, put_publish_order};
 use crate::sets::ask_set;
 use guppy::errors::VerifyFault;
 use guppy::{DependsCache, Error, PackageGraph, PackageId};
-use guppy_test_parts::answers::{Answer, Question};
 
 // How many packages and links there are, and how many the walks over IDs, packages and members have.
 fn put_counts(graph: &PackageGraph, out: &mut Answer) {

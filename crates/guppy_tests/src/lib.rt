@@ -2,9 +2,9 @@
 //! of `guppy_publish`, and of whom changes affect through that of `guppy_affected`.
 //!
 //! They stand beside the library and not in it: a crate with tests is proved twice, with them and without.
-//! Most are examples, written as texts: `records` of guppy_test_parts says how a graph is written, and `examples`
-//! how a question and its answer are. `drawn` and `boxed` have graphs whose searches are judged, by `judge` and
-//! `reach` of guppy_test_parts, which `trials` tries, and `visitors` the visitors, each with its meaning.
+//! Most are examples, written as texts: `records` says how a graph is written, and `examples` how a
+//! question and its answer are. `drawn` and `boxed` have graphs whose searches are judged, by `judge` and
+//! `reach`, and `visitors` the visitors, each with its meaning.
 #![tactic(auto)]
 
 #[cfg(test)]
@@ -16,7 +16,11 @@ mod examples;
 #[cfg(test)]
 mod faults;
 #[cfg(test)]
+mod filled;
+#[cfg(test)]
 mod graphs;
+#[cfg(test)]
+mod judge;
 #[cfg(test)]
 mod large;
 #[cfg(test)]
@@ -26,11 +30,11 @@ mod members;
 #[cfg(test)]
 mod queries;
 #[cfg(test)]
+mod reach;
+#[cfg(test)]
 mod records;
 #[cfg(test)]
 mod sets;
-#[cfg(test)]
-mod trials;
 #[cfg(test)]
 mod views;
 #[cfg(test)]

@@ -1,13 +1,14 @@
 //! Lists of sets, cycles, the publish order, the members that changes affect, and the looks for the order.
 ghost use Rattle.std.specs.Iterator.{IsFinite};
 
+use crate::examples::{Answer, Question};
+use crate::records::shape_of;
+use guppy::graph::PackageIx;
+use guppy::positions::{CountedGraph, Graph, GraphSpec, Link, Sccs, TopoWithCycles};
 use guppy::{CycleIds, PackageGraph, PackageId};
 use guppy_affected::affected;
 use guppy_publish::publish_order;
-use guppy_test_parts::answers::{Answer, Question};
-use guppy_test_parts::buffered::looks_of;
-use guppy_test_parts::records::shape_of;
-use std::alloc::Global;
+use std::alloc::{AllocError, Global};
 use std::process::Abort;
 
 // How many packages each cycle has, and these, with commas between.
@@ -215,6 +216,17 @@ all_members_are_affected_by_what_is_no_members | @base @mid @mid/deep @base-more
     sorted affected-but elsewhere elsewhere/x = nothing
 ";
 
+/// A graph whose links say whether they are dev-only.
+pub(super) enum DevLinks {}
+
+impl GraphSpec for DevLinks {
+    type Node = ();
+
+    type Edge = bool;
+
+    type Ix = PackageIx;
+}
+
 // d, c, b, a as in `four_with_dev_backs`.
 const BACKS: [(usize, usize, bool); 5] = [
     (3, 2, false),
@@ -224,9 +236,37 @@ const BACKS: [(usize, usize, bool); 5] = [
     (0, 1, true),
 ];
 
+fn counted_looks(graph: &Graph<DevLinks>) -> Result<u64, AllocError> {
+    let mut counted = CountedGraph::new(graph);
+    let topo = TopoWithCycles::new(&mut counted, |is_dev_only: &bool| !*is_dev_only)?;
+    let _sccs = Sccs::new(&mut counted, &topo)?;
+    Ok(counted.looks())
+}
+
+/// The graph of so many positions and these links.
+pub(super) fn positions_graph(
+    rt: &impl Abort,
+    alloc: Global,
+    count: usize,
+    ends: &[(usize, usize, bool)],
+) -> Graph<DevLinks> {
+    let mut links = Vec::new(alloc);
+    for (from, to, is_dev_only) in ends {
+        let link = Link {
+            from: *from,
+            to: *to,
+            edge: *is_dev_only,
+        };
+        links.push(link).expect(rt, "a link");
+    }
+    let nodes = vec![in alloc; (); count].expect(rt, "nodes");
+    Graph::from_parts(nodes, links).expect(rt, "a graph")
+}
+
 // Whether the graph's looks are those for index and components of its links alone.
 fn put_sum(rt: &impl Abort, graph: &PackageGraph, ends: &[(usize, usize, bool)], out: &mut Answer) {
-    let looks = looks_of(rt, graph.alloc(), graph.package_count(), ends);
+    let by_position = positions_graph(rt, graph.alloc(), graph.package_count(), ends);
+    let looks = counted_looks(&by_position).expect(rt, "looks");
     out.put_truth(graph.order_looks() == looks);
 }
 

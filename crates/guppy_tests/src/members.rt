@@ -1,8 +1,8 @@
 //! How many members names and paths name, and how many of these each call leaves unread.
 ghost use Rattle.std.specs.Iterator.{IsFinite};
 
+use crate::examples::{Answer, Question};
 use guppy::{Error, PackageGraph, PackageMetadata, PackageQuery, PackageSet, Utf8Path};
-use guppy_test_parts::answers::{Answer, Question};
 
 /// How many packages the set has.
 pub(super) fn len_of(set: Result<PackageSet<'_>, Error>) -> Result<usize, Error> {

@@ -6,13 +6,13 @@
 ghost use Rattle.std.specs.Prelude.{◌≡◌, ◌==◌, ◌+◌, ◌%◌, ◌^◌, IsTrue};
 ghost use Rattle.guppy.specs.Visitors.{StartsFromInitial};
 
+use crate::examples::{Answer, Question};
 use crate::sets::{direction_of, put_letters};
 use crate::visitors::{First, Odd, RefusesOnce, odd_calls, over_even_links};
 use guppy::{
     Error, PackageGraph, PackageLink, PackageLinkContext, PackageLinkVisitor, PackageQuery,
     PackageSet,
 };
-use guppy_test_parts::answers::{Answer, Question};
 
 // As `Odd`, but it counts in a number that it is lent: it can be read after the visitor was handed over.
 #[derive(Drop)]

@@ -9,12 +9,12 @@ ghost use Rattle.guppy.specs.Ids.{ids_of};
 ghost use Rattle.std.specs.Iterator.{IsFinite};
 ghost use Rattle.std.specs.Prelude.{◌≡◌};
 
+use crate::examples::{Answer, Question};
 use guppy::graph::{DependencyDirection, IndexType};
 use guppy::{
     Error, PackageGraph, PackageId, PackageMetadata, PackageQuery, PackageSet, RootIds,
     RootPackages, WalkedLinks,
 };
-use guppy_test_parts::answers::{Answer, Question};
 use std::alloc::Global;
 use std::process::Abort;
 

@@ -1,4 +1,5 @@
 //! What is read out of a graph: fields, links, build targets, members and default members.
+use crate::examples::{Answer, Question};
 use crate::members::{len_of, put_at_paths, put_named, put_unread, reached_by};
 use crate::sets::direction_of;
 use guppy::graph::BuildTargetId;
@@ -6,7 +7,6 @@ use guppy::{
     DependencyKind, Error, JsonValue, PackageGraph, PackageId, PackageLink, PackageMetadata,
     Utf8Path, Version, VersionReq,
 };
-use guppy_test_parts::answers::{Answer, Question};
 
 fn put_texts(package: PackageMetadata<'_>, out: &mut Answer) {
     let texts = [

@@ -1,6 +1,6 @@
 use Rattle.std.proofs.Common.{◌≡◌, ◌∷◌, ◌++◌, map, take}
-use Rattle.guppy_test_parts.specs.declared.judge.Event.TheVariants.{HandBack}
-use Rattle.guppy_test_parts.proofs.buffered.note.Given as goal
+use Rattle.guppy_tests.specs.declared.judge.Event.TheVariants.{HandBack}
+use Rattle.guppy_tests.proofs.drawn.note.Given as goal
 
 abbrev pub invariant-loop-link : goal.invariant-loop-link
 invariant-loop-link l =

@@ -1,10 +1,9 @@
 //! Records with each field filled.
 use crate::records::{path, text};
-use guppy_data::{
+use guppy::graph::{
     LinkRecord, NamedFeatureDep, PackagePublishRecord, PackageRecord, Records, WorkspaceRecord,
 };
-use semver::Version;
-use serde_json::Value;
+use guppy::{JsonValue, Version};
 use std::alloc::Global;
 use std::process::Abort;
 
@@ -30,7 +29,7 @@ fn fill_paths(rt: &impl Abort, alloc: Global, package: &mut PackageRecord) {
     package.readme = Some(path(rt, alloc, "README.md"));
     package.manifest_path = path(rt, alloc, "a/Cargo.toml");
     package.rust_version = Some(Version::new(1, 85, 0));
-    package.metadata_table = Value::Bool(true);
+    package.metadata_table = JsonValue::Bool(true);
 }
 
 fn fill_lists(rt: &impl Abort, alloc: Global, package: &mut PackageRecord) {
@@ -62,11 +61,11 @@ fn fill_workspace(rt: &impl Abort, alloc: Global, workspace: &mut WorkspaceRecor
     workspace.root = path(rt, alloc, "/w");
     workspace.target_directory = path(rt, alloc, "/w/target");
     workspace.build_directory = Some(path(rt, alloc, "/w/build"));
-    workspace.metadata_table = Value::Bool(false);
+    workspace.metadata_table = JsonValue::Bool(false);
 }
 
 /// Fills the fields of the first package, the first link and the workspace.
-pub(crate) fn fill(rt: &impl Abort, alloc: Global, records: &mut Records) {
+pub(super) fn fill(rt: &impl Abort, alloc: Global, records: &mut Records) {
     if let Some(package) = records.packages.first_mut() {
         fill_texts(rt, alloc, package);
         fill_paths(rt, alloc, package);

@@ -1,7 +1,7 @@
 //! What leads to what between eight positions, and what that says of a list of them and of a set's roots.
 //!
 //! Pairs of positions are a number of 64 bits, where that of the pair from a to b is 8 a + b.
-use crate::judge::{Given, NOWHERE, has};
+use crate::judge::Given;
 use std::alloc::Global;
 use std::process::Abort;
 
@@ -59,14 +59,14 @@ fn has_cycle(pairs: u64) -> bool {
 
 /// The links of a graph, and what leads to what over all of them and over those that aren't dev-only.
 #[derive(Clone, Copy)]
-pub struct Reach<'a> {
+pub(super) struct Reach<'a> {
     links: &'a [(usize, usize, bool)],
     all: u64,
     kept: u64,
 }
 
 impl<'a> Reach<'a> {
-    pub fn new(links: &'a [(usize, usize, bool)]) -> Self {
+    pub(super) fn new(links: &'a [(usize, usize, bool)]) -> Self {
         Reach {
             links,
             all: reach_of(links, true),
@@ -112,7 +112,7 @@ impl<'a> Reach<'a> {
 
     /// The first rule that is broken by a list of all positions, so many, dependents first; none where it
     /// is right.
-    pub fn broken_list_rule(&self, count: usize, list: &[usize]) -> Option<&'static str> {
+    pub(super) fn broken_list_rule(&self, count: usize, list: &[usize]) -> Option<&'static str> {
         for (place, later) in list.iter().enumerate() {
             if *later >= count {
                 return Some("not each once");
@@ -129,7 +129,7 @@ impl<'a> Reach<'a> {
     }
 
     /// The roots of the members, where the links are those inside them.
-    pub fn roots_of(
+    pub(super) fn roots_of(
         &self,
         rt: &impl Abort,
         alloc: Global,
@@ -148,35 +148,4 @@ impl<'a> Reach<'a> {
         }
         roots
     }
-}
-
-/// Whether the list is the order with all but the members left out.
-pub fn is_kept(order: &[usize], members: &[bool], list: &[usize]) -> bool {
-    let mut rest = list.iter();
-    for position in order {
-        if has(members, *position) && rest.next() != Some(position) {
-            return false;
-        }
-    }
-    rest.next().is_none()
-}
-
-/// The links, of which those that aren't between members have no ends.
-pub fn links_inside(
-    rt: &impl Abort,
-    alloc: Global,
-    links: &[(usize, usize, bool)],
-    members: &[bool],
-) -> Vec<(usize, usize, bool)> {
-    let mut inside = Vec::new(alloc);
-    for (from, to, is_dev_only) in links {
-        let is_inside = has(members, *from) && has(members, *to);
-        let (from, to) = if is_inside {
-            (*from, *to)
-        } else {
-            (NOWHERE, NOWHERE)
-        };
-        inside.push((from, to, *is_dev_only)).expect(rt, "links");
-    }
-    inside
 }

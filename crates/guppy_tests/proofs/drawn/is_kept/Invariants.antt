@@ -1,4 +1,4 @@
-use Rattle.guppy_test_parts.proofs.reach.is_kept.Given as goal
+use Rattle.guppy_tests.proofs.drawn.is_kept.Given as goal
 
 abbrev pub invariant-loop-position : goal.invariant-loop-position
 invariant-loop-position l =
