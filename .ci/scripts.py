@@ -26,7 +26,7 @@ TOP = HERE.parent
 TOOLS = "awk basename cat chmod cp dirname env find git grep head ls mkdir mktemp mv pwd readlink rm sed sh sleep sort stat"
 TOOLS += " tail tr true wc"
 BUILT = os.environ.get("BUILT", str(TOP / "crates"))
-SECONDS = 120
+SECONDS = 300
 
 AFFECTED = ["affected", "crates/core/src/lib.rs"]
 ANSWER = "core\ntest-support\ncli\napp\n"
