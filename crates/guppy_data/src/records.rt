@@ -2,6 +2,7 @@
 //!
 //! A constructor takes what each record of its kind has, and leaves all else empty, to be filled by
 //! assignment. None takes memory; `alloc` is what later items are taken from.
+//! A field of a package's, a link's or the workspace's record can be replaced, but not moved out of it.
 ghost use Rattle.std.specs.Prelude.{◌≡◌, [], None};
 ghost use Rattle.serde_json.specs.declared.value.Value.{Null};
 ghost use Rattle.guppy_data.specs.Platform.{Never, Always};
@@ -19,7 +20,7 @@ use std::alloc::Global;
 use std::collections::BTreeMap;
 
 /// What is known of one package.
-#[derive(Debug, Drop)]
+#[derive(Debug)]
 pub struct PackageRecord {
     /// The ID of the package, which no other package of the graph has.
     pub id: PackageId,
@@ -69,6 +70,39 @@ pub struct PackageRecord {
     pub optional_deps: IndexSet<String>,
     /// The build targets, no two of one ID.
     pub build_targets: Vec<BuildTargetRecord>,
+}
+
+// Written out, as those of a link's and the workspace's record: a derived one is proved again in each crate that lets
+// such a record go.
+impl Drop for PackageRecord {
+    fn drop(self) {
+        let PackageRecord {
+            id: _,
+            name: _,
+            version: _,
+            authors: _,
+            description: _,
+            license: _,
+            license_file: _,
+            source: _,
+            manifest_path: _,
+            categories: _,
+            keywords: _,
+            readme: _,
+            repository: _,
+            homepage: _,
+            documentation: _,
+            edition: _,
+            metadata_table: _,
+            links: _,
+            publish: _,
+            default_run: _,
+            rust_version: _,
+            named_features: _,
+            optional_deps: _,
+            build_targets: _,
+        } = self;
+    }
 }
 
 impl PackageRecord {
@@ -192,7 +226,7 @@ pub enum BuildTargetKindRecord {
 }
 
 /// That one package depends on another.
-#[derive(Debug, Drop)]
+#[derive(Debug)]
 pub struct LinkRecord {
     /// The package that depends.
     pub from: PackageId,
@@ -214,6 +248,23 @@ pub struct LinkRecord {
     pub build: DependencyReqImpl,
     /// The dependency as a dev-dependency.
     pub dev: DependencyReqImpl,
+}
+
+impl Drop for LinkRecord {
+    fn drop(self) {
+        let LinkRecord {
+            from: _,
+            to: _,
+            dep_name: _,
+            resolved_name: _,
+            version_req: _,
+            registry: _,
+            path: _,
+            normal: _,
+            build: _,
+            dev: _,
+        } = self;
+    }
 }
 
 impl LinkRecord {
@@ -324,7 +375,7 @@ impl DepRequiredOrOptional {
 }
 
 /// What is known of the workspace as a whole.
-#[derive(Debug, Drop)]
+#[derive(Debug)]
 pub struct WorkspaceRecord {
     /// The path of the workspace's root.
     pub root: Utf8PathBuf,
@@ -336,6 +387,18 @@ pub struct WorkspaceRecord {
     pub metadata_table: Value,
     /// The packages that Cargo's commands act on where none is named. Each is a package of the graph.
     pub default_members: Vec<PackageId>,
+}
+
+impl Drop for WorkspaceRecord {
+    fn drop(self) {
+        let WorkspaceRecord {
+            root: _,
+            target_directory: _,
+            build_directory: _,
+            metadata_table: _,
+            default_members: _,
+        } = self;
+    }
 }
 
 impl WorkspaceRecord {
