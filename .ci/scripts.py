@@ -277,12 +277,12 @@ def try_installed(world):
 def try_quick(world):
     ran = world.run(["quick-tests"])
     yield "all crates", ran[0] == 0 and ran[1].endswith(" passed, 0 failed\n") and ran[2] == "", ran
-    ran = world.run(["quick-tests", "guppy_run_tests", "guppy_core_tests"])
+    ran = world.run(["quick-tests", "guppy_data_tests", "guppy_core_tests"])
     yield "two crates", ran[0] == 0 and ran[1].endswith("\n2 passed, 0 failed\n"), ran
-    ran = world.run(["quick-tests", "guppy_run_tests"], stand_in="tests-fail")
-    is_named = "FAILED: guppy_run_tests: b::wrong\n    why it is wrong\n" in ran[1]
+    ran = world.run(["quick-tests", "guppy_data_tests"], stand_in="tests-fail")
+    is_named = "FAILED: guppy_data_tests: b::wrong\n    why it is wrong\n" in ran[1]
     yield "a test that fails is named", ran[0] == 1 and is_named and ran[1].endswith("\n1 passed, 1 failed\n"), ran
-    ran = world.run(["quick-tests", "guppy_run_tests"], stand_in="tests-stop")
+    ran = world.run(["quick-tests", "guppy_data_tests"], stand_in="tests-stop")
     yield "tests that stop are none", ran[0] == 1 and ran[1].endswith("\n1 passed, 1 failed\n"), ran
     ran = world.run(["quick-tests", "guppy_run"], stand_in="fault")
     yield "a stored run that fails", ran[0] == 1 and "FAILED: guppy_run: its stored run" in ran[1], ran

@@ -1,7 +1,12 @@
 //! Answers questions on a graph of packages, which it reads as lines.
 //!
-//! What it does is `guppy_program`'s `run_process`; here stand the standard streams.
+//! What it does is `guppy_program`'s `run_process`; here stand the standard streams, and tests of its public calls.
 #![tactic(auto)]
+
+#[cfg(test)]
+mod devices;
+#[cfg(test)]
+mod runs;
 
 use guppy_program::{IoSink, IoSource, Lines, arguments, run_process};
 use std::process::ExitCode;
