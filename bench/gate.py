@@ -10,6 +10,7 @@ its must-fail edits, in processor seconds at one job.
     bench/gate.py --bugs guppy_core     the same, with each bug by itself of the lists in bugs/ and of shared edits
     bench/gate.py --cuts [guppy_core]   each crate proved with nothing but what its edits set aside, over the libraries in out/
     bench/gate.py --apply    tries nothing: tells what of the edits and of the lists in bugs/ no longer fits the sources
+    bench/gate.py --aside guppy_data records texts/path    prints the pairs that set these modules of a crate aside
 
 It calls the functions of `rt` (which has to be on the path) that the gate calls, one after the other, so the
 sum is the gate's, but for the runs of the program and the tests. Without --edits, --bugs and --cuts it proves
@@ -26,6 +27,7 @@ import glob
 import importlib.machinery
 import importlib.util
 import os
+import re
 import resource
 import shutil
 import sys
@@ -187,6 +189,70 @@ def bugs_that_miss():
     return missing
 
 
+class Aside:
+    """What sets modules of a crate aside, as pairs by file. Modules are named by their path, as texts/path."""
+
+    def __init__(self, crate, modules, files):
+        self.folder, self.crate, self.modules, self.pairs = f"{TOP}/crates/{crate}", crate, modules, {}
+        self.gone, self.texts = set(files), {}
+
+    def text(self, path):
+        if path not in self.texts:
+            with open(f"{self.folder}/{path}", encoding="utf-8") as it:
+                self.texts[path] = it.read()
+        return self.texts[path]
+
+    def files(self, part):
+        return sorted(os.path.relpath(it, self.folder) for it in glob.glob(f"{self.folder}/{part}/**/*.*t", recursive=True))
+
+    def add(self, path, old, new):
+        if self.text(path).count(old) != 1:
+            sys.exit(f"gate.py: {path} has {self.text(path).count(old)} times {old}")
+        self.pairs.setdefault(path, []).append((old, new))
+
+    def is_inside(self, path):
+        return any(path.startswith((f"src/{it}.rt", f"src/{it}/", f"proofs/{it}/")) for it in self.modules)
+
+    def names_what_is_gone(self, line):
+        """Whether a line names a type or a contract of these modules, or a file that goes."""
+        below = [f"{part}.{it}" for it in self.modules for part in ("specs.declared", "specs.contracts", "proofs")]
+        below = [it.replace("/", ".") for it in [*below, *(it.removesuffix(".antt") for it in self.gone)]]
+        named = re.findall(rf"Rattle\.{self.crate}\.([\w.+]+)", line)
+        return any(f"{name}.".startswith(f"{it}.") for name in named for it in below)
+
+    def take_modules(self):
+        for module in self.modules:
+            parent, _, name = module.rpartition("/")
+            path = f"src/{parent or 'lib'}.rt"
+            for line in re.findall(rf"^(?:pub(?:\(\w+\))? )?mod {name};$", self.text(path), re.M):
+                self.add(path, line, f"#[cfg(test)] {line}")
+
+    def take_files(self):
+        """Each file that names what is gone is gone, too, until no more are found."""
+        left = {it for part in ("specs", "proofs") for it in self.files(part) if not self.is_inside(it)} - self.gone
+        while found := {it for it in left if self.names_what_is_gone(self.text(it))}:
+            left, self.gone = left - found, self.gone | found
+
+    def comment(self, path):
+        """Turns a file into a comment, from its first line that is none to its last."""
+        lines = [it for it in self.text(path).split("\n") if it and not it.startswith("--")]
+        self.add(path, lines[0], f"{{- {lines[0]}")
+        self.add(path, lines[-1], "-}")
+
+    def print(self):
+        self.take_modules()
+        self.take_files()
+        for path in sorted(self.gone):
+            self.comment(path)
+        for path, pairs in self.pairs.items():
+            print(f"file: {path}", *(f"old: {old}\nnew: {new}" for old, new in pairs), sep="\n")
+        uses = "|".join(it.replace("/", "::") for it in self.modules)
+        for path in self.files("src"):
+            for line in [] if self.is_inside(path) else self.text(path).split("\n"):
+                if self.names_what_is_gone(line) or re.search(rf"\buse (crate::)?({uses})\b", line):
+                    print(f"{path} still has: {line.strip()}", file=sys.stderr)
+
+
 def measure_edits(rt, crate, kept, each_bug=False):
     edits = rt.edits_of(crate)[0]
     kept = kept if each_bug or len(edits) > 1 else None
@@ -258,6 +324,9 @@ def measure(rt, crate, parts):
 def main(words):
     if words == ["--apply"]:
         sys.exit(1 if bugs_that_miss() else 0)
+    if words[:1] == ["--aside"] and len(words) > 2:
+        files = [it[1:] for it in words[2:] if it.startswith("+")]
+        return Aside(words[1], [it for it in words[2:] if not it.startswith("+")], files).print()
     parts = words.pop(0) if words and words[0] in ("--proofs", "--functions", *EDITS_ALONE) else ""
     names, edits_alone = words, parts in EDITS_ALONE
     rt = load_rt()
