@@ -1,10 +1,22 @@
-//! Each caller of the pages CALLING.md, in the workspace of `reading`.
+//! Callers of the libraries, each of which its library's page `CALLING.md` shows, called in the workspace of `reading`:
+//!
+//! - `graph`: of `guppy`;
+//! - `metadata`: of `guppy_metadata`;
+//! - `publish`: of `guppy_publish`;
+//! - `affected`: of `guppy_affected`;
+//! - `platform`: of `guppy_target`.
 
+mod affected;
+mod graph;
+mod metadata;
+pub mod platform;
+mod publish;
+
+use crate::callers::affected::members_to_test;
+use crate::callers::graph::packages_to_vendor;
+use crate::callers::metadata::load;
+use crate::callers::publish::first_to_publish;
 use crate::reading::METADATA;
-use guppy_callers::affected::members_to_test;
-use guppy_callers::graph::packages_to_vendor;
-use guppy_callers::metadata::load;
-use guppy_callers::publish::first_to_publish;
 
 const APP: &str = "path+file:///w/app#0.3.1-pre.1";
 

@@ -1,5 +1,5 @@
-//! Tests of `guppy_metadata` and `guppy_target` through their public calls alone, each caller of `guppy_callers` once, and
-//! `sections_on` of `guppy_extras`, for which a graph is read.
+//! Tests of `guppy_metadata` and `guppy_target` through their public calls alone, the callers of the pages CALLING.md, each
+//! called once, and `sections_on` of `guppy_extras`, for which a graph is read.
 #![tactic(auto)]
 
 #[cfg(test)]

@@ -1,7 +1,7 @@
 //! `guppy_target`. What Cargo reads as the platforms of a dependency, and whether it takes the dependency in on Linux, was
 //! asked of Cargo 1.95. The lines are those that `rustc --print cfg` prints there.
+use crate::callers::platform::enabled_on;
 use guppy::platform::{EnabledTernary, PlatformStatus, PlatformStatusImpl, TargetEval, TargetSpec};
-use guppy_callers::platform::enabled_on;
 use guppy_target::{CfgEval, Platform, PlatformFault, are_settings};
 use std::alloc::Global;
 use std::process::Abort;

@@ -1,7 +1,7 @@
 use Rattle.std.proofs.Common.{◌∙◌, sym, ap, subst}
 use Rattle.std.specs.Prelude.{slice_get}
-use Rattle.guppy_callers.proofs.First.{IsFirst, first_of}
-use Rattle.guppy_callers.proofs.publish.first_to_publish.Goals as goal
+use Rattle.guppy_metadata_tests.proofs.First.{IsFirst, first_of}
+use Rattle.guppy_metadata_tests.proofs.callers.publish.first_to_publish.Goals as goal
 
 pub returns-clause-first : goal.returns-clause-first
 returns-clause-first c =

@@ -1,7 +1,7 @@
 use Rattle.std.proofs.Common.{◌∙◌, sym, ap}
 use Rattle.guppy.specs.Graph.{GraphData}
 use Rattle.guppy.specs.Ids.{ids_of}
-use Rattle.guppy_callers.proofs.graph.packages_to_vendor.Goals as goal
+use Rattle.guppy_metadata_tests.proofs.callers.graph.packages_to_vendor.Goals as goal
 
 pub difference-requires : goal.difference-requires
 difference-requires c = record { same_packages = ap (λ (g : GraphData). ids_of g.packages) (c.in_ok-needed.ensures.graph ∙ c.in_ok-query.ensures.graph ∙ sym c.in_ok-members.ensures.graph) }
