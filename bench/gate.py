@@ -236,6 +236,8 @@ class Aside:
     def comment(self, path):
         """Turns a file into a comment, from its first line that is none to its last."""
         lines = [it for it in self.text(path).split("\n") if it and not it.startswith("--")]
+        if any(self.text(path).count(it) != 1 for it in (lines[0], lines[-1])):
+            return print(f"{path}: make it a comment by hand: its first or last line stands there twice", file=sys.stderr)
         self.add(path, lines[0], f"{{- {lines[0]}")
         self.add(path, lines[-1], "-}")
 
