@@ -1,6 +1,6 @@
 //! Answers questions on a graph of packages, which it reads as lines.
 //!
-//! What it does is `guppy_program`'s `run_process`; here stand the standard streams, and tests of its public calls.
+//! What it does is `guppy_program`'s `run_process`; here stand the standard streams, and tests of that crate's calls.
 #![tactic(auto)]
 
 #[cfg(test)]
