@@ -14,6 +14,7 @@ use Rattle.guppy_arguments.specs.declared.fault.CargoFault.{CargoFault}
 use Rattle.guppy_arguments.specs.declared.fault.CargoFault.TheVariants.{Metadata, NoText}
 use Rattle.guppy_arguments.specs.Command.{asked_of}
 use Rattle.guppy_arguments.specs.Names.{text, meant}
+use Rattle.guppy_cargo.specs.Unknown.{TellsUnknown}
 
 -- the input is JSON that says these records, without details
 abbrev pub SaysRecords : List ℕ → List PackageRecord → List LinkRecord → WorkspaceRecord → Type 0
@@ -42,4 +43,5 @@ json_format = record {
   asks = asked_of;
   text = text;
   meant = meant;
+  tells_unknown = TellsUnknown;
 }

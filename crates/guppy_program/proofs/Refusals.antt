@@ -31,8 +31,8 @@ one_clear meant word clear (suc k) d within = absurd (omega arith)
 module _ {Fault : Type 0} (format : Format Fault) where
   module _ (packages : List PackageRecord) (words before after : List (List ℕ)) (word : List ℕ) (place : words ≡ before ++ word ∷ after) (known : All (IsClear (format.meant packages)) before) where
     -- a word that isn't clear, behind clear ones, is the first of them
-    pub unclear_word : (cause : Cause) → IsUnclear format packages word cause → IsWordFault format packages words cause
-    unclear_word (library (UnknownPackageId id)) is = (
+    pub unclear_word : (fault : Fault) (cause : Cause) → IsUnclear format packages word fault cause → IsWordFault format packages words fault cause
+    unclear_word fault (library (UnknownPackageId id)) is = (
       record {
         before = before;
         after = after;
@@ -41,16 +41,17 @@ module _ {Fault : Type 0} (format : Format Fault) where
         unknown = λ clear. let one = sym (subst (λ w. format.meant packages w ≡ []) (sym is.0) is.1) ∙ clear.1 in absurd (cc);
       },
       subst (λ w. format.meant packages w ≡ []) (sym is.0) is.1,
+      subst (λ w. format.tells_unknown packages w fault) (sym is.0) is.2,
     )
-    unclear_word (library (PackageGraphConstructError f)) is = absurd is
-    unclear_word (library (UnknownFeatureId id feature)) is = absurd is
-    unclear_word (library (UnknownWorkspacePath path)) is = absurd is
-    unclear_word (library (UnknownWorkspaceName name)) is = absurd is
-    unclear_word (library (PackageGraphInternalError f)) is = absurd is
-    unclear_word (library (FeatureGraphInternalError text)) is = absurd is
-    unclear_word (library OutOfMemory) is = tt
-    unclear_word bad_arguments is = absurd is
-    unclear_word (ambiguous given choices) is = rw is.0 (
+    unclear_word fault (library (PackageGraphConstructError f)) is = absurd is
+    unclear_word fault (library (UnknownFeatureId id feature)) is = absurd is
+    unclear_word fault (library (UnknownWorkspacePath path)) is = absurd is
+    unclear_word fault (library (UnknownWorkspaceName name)) is = absurd is
+    unclear_word fault (library (PackageGraphInternalError f)) is = absurd is
+    unclear_word fault (library (FeatureGraphInternalError text)) is = absurd is
+    unclear_word fault (library OutOfMemory) is = tt
+    unclear_word fault bad_arguments is = absurd is
+    unclear_word fault (ambiguous given choices) is = rw is.0 (
       record {
         before = before;
         after = after;
@@ -61,27 +62,27 @@ module _ {Fault : Type 0} (format : Format Fault) where
       is.1,
       is.2,
     )
-    unclear_word (no_walk from to) is = absurd is
-    unclear_word bad_input is = absurd is
-    unclear_word input_failed is = absurd is
-    unclear_word output_failed is = absurd is
+    unclear_word fault (no_walk from to) is = absurd is
+    unclear_word fault bad_input is = absurd is
+    unclear_word fault input_failed is = absurd is
+    unclear_word fault output_failed is = absurd is
 
   -- a word that is at fault is one of the command's
-  pub command_word : (command : Command) (g : GraphData) (cause : Cause) → IsWordFault format g.packages (words_of command) cause → IsCommandFault format command g cause
-  command_word command g (library (UnknownPackageId id)) is = is
-  command_word command g (library (PackageGraphConstructError f)) is = is
-  command_word command g (library (UnknownFeatureId id feature)) is = is
-  command_word command g (library (UnknownWorkspacePath path)) is = is
-  command_word command g (library (UnknownWorkspaceName name)) is = is
-  command_word command g (library (PackageGraphInternalError f)) is = absurd is
-  command_word command g (library (FeatureGraphInternalError text)) is = is
-  command_word command g (library OutOfMemory) is = is
-  command_word command g bad_arguments is = is
-  command_word command g (ambiguous given choices) is = is
-  command_word command g (no_walk from to) is = absurd is
-  command_word command g bad_input is = is
-  command_word command g input_failed is = is
-  command_word command g output_failed is = is
+  pub command_word : (command : Command) (g : GraphData) (fault : Fault) (cause : Cause) → IsWordFault format g.packages (words_of command) fault cause → IsCommandFault format command g fault cause
+  command_word command g fault (library (UnknownPackageId id)) is = is
+  command_word command g fault (library (PackageGraphConstructError f)) is = is
+  command_word command g fault (library (UnknownFeatureId id feature)) is = is
+  command_word command g fault (library (UnknownWorkspacePath path)) is = is
+  command_word command g fault (library (UnknownWorkspaceName name)) is = is
+  command_word command g fault (library (PackageGraphInternalError f)) is = absurd is
+  command_word command g fault (library (FeatureGraphInternalError text)) is = is
+  command_word command g fault (library OutOfMemory) is = is
+  command_word command g fault bad_arguments is = is
+  command_word command g fault (ambiguous given choices) is = is
+  command_word command g fault (no_walk from to) is = absurd is
+  command_word command g fault bad_input is = is
+  command_word command g fault input_failed is = is
+  command_word command g fault output_failed is = is
 
 pub passed_ok : {T E F : Type 0} (given : Result T E) (result : Result T F) (P : T → Type 0) → IfOk given P → IfOk result (λ x. given ≡ Ok x) → IfOk result P
 passed_ok given (Ok x) P is passed = subst (λ r. IfOk r P) passed is
@@ -93,6 +94,6 @@ told_memory given cause P only (error, is, told) memory =
     let wanted : error ≡ OutOfMemory = subst (λ r. IsOkUnless r OutOfMemory) is only in
     subst P (sym (told ∙ ap library wanted)) memory
 
-pub passed_memory : {T F : Type 0} (given : Result T Error) (result : Result T F) (cause : F → Cause) (P : Cause → Type 0) → IsOkUnless given OutOfMemory → IfErr result (λ fault. (error : Error) × (given ≡ Err error) × (cause fault ≡ library error)) → P (library OutOfMemory) → IfErr result (λ fault. P (cause fault))
+pub passed_memory : {T F : Type 0} (given : Result T Error) (result : Result T F) (cause : F → Cause) (P : F → Cause → Type 0) → IsOkUnless given OutOfMemory → IfErr result (λ fault. (error : Error) × (given ≡ Err error) × (cause fault ≡ library error)) → ((fault : F) → P fault (library OutOfMemory)) → IfErr result (λ fault. P fault (cause fault))
 passed_memory given (Ok x) cause P only passed memory = tt
-passed_memory given (Err fault) cause P only passed memory = told_memory given (cause fault) P only passed memory
+passed_memory given (Err fault) cause P only passed memory = told_memory given (cause fault) (P fault) only passed (memory fault)

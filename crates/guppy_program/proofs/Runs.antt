@@ -35,7 +35,7 @@ module _ {Fault : Type 0} (format : Format Fault) where
       subst (λ packages. DistinctBelow packages (length packages)) (sym loaded.holds.1.packages_are) (loaded.holds.0 distinct_ids)
 
   -- a refusal of the command is a fault of the command on the input
-  pub command_fault : (asked : Asked) (input : List ℕ) (g : GraphData) → IsLoaded format asked.options.kinds asked.platforms input g → (fault : Fault) (cause : Cause) → IsCommandFault format asked.command g cause → IsFaultOf format asked input fault cause
+  pub command_fault : (asked : Asked) (input : List ℕ) (g : GraphData) → IsLoaded format asked.options.kinds asked.platforms input g → (fault : Fault) (cause : Cause) → IsCommandFault format asked.command g fault cause → IsFaultOf format asked input fault cause
   command_fault asked input g loaded fault (library error) is = OrMemory-holds error (inr (g, loaded, is))
   command_fault asked input g loaded fault bad_arguments is = absurd is
   command_fault asked input g loaded fault (ambiguous word choices) is = (g, loaded, is)

@@ -1,5 +1,5 @@
 -- What a command answers of a package graph, when it is refused, and what is shown of the answer.
-use Rattle.std.specs.Prelude.{◌≡◌, ◌↔◌, ◌<◌, ℕ, Bool, true, IsTrue, Option, Some, None, List, [], ◌∷◌, length, map, take, drop, slice_get, replicate, All, Contains, codes, ◌&&◌, is_some, if◌then◌else◌}
+use Rattle.std.specs.Prelude.{◌≡◌, ◌↔◌, ◌<◌, ℕ, Bool, true, IsTrue, Option, Some, None, List, [], ◌∷◌, length, map, slice_get, replicate, All, Contains, ◌&&◌, is_some, if◌then◌else◌}
 use Rattle.std.specs.List.{AllZip, concat, filter, list_all, list_any}
 use Rattle.std.specs.Str.{bytes_eq}
 use Rattle.guppy_search.specs.declared.ix.direction.DependencyDirection.{DependencyDirection}
@@ -216,18 +216,19 @@ words_of _ = []
 abbrev pub IsClear : (List ℕ → List (List ℕ)) → List ℕ → Type 0
 IsClear meant word = (id : List ℕ) × Means meant word id
 
--- the first of the words that doesn't mean one package means none, or may mean several, whose
--- texts are told, or memory ran out
-abbrev pub IsWordFault : {Fault : Type 0} → Format Fault → List PackageRecord → List (List ℕ) → Cause
-    → Type 0
-IsWordFault format packages words (library (UnknownPackageId word)) =
-    IsFirstNot (IsClear (format.meant packages)) words word × (format.meant packages word ≡ [])
-IsWordFault format packages words (ambiguous word choices) =
+-- the first of the words that doesn't mean one package means none, of which the fault tells, or may mean
+-- several, whose texts are told, or memory ran out
+abbrev pub IsWordFault : {Fault : Type 0} → Format Fault → List PackageRecord → List (List ℕ) → Fault
+    → Cause → Type 0
+IsWordFault format packages words fault (library (UnknownPackageId word)) =
+    IsFirstNot (IsClear (format.meant packages)) words word
+    × (format.meant packages word ≡ []) × format.tells_unknown packages word fault
+IsWordFault format packages words fault (ambiguous word choices) =
     IsFirstNot (IsClear (format.meant packages)) words word
     × (1 < length (format.meant packages word))
     × (choices ≡ alternatives (map (format.text packages) (format.meant packages word)))
-IsWordFault format packages words (library OutOfMemory) = Unit {0}
-IsWordFault format packages words _ = ⊥
+IsWordFault format packages words fault (library OutOfMemory) = Unit {0}
+IsWordFault format packages words fault _ = ⊥
 
 -- the fault is one that `verify` may tell of the graph, and the command asks for it
 abbrev pub IsVerifyFault : Command → GraphData → VerifyFault → Type 0
@@ -250,12 +251,14 @@ IsWalkFault meant (why from to) g start end =
 IsWalkFault meant _ g start end = ⊥
 
 -- the command is refused so, of this graph, or memory ran out
-abbrev pub IsCommandFault : {Fault : Type 0} → Format Fault → Command → GraphData → Cause → Type 0
-IsCommandFault format command g (library (PackageGraphInternalError fault)) =
-    IsVerifyFault command g fault
-IsCommandFault format command g (no_walk from to) =
+abbrev pub IsCommandFault : {Fault : Type 0} → Format Fault → Command → GraphData → Fault → Cause
+    → Type 0
+IsCommandFault format command g fault (library (PackageGraphInternalError found)) =
+    IsVerifyFault command g found
+IsCommandFault format command g fault (no_walk from to) =
     IsWalkFault (format.meant g.packages) command g from to
-IsCommandFault format command g cause = IsWordFault format g.packages (words_of command) cause
+IsCommandFault format command g fault cause =
+    IsWordFault format g.packages (words_of command) fault cause
 
 -- a member of the workspace has the ID
 abbrev pub is_member : List PackageRecord → List ℕ → Bool

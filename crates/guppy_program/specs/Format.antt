@@ -19,6 +19,8 @@ pub record Format (Fault : Type 0) : Type 1 where
   pub text : List PackageRecord → List ℕ → List ℕ
   -- the IDs of those of the packages that a word may mean
   pub meant : List PackageRecord → List ℕ → List (List ℕ)
+  -- what the fault tells of a word that means none of the packages
+  pub tells_unknown : List PackageRecord → List ℕ → Fault → Type 0
 
 -- the input says no records, and the fault tells why, or memory ran out
 abbrev pub IsReadingFault : {Fault : Type 0} → Format Fault → List ℕ → Fault → Cause → Type 0
@@ -30,12 +32,13 @@ IsReadingFault format input fault _ = ⊥
 abbrev pub alternatives : List (List ℕ) → List ℕ
 alternatives texts = join_by (λ text. text) (codes " or ") texts
 
--- the word means no package, or it may mean several, whose texts are told, or memory ran out
-abbrev pub IsUnclear : {Fault : Type 0} → Format Fault → List PackageRecord → List ℕ → Cause → Type 0
-IsUnclear format packages word (library (UnknownPackageId id)) =
-    (id ≡ word) × (format.meant packages word ≡ [])
-IsUnclear format packages word (ambiguous given choices) = (given ≡ word)
+-- the word means no package, of which the fault tells, or it may mean several, whose texts are told, or
+-- memory ran out
+abbrev pub IsUnclear : {Fault : Type 0} → Format Fault → List PackageRecord → List ℕ → Fault → Cause → Type 0
+IsUnclear format packages word fault (library (UnknownPackageId id)) = (id ≡ word)
+    × (format.meant packages word ≡ []) × format.tells_unknown packages word fault
+IsUnclear format packages word fault (ambiguous given choices) = (given ≡ word)
     × (1 < length (format.meant packages word))
     × (choices ≡ alternatives (map (format.text packages) (format.meant packages word)))
-IsUnclear format packages word (library OutOfMemory) = Unit {0}
-IsUnclear format packages word _ = ⊥
+IsUnclear format packages word fault (library OutOfMemory) = Unit {0}
+IsUnclear format packages word fault _ = ⊥

@@ -1,10 +1,11 @@
 -- The lines of an input, as `guppy-run` reads them.
-use Rattle.std.specs.Prelude.{ℕ, List, [], ◌∷◌, if◌then◌else◌}
+use Rattle.std.specs.Prelude.{◌≡◌, ℕ, List, [], ◌∷◌, if◌then◌else◌}
 use Rattle.guppy_data.specs.declared.records.PackageRecord.{PackageRecord}
 use Rattle.guppy_data.specs.declared.records.LinkRecord.{LinkRecord}
 use Rattle.guppy_data.specs.declared.records.WorkspaceRecord.{WorkspaceRecord}
 use Rattle.guppy_command.specs.declared.lines.fault.RunFault.{RunFault}
-use Rattle.guppy_command.specs.declared.lines.fault.RunFault.TheVariants.{BadLine}
+use Rattle.guppy_data.specs.declared.texts.error.Error.TheVariants.{UnknownPackageId}
+use Rattle.guppy_command.specs.declared.lines.fault.RunFault.TheVariants.{BadLine, Library}
 use Rattle.guppy_command.specs.Command.{asked_by, command_of}
 use Rattle.guppy_command.specs.Ids.{has_id}
 use Rattle.guppy_program.specs.Format.{Format}
@@ -34,4 +35,5 @@ lines_format = record {
   asks = asked_by command_of;
   text = λ packages id. id;
   meant = meant_by_id;
+  tells_unknown = λ packages word fault. fault ≡ Library (UnknownPackageId word);
 }

@@ -25,20 +25,21 @@ IsAnswerTo format asked input output = (g : GraphData)
     × IsLoaded format asked.options.kinds asked.platforms input g × IsAnswerOf format asked g output
 
 -- the command is refused so, of this graph
-abbrev pub IsRefusedOf : {Fault : Type 0} → Format Fault → Asked → List ℕ → Cause → Type 0
-IsRefusedOf format asked input cause = (g : GraphData)
-    × IsLoaded format asked.options.kinds asked.platforms input g × IsCommandFault format asked.command g cause
+abbrev pub IsRefusedOf : {Fault : Type 0} → Format Fault → Asked → List ℕ → Fault → Cause → Type 0
+IsRefusedOf format asked input fault cause = (g : GraphData)
+    × IsLoaded format asked.options.kinds asked.platforms input g
+    × IsCommandFault format asked.command g fault cause
 
 -- the fault, with this cause, is one of the input, or of the command on this graph
 abbrev pub IsFaultOf : {Fault : Type 0} → Format Fault → Asked → List ℕ → Fault → Cause → Type 0
 IsFaultOf format asked input fault bad_input = format.refuses input fault
 IsFaultOf format asked input fault (library error) =
     OrMemory (AreRefused format asked.options.kinds asked.platforms input error
-    ⊎ IsRefusedOf format asked input (library error)) error
+    ⊎ IsRefusedOf format asked input fault (library error)) error
 IsFaultOf format asked input fault (ambiguous word texts) =
-    IsRefusedOf format asked input (ambiguous word texts)
+    IsRefusedOf format asked input fault (ambiguous word texts)
 IsFaultOf format asked input fault (no_walk from to) =
-    IsRefusedOf format asked input (no_walk from to)
+    IsRefusedOf format asked input fault (no_walk from to)
 IsFaultOf format asked input fault _ = ⊥
 
 -- the source has come to its end, and P holds of what was read, which is all that it had where that

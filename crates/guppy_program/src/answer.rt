@@ -68,7 +68,7 @@ fn all_meant<F: Format>(
         (map string_bytes words.now) ids.items) }
     ensures known { IfOk result (λ ids. All (IsKnown graph.now.packages) ids.items) }
     ensures err { IfErr result (λ fault. IsWordFault F.format graph.now.packages
-        (map string_bytes words.now) (F.Fault.cause fault)) }
+        (map string_bytes words.now) fault (F.Fault.cause fault)) }
 {
     let mut ids = Vec::new(alloc);
     for word in words {
@@ -123,7 +123,7 @@ fn reach<'g, F: Format>(
     ensures ok { IfOk result (λ answer. IsReachAnswer direction graph.now
         (F.format.meant graph.now.packages) (map string_bytes words.now) (answer_shown answer)) }
     ensures err { IfErr result (λ fault. IsWordFault F.format graph.now.packages
-        (map string_bytes words.now) (F.Fault.cause fault)) }
+        (map string_bytes words.now) fault (F.Fault.cause fault)) }
 {
     let ids = all_meant::<F>(alloc, graph, names, words)?;
     passed_on(reach_from(alloc, graph, direction, &ids))
@@ -155,7 +155,7 @@ fn depends<'g, F: Format>(
     ensures ok { IfOk result (λ answer. IsDependsAnswer graph.now
         (F.format.meant graph.now.packages) from.now to.now (answer_shown answer)) }
     ensures err { IfErr result (λ fault. IsWordFault F.format graph.now.packages
-        (from.now ∷ to.now ∷ []) (F.Fault.cause fault)) }
+        (from.now ∷ to.now ∷ []) fault (F.Fault.cause fault)) }
 {
     let from = F::find(alloc, graph, names, from)?;
     let to = F::find(alloc, graph, names, to)?;
@@ -256,7 +256,7 @@ fn dot<'g, F: Format>(
     ensures ok { IfOk result (λ answer. IsDotAnswer graph.now
         (F.format.meant graph.now.packages) (map string_bytes words.now) (answer_shown answer)) }
     ensures err { IfErr result (λ fault. IsWordFault F.format graph.now.packages
-        (map string_bytes words.now) (F.Fault.cause fault)) }
+        (map string_bytes words.now) fault (F.Fault.cause fault)) }
 {
     let ids = all_meant::<F>(alloc, graph, names, words)?;
     let drawing = passed_on(drawing_of(alloc, graph, &ids))?;
@@ -295,7 +295,7 @@ pub fn answer_of<'g, F: Format>(
     ensures ok { IfOk result (λ answer. IsAnswer (F.format.meant graph.now.packages)
         (command_shown command.now) graph.now (answer_shown answer)) }
     ensures err { IfErr result (λ fault. IsCommandFault F.format (command_shown command.now)
-        graph.now (F.Fault.cause fault)) }
+        graph.now fault (F.Fault.cause fault)) }
 {
     match command {
         Command::Reach(direction, words) => { reach::<F>(alloc, graph, names, *direction, words) }

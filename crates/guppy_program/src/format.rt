@@ -20,7 +20,7 @@ pub trait Format {
     type Names: Drop;
 
     /// Which records an input says, or with which fault it is refused; what arguments ask; which text is
-    /// printed for a package, and which packages a word may mean.
+    /// printed for a package, which packages a word may mean, and what is told of one that means none.
     ghost format: { FormatOf Self.Fault };
 
     /// The names are those of these packages.
@@ -58,7 +58,7 @@ pub trait Format {
         ensures found { IfOk result (λ id. format.meant graph.now.packages word.now ≡ id ∷ []) }
         ensures known { IfOk result (IsKnown graph.now.packages) }
         ensures unclear { IfErr result (λ fault.
-            IsUnclear format graph.now.packages word.now (Self.Fault.cause fault)) };
+            IsUnclear format graph.now.packages word.now fault (Self.Fault.cause fault)) };
 }
 
 /// Whether one of the graph's packages has the ID. Time grows with the logarithm of the packages; takes memory

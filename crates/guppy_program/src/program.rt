@@ -76,7 +76,7 @@ fn answer_text<F: Format>(
     ensures ok { IfOk result (λ text. IsAnswerOf F.format (asked_shown asked.now) graph.now
         (string_bytes text)) }
     ensures err { IfErr result (λ fault. IsCommandFault F.format (asked_shown asked.now).command
-        graph.now (F.Fault.cause fault)) }
+        graph.now fault (F.Fault.cause fault)) }
 {
     let answer = answer_of::<F>(alloc, graph, names, &asked.command)?;
     let answer = passed_on(shown(graph, asked.options, answer))?;

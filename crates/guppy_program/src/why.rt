@@ -112,7 +112,7 @@ pub(crate) fn why<'g, F: Format>(
     ensures ok { IfOk result (λ answer. IsWhyAnswer graph.now (F.format.meant graph.now.packages)
         from.now to.now (answer_shown answer)) }
     ensures err { IfErr result (λ fault. IsCommandFault F.format (why from.now to.now) graph.now
-        (F.Fault.cause fault)) }
+        fault (F.Fault.cause fault)) }
 {
     let start = F::find(alloc, graph, names, from)?;
     let end = F::find(alloc, graph, names, to)?;

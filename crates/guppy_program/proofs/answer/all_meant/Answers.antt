@@ -17,7 +17,7 @@ returns-in_err-id-clause-err g c =
     let unclear = rw c.as_str.ensures.value at c.in_err-id.ensures.unclear in
     rw (passed_on.1, passed_on.2) (unclear_word g.F.Format.format packages (map string_bytes words) (map string_bytes (take k words)) (map string_bytes (drop (k + 1) words)) (string_bytes word)
     (cut_at string_bytes words k word word c.loop-word-test.true c.word-item.is)
-    (all_clear (g.F.Format.format.meant packages) (map string_bytes (take k words)) c.loop-word.ids.items c.loop-word.invariant.named) _ unclear)
+    (all_clear (g.F.Format.format.meant packages) (map string_bytes (take k words)) c.loop-word.ids.items c.loop-word.invariant.named) _ _ unclear)
 
 pub loop-word-preserved : goal.loop-word-preserved
 loop-word-preserved g c =

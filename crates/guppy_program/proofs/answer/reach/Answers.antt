@@ -21,4 +21,4 @@ returns-in_err-ids-clause-err g c =
 pub returns-clause-err : goal.returns-clause-err
 returns-clause-err g c = passed_memory c.reach_from.result c.passed_on.result _
     (IsWordFault g.F.Format.format c.args.graph.now.packages (map string_bytes c.args.words.now))
-    c.reach_from.ensures.err c.passed_on.ensures.err tt
+    c.reach_from.ensures.err c.passed_on.ensures.err (λ fault. tt)

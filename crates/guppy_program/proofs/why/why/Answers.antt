@@ -12,8 +12,8 @@ returns-in_err-end-clause-err g c =
     let packages = c.args.graph.now.packages in
     let from = c.args.from.now in
     let to = c.args.to.now in
-    rw (passed_on.1, passed_on.2) (command_word format (why from to) c.args.graph.now _ (unclear_word format packages (from ∷ to ∷ []) (from ∷ []) [] to refl
-    (one_clear (format.meant packages) from (c.in_ok-start.start, c.in_ok-start.ensures.found)) _ c.in_err-end.ensures.unclear))
+    rw (passed_on.1, passed_on.2) (command_word format (why from to) c.args.graph.now _ _ (unclear_word format packages (from ∷ to ∷ []) (from ∷ []) [] to refl
+    (one_clear (format.meant packages) from (c.in_ok-start.start, c.in_ok-start.ensures.found)) _ _ c.in_err-end.ensures.unclear))
 
 pub returns-in_err-start-clause-err : goal.returns-in_err-start-clause-err
 returns-in_err-start-clause-err g c =
@@ -22,19 +22,19 @@ returns-in_err-start-clause-err g c =
     let packages = c.args.graph.now.packages in
     let from = c.args.from.now in
     let to = c.args.to.now in
-    rw (passed_on.1, passed_on.2) (command_word format (why from to) c.args.graph.now _ (unclear_word format packages (from ∷ to ∷ []) [] (to ∷ []) from refl
-    (none_clear (format.meant packages)) _ c.in_err-start.ensures.unclear))
+    rw (passed_on.1, passed_on.2) (command_word format (why from to) c.args.graph.now _ _ (unclear_word format packages (from ∷ to ∷ []) [] (to ∷ []) from refl
+    (none_clear (format.meant packages)) _ _ c.in_err-start.ensures.unclear))
 
 pub returns-in_err-steps-clause-err : goal.returns-in_err-steps-clause-err
 returns-in_err-steps-clause-err g c =
     let passed_on = err_from_is_err_and c.from_residual-in_err-steps.result c.from_residual-in_err-steps.ensures.1 in
     rw (passed_on.1, passed_on.2) (told_memory c.shortest_steps.result _
-    (IsCommandFault g.F.Format.format (why c.args.from.now c.args.to.now) c.args.graph.now)
+    (IsCommandFault g.F.Format.format (why c.args.from.now c.args.to.now) c.args.graph.now _)
     c.shortest_steps.ensures.err c.in_err-steps.ensures.err tt)
 
 pub returns-clause-err : goal.returns-clause-err
 returns-clause-err g c =
-    let P = IsCommandFault g.F.Format.format (why c.args.from.now c.args.to.now) c.args.graph.now in
+    let P = IsCommandFault g.F.Format.format (why c.args.from.now c.args.to.now) c.args.graph.now c.no_walk.result in
     let apart = rw c.in-None.is at (rw c.in_ok-steps.ensures.ok at c.shortest_steps.ensures.none) in
     ⊎_elim
     (λ told. subst P (sym told) (
