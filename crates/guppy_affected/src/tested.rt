@@ -4,20 +4,9 @@ ghost use Rattle.guppy.specs.IxSet.{IsIn};
 ghost use Rattle.guppy_affected.specs.Tested.{AreBuiltFrom, AreWithDependents, AreTestedWith};
 
 use guppy::graph::DependencyDirection;
-use guppy::positions::{GraphSpec, IxSet, PackageIx};
-use guppy::{Error, PackageQuery, PackageSet};
+use guppy::positions::IxSet;
+use guppy::{Error, PackageQuery, PackageSet, Packages};
 use std::alloc::AllocError;
-
-// Positions of packages, for sets of these. `guppy::Packages` would have the drops of all records proved here again.
-struct Places;
-
-impl GraphSpec for Places {
-    type Node = ();
-
-    type Edge = ();
-
-    type Ix = PackageIx;
-}
 
 // The packages from which links that aren't dev-only lead into the set, and those of the set.
 fn built_from<'g>(set: &PackageSet<'g>) -> Result<PackageSet<'g>, Error>
@@ -30,7 +19,7 @@ fn built_from<'g>(set: &PackageSet<'g>) -> Result<PackageSet<'g>, Error>
 }
 
 // The positions of the packages that the query starts at.
-fn initial_positions(query: &PackageQuery<'_>) -> Result<IxSet<Places>, AllocError>
+fn initial_positions(query: &PackageQuery<'_>) -> Result<IxSet<Packages>, AllocError>
     ensures count { IfOk result (λ positions. length positions ≡ length query.now.graph.packages) }
     ensures members { IfOk result (λ positions. (p : ℕ) →
         IsIn positions p ↔ IsIn query.now.initials p) }

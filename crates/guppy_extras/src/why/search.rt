@@ -7,20 +7,9 @@ ghost use Rattle.guppy_extras.specs.Nodes.{Node, AreKept};
 ghost use Rattle.guppy_extras.specs.Searches.{nodes_of, links_beside, IsUnderWay, IsFollowing, IsPlaceOf};
 
 use guppy::graph::PackageIx;
-use guppy::positions::{GraphSpec, IxSet};
-use guppy::{PackageLink, PackageMetadata};
+use guppy::positions::IxSet;
+use guppy::{PackageLink, PackageMetadata, Packages};
 use std::alloc::AllocError;
-
-// Positions of packages, for a set of these. `guppy::Packages` would have the drops of all records proved here again.
-struct Places;
-
-impl GraphSpec for Places {
-    type Node = ();
-
-    type Edge = ();
-
-    type Ix = PackageIx;
-}
 
 /// A package that was found, with a shortest walk to it.
 #[derive(Clone, Copy)]
@@ -37,7 +26,7 @@ pub(crate) struct Found<'g> {
 pub(crate) struct Search<'g> {
     start: PackageMetadata<'g>,
     found: Vec<Found<'g>>,
-    seen: IxSet<Places>,
+    seen: IxSet<Packages>,
 }
 
 impl<'g> Search<'g> {
