@@ -1,5 +1,5 @@
 //! When a folder holds a path, and the longest of several that does.
-ghost use Rattle.std.specs.Prelude.{◌≡◌, ◌↔◌, IsTrue, [], ◌∷◌, ◌++◌, map, Contains, MatchOption, IfOk};
+ghost use Rattle.std.specs.Prelude.{◌≡◌, ◌↔◌, IsTrue, [], ◌∷◌, ◌++◌, map, Contains, MatchOption, IfOk, OnErr};
 ghost use Rattle.guppy_data.specs.Path.{components};
 ghost use Rattle.guppy_data.specs.Component.{part_shown};
 ghost use Rattle.guppy_data.specs.Utf8Path.{path_text};
@@ -28,20 +28,26 @@ fn parts_of<'a>(alloc: Global, path: Utf8Path<'a>) -> Result<Vec<Component<'a>>,
     path.components().collect(alloc)
 }
 
-/// Adds the folder, as the list of its components, to such lists.
+/// Adds the folder, as the list of its components, to such lists. Where memory runs out they stay as they were.
+///
+/// Takes time linear in the folder's length, and memory for its components and for one more list.
 pub fn add_folder<'a>(
     folders: &mut Vec<Vec<Component<'a>>>,
     alloc: Global,
     folder: Utf8Path<'a>,
 ) -> Result<(), AllocError>
-    ensures { IfOk result (λ _. lists_in folders.new.items
+    ensures added { IfOk result (λ _. lists_in folders.new.items
         ≡ lists_in folders.old.items ++ components (path_text folder.entry) ∷ []) }
+    ensures err { OnErr result (folders.new.items ≡ folders.old.items) }
 {
     folders.push(parts_of(alloc, folder)?)?;
     Ok(())
 }
 
-/// Whether the folder is one of these.
+/// Whether the folder is one of these, or that memory ran out.
+///
+/// Takes memory for the folder's components, and time linear in its length for each of as many folders as the
+/// logarithm of their number.
 pub fn is_one_of<'a>(
     folders: &SortedSet<Vec<Component<'a>>>,
     alloc: Global,

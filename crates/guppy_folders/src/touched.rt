@@ -39,7 +39,10 @@ fn is_of_workspace(path: Utf8Path<'_>) -> bool
 }
 
 /// The longest folders that hold the paths that don't lie in `ignored`, or `None` where one of these is of
-/// the workspace itself, or in none of the folders.
+/// the workspace itself, or in none of the folders; or that memory ran out.
+///
+/// Takes memory for the components of each path. A path is compared with each of `ignored`, and each folder that it lies
+/// in with as many of `folders` as the logarithm of their number.
 pub fn touched_folders<'a>(
     alloc: Global,
     folders: &SortedSet<Vec<Component<'a>>>,

@@ -20,7 +20,7 @@ loop-package-preserved-in-Continue-1 c = λ folder.
     let yielded = c.loop-package.yielded in
     let own = path_text c.in-Some-folder_of.folder in
     let more = with_more (lists_in before) (map package_seen yielded) c.loop-package.invariant (package_seen here) own c.in-Some-folder_of.ensures folder in
-    subst (λ (lists : List (List Part)). Contains lists folder ↔ One (map package_seen (yielded ++ here ∷ [])) (HasFolder folder)) (sym c.in_ok-add_folder.ensures)
+    subst (λ (lists : List (List Part)). Contains lists folder ↔ One (map package_seen (yielded ++ here ∷ [])) (HasFolder folder)) (sym c.in_ok-add_folder.ensures.added)
     (subst (λ (seen : List (Bor GraphData × ℕ)). Contains (lists_in before ++ components own ∷ []) folder ↔ One seen (HasFolder folder)) (sym (map_push package_seen yielded here)) more)
 
 pub loop-package-preserved : goal.loop-package-preserved
