@@ -6,5 +6,5 @@ mod lists;
 mod roots;
 
 pub use cycle::find_cycle;
-pub(crate) use finish::finish_order;
+pub(crate) use finish::{ALL_KEPT, finish_order};
 pub use index::TopoWithCycles;

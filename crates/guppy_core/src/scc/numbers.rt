@@ -5,7 +5,7 @@ ghost use Rattle.guppy_search.specs.Reach.{LinkStep};
 ghost use Rattle.guppy_core.specs.Components.{AreNumbers};
 
 use crate::scc::claim::claim;
-use crate::topo::finish_order;
+use crate::topo::{ALL_KEPT, finish_order};
 use guppy_search::{CountedGraph, GraphSpec, IxSet};
 use std::alloc::AllocError;
 
@@ -37,7 +37,7 @@ pub(crate) fn number_components<G: GraphSpec>(
 {
     let alloc = graph.alloc();
     let limit = graph.node_count();
-    let mut order = finish_order(graph, starts, &[])?;
+    let mut order = finish_order(graph, starts, ALL_KEPT)?;
     order.reverse();
     let mut numbers = vec![in alloc; 0; limit]?;
     let mut seen = IxSet::<G>::empty(alloc, limit)?;

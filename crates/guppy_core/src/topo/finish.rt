@@ -16,6 +16,9 @@ pub(crate) struct Frame {
     pub(crate) next: usize,
 }
 
+/// The notes that say of each link that it is kept.
+pub(crate) const ALL_KEPT: &[bool] = &[];
+
 /// Whether the link with the number is noted as kept. Past the list's end each one is.
 fn is_kept(notes: &[bool], number: usize) -> bool
     ensures { result ≡ note notes.now number }
@@ -28,7 +31,7 @@ fn is_kept(notes: &[bool], number: usize) -> bool
 
 /// The positions that kept links lead to from the starts, in the order in which a depth-first
 /// search finishes them. Looks at each link that leaves one of them once, and at no other. The notes
-/// say which links are kept; where there are none, all are.
+/// say which links are kept, as `ALL_KEPT` of each.
 pub(crate) fn finish_order<G: GraphSpec>(
     graph: &mut CountedGraph<'_, G>,
     starts: &[usize],
