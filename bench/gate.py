@@ -1,31 +1,30 @@
 #!/usr/bin/env python3
-"""Measures what the parts of the merge gate cost: for each crate its proof, the proof of its tests, and each of
-its must-fail edits, in processor seconds at one job.
+"""Measures what the parts of the merge gate cost, and tries the wrong bodies that it leaves out.
 
-    bench/gate.py               every crate, lowest first
+    bench/gate.py               for each crate, lowest first, the processor seconds at one job of its proof, of that of its
+                                tests, and of each of its must-fail edits
     bench/gate.py guppy_core    these crates alone, with the proofs of those below them
-    bench/gate.py --proofs guppy_core   the same without the edits
+    bench/gate.py --proofs guppy_core       the same without the edits
     bench/gate.py --functions guppy_core    of its proof, the functions and the parts that take longest
-    bench/gate.py --edits guppy_core    the edits alone, over what `rt check` kept in out/
-    bench/gate.py --bugs guppy_core     the same, with each bug by itself of the lists in bugs/ and of shared edits
-    bench/gate.py --cuts [guppy_core]   each crate proved with nothing but what its edits set aside, over the libraries in out/
-    bench/gate.py --apply    tries nothing: tells what of the edits and of the lists in bugs/ no longer fits the sources
-    bench/gate.py --aside guppy_data records texts/path    prints the pairs that set these modules of a crate aside
+    bench/gate.py --edits [guppy_core]      the edits alone, over the libraries that `rt ci` left
+    bench/gate.py --bugs [guppy_core]       each bug of the lists must-fail-by-hand.edit, over the same
+    bench/gate.py --apply       tries nothing: tells which edits and bugs don't fit the sources
 
-It calls the functions of `rt` (which has to be on the path) that the gate calls, one after the other, so the
-sum is the gate's, but for the runs of the program and the tests. Without --edits, --bugs and --cuts it proves
-everything from nothing, and works on a copy of the repository.
+It calls the functions of `rt` (which has to be on the path) that the gate calls, so the sums are the gate's, but for
+the runs of the programs and the tests. What measures works one after the other; without --edits and --bugs it proves
+everything from nothing, on a copy of the repository.
 
-Of an edit that is shared, the gate asks that the whole is refused, and of a list in bugs/ nothing; --bugs asks it of each
-bug. A line `bug: NAME` begins a bug that takes all pairs up to the next blank line; any other pair is a bug alone.
-
-An edit that is the only one of its crate pays for the whole proof. So a line `# set aside` begins pairs, up to the next blank
-line, that take away what the edit's bugs don't stand on: an item behind #[cfg(test)] is read for the crate's tests alone. They
-are no bug: each of the edit's bugs is planted together with them, and --cuts asks that they by themselves are proved.
+In a list a line `bug: NAME` begins a bug, which has all pairs up to the next blank line; a pair outside of one is a bug
+of its own. Bugs of different functions are tried together, as many as BATCH in one check: the check tells of each
+function whether it is proved, and one that isn't by its own fault is refused. Any other bug is tried by itself, as the gate tries
+an edit. A bug that was refused is not tried again while the files that it stands on stay the same. The status is 1
+where a bug or edit isn't refused.
 """
 import glob
+import hashlib
 import importlib.machinery
 import importlib.util
+import json
 import os
 import re
 import resource
@@ -34,13 +33,15 @@ import sys
 import tempfile
 import time
 from collections import Counter
+from concurrent.futures import ThreadPoolExecutor
 from pathlib import Path
 
 sys.dont_write_bytecode = True
 TOP = os.path.dirname(os.path.dirname(os.path.realpath(__file__)))
 ONE_JOB = ["--jobs", "1"]
-EDITS_ALONE = ("--edits", "--bugs", "--cuts")
-SET_ASIDE = "# set aside"
+BY_HAND = "must-fail-by-hand.edit"
+OVER_LIBRARIES = ("--edits", "--bugs")
+BATCH = 16
 
 
 def load_rt():
@@ -51,6 +52,14 @@ def load_rt():
     module = importlib.util.module_from_spec(importlib.util.spec_from_loader("rt", loader))
     loader.exec_module(module)
     return module
+
+
+def read(path):
+    with open(path, encoding="utf-8") as it:
+        return it.read()
+
+
+# Measuring.
 
 
 def seconds_of(call, *given):
@@ -66,210 +75,6 @@ def seconds_of(call, *given):
 
 def tell(part, name, seconds, well, more=""):
     print(f"{seconds:8.1f}  {part:6} {name}{'' if well else '  FAILED'}{more}", flush=True)
-
-
-class Bug:
-    """A bug of a shared edit, or what it sets aside: its name, and its pairs as (path, old, new)."""
-
-    def __init__(self, name):
-        self.name, self.pairs = name, []
-
-    def is_cut(self):
-        return self.name.startswith(SET_ASIDE)
-
-    def changes_nothing(self):
-        """Holds of a pair that only moves spaces, so that a later pair's text is found once."""
-        return all("".join(old.split()) == "".join(new.split()) for _, old, new in self.pairs)
-
-
-def parts_of(text):
-    """Cuts an edit into what it sets aside and its bugs, in their order."""
-    bugs, named, path, old = [], None, "", ""
-    for line in text.split("\n"):
-        word, _, rest = line.partition(" ")
-        if not line:
-            named = None
-        elif word == "bug:" or line.startswith(SET_ASIDE):
-            named = Bug(rest if word == "bug:" else line)
-            bugs.append(named)
-        elif word == "file:":
-            path = rest.strip()
-        elif word == "old:":
-            old = rest
-        elif word == "new:":
-            bug = named
-            if not bug:
-                bug = Bug(f"{path}: {old.strip()}")
-                bugs.append(bug)
-            bug.pairs.append((path, old, rest))
-    return bugs
-
-
-def bugs_of(text):
-    """Cuts a shared edit into its bugs."""
-    return [part for part in parts_of(text) if not part.is_cut()]
-
-
-def lines_with(folder, parts, wanted=None):
-    """Returns the files' texts with what is set aside and one bug alone, or with none. A pair is found in what those before it made
-    of the text, and its line changed."""
-    found, texts, taken = {}, {}, set()
-    for bug in parts:
-        for path, old, new in bug.pairs:
-            if path not in found:
-                with open(f"{folder}/{path}", encoding="utf-8") as it:
-                    found[path] = it.read()
-                texts[path] = found[path].split("\n")
-            at = found[path][: found[path].index(old)].count("\n")
-            found[path] = found[path].replace(old, new)
-            if bug is wanted or bug.is_cut():
-                texts[path][at] = texts[path][at].replace(old, new, 1)
-                taken.add(path)
-    return {path: "\n".join(texts[path]) for path in taken}
-
-
-def measure_bugs(rt, crate, edit, kept):
-    """Tries each bug of an edit by itself, as the gate tries an edit."""
-    with open(edit, encoding="utf-8") as it:
-        parts = parts_of(it.read())
-    read_edit, whole = rt.read_edit, 0.0
-    for bug in parts:
-        if bug.is_cut() or bug.changes_nothing():
-            continue
-        rt.read_edit = lambda _edit, folder: (lines_with(folder, parts, bug), None)
-        (refused, text), seconds = seconds_of(rt.must_fail, crate, bug.name, ONE_JOB, kept)
-        whole += seconds
-        tell("bug", f"{crate.name}: {bug.name}", seconds, refused, "" if refused else f": {text}")
-    rt.read_edit = read_edit
-    return whole
-
-
-def measure_cut(rt, crate, edit):
-    """Asks that the crate is proved with what an edit sets aside, where it sets anything aside."""
-    with open(edit, encoding="utf-8") as it:
-        parts = parts_of(it.read())
-    if not any(part.is_cut() for part in parts):
-        return 0.0
-    ran, seconds = seconds_of(rt.checked, crate, lines_with(crate.folder, parts), ONE_JOB, None)
-    said = next((line for line in ran.stdout.split("\n") if ": error" in line), "") if ran.returncode else ""
-    tell("cut", f"{crate.name}/{os.path.basename(edit)}", seconds, not ran.returncode, f": {said}" if said else "")
-    return seconds
-
-
-def is_shared(edit):
-    """Holds of an edit that plants named bugs."""
-    with open(edit, encoding="utf-8") as it:
-        return any(line.startswith("bug: ") for line in it)
-
-
-def lists_of(folder):
-    """Returns the lists of bugs of a crate that the gate doesn't try."""
-    return sorted(glob.glob(f"{folder}/bugs/*.edit"))
-
-
-def bugs_that_miss():
-    """Tells each bug of the edits and lists whose text doesn't stand in the sources, and returns how many there are. (rt ci passes
-    over an edit that it can't apply.)"""
-    missing, lists = 0, lists_of(f"{TOP}/crates/*")
-    for edit in sorted(glob.glob(f"{TOP}/crates/*/must-fail/*.edit")) + lists:
-        folder = os.path.dirname(os.path.dirname(edit))
-        with open(edit, encoding="utf-8") as it:
-            bugs = parts_of(it.read())
-        texts = {}
-        for bug in bugs:
-            for path, old, new in bug.pairs:
-                if path not in texts:
-                    with open(f"{folder}/{path}", encoding="utf-8") as it:
-                        texts[path] = it.read()
-                found = texts[path].count(old)
-                if found != 1 and not (found and edit in lists):
-                    print(f"{os.path.relpath(edit, TOP)}: {bug.name}: {path} has {found or 'no'} {old.strip()}")
-                    missing += 1
-                texts[path] = texts[path].replace(old, new)
-    return missing
-
-
-class Aside:
-    """What sets modules of a crate aside, as pairs by file. Modules are named by their path, as texts/path."""
-
-    def __init__(self, crate, modules, files):
-        self.folder, self.crate, self.modules, self.pairs = f"{TOP}/crates/{crate}", crate, modules, {}
-        self.gone, self.texts = set(files), {}
-
-    def text(self, path):
-        if path not in self.texts:
-            with open(f"{self.folder}/{path}", encoding="utf-8") as it:
-                self.texts[path] = it.read()
-        return self.texts[path]
-
-    def files(self, part):
-        return sorted(os.path.relpath(it, self.folder) for it in glob.glob(f"{self.folder}/{part}/**/*.*t", recursive=True))
-
-    def add(self, path, old, new):
-        if self.text(path).count(old) != 1:
-            sys.exit(f"gate.py: {path} has {self.text(path).count(old)} times {old}")
-        self.pairs.setdefault(path, []).append((old, new))
-
-    def is_inside(self, path):
-        return any(path.startswith((f"src/{it}.rt", f"src/{it}/", f"proofs/{it}/")) for it in self.modules)
-
-    def names_what_is_gone(self, line):
-        """Whether a line names a type or a contract of these modules, or a file that goes."""
-        below = [f"{part}.{it}" for it in self.modules for part in ("specs.declared", "specs.contracts", "proofs")]
-        below = [it.replace("/", ".") for it in [*below, *(it.removesuffix(".antt") for it in self.gone)]]
-        named = re.findall(rf"Rattle\.{self.crate}\.([\w.+]+)", line)
-        return any(f"{name}.".startswith(f"{it}.") for name in named for it in below)
-
-    def take_modules(self):
-        for module in self.modules:
-            parent, _, name = module.rpartition("/")
-            path = f"src/{parent or 'lib'}.rt"
-            for line in re.findall(rf"^(?:pub(?:\(\w+\))? )?mod {name};$", self.text(path), re.M):
-                self.add(path, line, f"#[cfg(test)] {line}")
-
-    def take_files(self):
-        """Each file that names what is gone is gone, too, until no more are found."""
-        left = {it for part in ("specs", "proofs") for it in self.files(part) if not self.is_inside(it)} - self.gone
-        while found := {it for it in left if self.names_what_is_gone(self.text(it))}:
-            left, self.gone = left - found, self.gone | found
-
-    def comment(self, path):
-        """Turns a file into a comment, from its first line that is none to its last."""
-        lines = [it for it in self.text(path).split("\n") if it and not it.startswith("--")]
-        if any(self.text(path).count(it) != 1 for it in (lines[0], lines[-1])):
-            return print(f"{path}: make it a comment by hand: its first or last line stands there twice", file=sys.stderr)
-        self.add(path, lines[0], f"{{- {lines[0]}")
-        self.add(path, lines[-1], "-}")
-
-    def print(self):
-        self.take_modules()
-        self.take_files()
-        for path in sorted(self.gone):
-            self.comment(path)
-        for path, pairs in self.pairs.items():
-            print(f"file: {path}", *(f"old: {old}\nnew: {new}" for old, new in pairs), sep="\n")
-        uses = "|".join(it.replace("/", "::") for it in self.modules)
-        for path in self.files("src"):
-            for line in [] if self.is_inside(path) else self.text(path).split("\n"):
-                if self.names_what_is_gone(line) or re.search(rf"\buse (crate::)?({uses})\b", line):
-                    print(f"{path} still has: {line.strip()}", file=sys.stderr)
-
-
-def measure_edits(rt, crate, kept, each_bug=False):
-    edits = rt.edits_of(crate)[0]
-    kept = kept if each_bug or len(edits) > 1 else None
-    whole = 0.0
-    for edit in lists_of(crate.folder) if each_bug else []:
-        whole += measure_bugs(rt, crate, edit, kept)
-    for edit in edits:
-        if each_bug and is_shared(edit):
-            whole += measure_bugs(rt, crate, edit, kept)
-            continue
-        (refused, text), seconds = seconds_of(rt.must_fail, crate, edit, ONE_JOB, kept)
-        whole += seconds
-        name = f"{crate.name}/{os.path.basename(edit)}"
-        tell("edit", name, seconds, refused, "" if refused else f": {text}")
-    return whole
 
 
 def function_and_part(module):
@@ -297,61 +102,303 @@ def measure_functions(rt, crate):
     for what, spent in ("part", parts.most_common(8)), ("fn", functions.most_common(40)):
         for name, seconds in spent:
             tell(what, name or "others", seconds, True)
-    return whole
+    return whole, not ran.returncode
+
+
+def measure_edits(rt, crate):
+    """Tries each edit of a crate over one proof of it, or from nothing where it is the only one, as the gate does."""
+    edits, whole, well, seed = rt.edits_of(crate)[0], 0.0, True, None
+    if len(edits) > 1:
+        seed, whole = seconds_of(rt.seeded, crate, ONE_JOB)
+        tell("seed", crate.name, whole, seed)
+    for edit in edits:
+        with over(rt, seed) as kept:
+            (kind, text), seconds = seconds_of(rt.must_fail, crate, edit, ONE_JOB, kept)
+        whole, well = whole + seconds, well and kind == rt.REFUSED
+        name = f"{crate.name}/{os.path.basename(edit)}"
+        tell("edit", name, seconds, kind == rt.REFUSED, "" if kind == rt.REFUSED else f": {text}")
+    return whole, well
 
 
 def measure(rt, crate, parts):
+    """Tells what the parts of a crate take, and returns their sum and whether all went well."""
     if parts == "--functions":
         return measure_functions(rt, crate)
-    if parts == "--cuts":
-        return sum(measure_cut(rt, crate, edit) for edit in rt.edits_of(crate)[0])
-    if parts in EDITS_ALONE:
-        kept = f"{crate.folder}/out/incremental"
-        with tempfile.TemporaryDirectory() as room:
-            copy = f"{room}/kept"
-            shutil.copytree(kept, copy)
-            return measure_edits(rt, crate, copy, parts == "--bugs")
+    if parts == "--edits":
+        return measure_edits(rt, crate)
     status, whole = seconds_of(crate.ci, ONE_JOB, False)
     tell("proof", crate.name, whole, not status)
     if crate.has_tests():
-        status, seconds = seconds_of(crate.ci, ONE_JOB, True)
-        tell("tests", crate.name, seconds, not status)
-        whole += seconds
+        of_tests, seconds = seconds_of(crate.ci, ONE_JOB, True)
+        tell("tests", crate.name, seconds, not of_tests)
+        status, whole = status or of_tests, whole + seconds
     if parts == "--proofs":
-        return whole
-    with tempfile.TemporaryDirectory() as kept:
-        return whole + measure_edits(rt, crate, kept)
+        return whole, not status
+    seconds, well = measure_edits(rt, crate)
+    return whole + seconds, well and not status
+
+
+class over:
+    """A copy of what a crate's own check proved, for one check that may write into it."""
+
+    def __init__(self, rt, seed):
+        self.rt, self.seed, self.room = rt, seed, None
+
+    def __enter__(self):
+        if not self.seed:
+            return None
+        self.room = tempfile.mkdtemp(dir=self.seed)
+        self.rt.linked(f"{self.seed}/seed", f"{self.room}/kept")
+        return f"{self.room}/kept"
+
+    def __exit__(self, *_):
+        if self.room:
+            shutil.rmtree(self.room, ignore_errors=True)
+
+
+# The lists of bugs.
+
+
+class Bug:
+    """A bug of a list: its name, and its pairs as (path, old, new)."""
+
+    def __init__(self, name):
+        self.name, self.pairs = name, []
+
+    def text(self):
+        """The bug as an edit has it."""
+        return "".join(f"file: {path}\nold: {old}\nnew: {new}\n" for path, old, new in self.pairs)
+
+    def function(self, folder):
+        """The file and the name of the function that the bug changes, or None where it changes more than one or none."""
+        found = set()
+        for path, old, _ in self.pairs:
+            text = read(f"{folder}/{path}")
+            end = text.find(old) + len(old)
+            names = re.findall(r"^\s*(?:pub(?:\(\w+\))? )?(?:unsafe |extern \"C\" )*fn (\w+)", text[:end], re.M)
+            found.add((path, names[-1] if names else None))
+        return found.pop() if len(found) == 1 and all(name for _, name in found) else None
+
+
+def bugs_of(text):
+    """Cuts a list into its bugs."""
+    bugs, named, path, old = [], None, "", ""
+    for line in text.split("\n"):
+        word, _, rest = line.partition(" ")
+        if not line:
+            named = None
+        elif word == "bug:":
+            named = Bug(rest)
+            bugs.append(named)
+        elif word == "file:":
+            path = rest.strip()
+        elif word == "old:":
+            old = rest
+        elif word == "new:":
+            bug = named
+            if not bug:
+                bug = Bug(f"{path}: {old.strip()}")
+                bugs.append(bug)
+            bug.pairs.append((path, old, rest))
+    return bugs
+
+
+def list_of(crate):
+    """The bugs of a crate's list, none where it has no list."""
+    path = f"{crate.folder}/{BY_HAND}"
+    return bugs_of(read(path)) if os.path.isfile(path) else []
+
+
+def is_at_fault(line):
+    """Whether a check's line of a function blames the function itself. Of one that only calls what isn't proved, the line says
+    that it has no proof, as `fn a::b: no proof: it calls `a::c`, which is not proved`."""
+    return ": not proved" in line or ": no proof" in line and not re.search(r"it calls|it passes|a call of", line)
+
+
+class Tries:
+    """The tries of a crate's bugs, by themselves or together."""
+
+    def __init__(self, rt, crate, say):
+        self.rt, self.crate, self.say = rt, crate, say
+        self.bugs = list_of(crate)
+        self.results = Counter()
+        self.kept = f"{crate.folder}/out/refused-by-hand.json"
+        self.stamp = rt.stamp_of(crate, {})
+
+    def sum_of(self, bug):
+        return hashlib.sha256(f"{self.stamp}\n{bug.text()}".encode()).hexdigest()
+
+    def known(self):
+        """The sums of the bugs that were refused before."""
+        try:
+            return set(json.loads(read(self.kept)))
+        except (OSError, ValueError):
+            return set()
+
+    def settle(self, bug, kind, more=""):
+        self.results[kind] += 1
+        if kind == self.rt.REFUSED:
+            known = sorted({*self.known(), self.sum_of(bug)})
+            with open(self.kept, "w", encoding="utf-8") as it:
+                json.dump(known, it)
+        self.say(f"{kind:8} {self.crate.name}: {bug.name}{more}")
+
+    def run(self):
+        known = self.known()
+        left = [bug for bug in self.bugs if self.sum_of(bug) not in known]
+        self.results["before"] = len(self.bugs) - len(left)
+        seed = self.rt.seeded(self.crate, ONE_JOB, self.started()) if left else None
+        if left and not seed:
+            self.say(f"{self.crate.name}: it is not proved as it stands, so no bug of its lists is tried")
+            self.results[self.rt.UNSURE] += len(left)
+            return self.results
+        alone = [bug for bug in left if not bug.function(self.crate.folder)]
+        together = [bug for bug in left if bug not in alone]
+        while together:
+            batch, together = self.batch(together)
+            masked, unclear = self.try_together(batch, seed)
+            # What is masked by another bug of its batch goes into a later one, where that bug isn't.
+            is_moving = len(masked) + len(unclear) < len(batch)
+            together += masked if is_moving else []
+            alone += unclear + ([] if is_moving else masked)
+        for bug in alone:
+            self.try_alone(bug, seed)
+        return self.results
+
+    def started(self):
+        """What an earlier `rt check` kept, if there is something."""
+        kept = f"{self.crate.folder}/out/incremental"
+        return kept if os.path.isdir(kept) else None
+
+    def batch(self, bugs):
+        """Takes the first bugs of different functions, and returns them and the others."""
+        taken, names, others = [], set(), []
+        for bug in bugs:
+            function = bug.function(self.crate.folder)
+            if len(taken) < BATCH and function not in names:
+                names.add(function)
+                taken.append(bug)
+            else:
+                others.append(bug)
+        return taken, others
+
+    def try_together(self, bugs, seed):
+        """Settles the bugs whose function the check refuses, and returns those that are masked by another, and the others."""
+        texts, fitting, unclear = {}, [], []
+        for bug in bugs:
+            changed, why = self.rt.edited(bug.text(), self.crate.folder)
+            (unclear if why else fitting).append(bug)
+            for path, old, new in [] if why else bug.pairs:
+                text = texts.get(path) or read(f"{self.crate.folder}/{path}")
+                texts[path] = text.replace(old, new)
+        with over(self.rt, seed) as kept:
+            ran = self.rt.checked(self.crate, texts, ONE_JOB, kept)
+        lines = [line for line in ran.stdout.split("\n") if line.startswith("fn ")]
+        if not lines:
+            # The front end refuses one of them: half of them may do.
+            half = len(fitting) // 2
+            if half:
+                masked, others = self.try_together(fitting[:half], seed)
+                more, rest = self.try_together(fitting[half:], seed)
+                return masked + more, unclear + others + rest
+            return [], unclear + fitting
+        masked = []
+        for bug in fitting:
+            of_it = [line for line in lines if self.names(line, bug)]
+            if any(map(is_at_fault, of_it)):
+                self.settle(bug, self.rt.REFUSED)
+            elif any(": no proof" in line for line in of_it):
+                masked.append(bug)
+            else:
+                unclear.append(bug)
+        return masked, unclear
+
+    def names(self, line, bug):
+        """Whether a check's line is of the function that the bug changes, or of a closure in it."""
+        path, name = bug.function(self.crate.folder)
+        module = re.sub(r"^(lib|main)$", "", path.removeprefix("src/").removesuffix(".rt")).replace("/", "::")
+        front = f"{self.crate.name}::{module}::" if module else f"{self.crate.name}::"
+        named = line.removeprefix("fn ").split(": ")[0]
+        return named.startswith(front) and name in re.split(r"::|\+", named.removeprefix(front))
+
+    def try_alone(self, bug, seed):
+        with tempfile.TemporaryDirectory() as room, over(self.rt, seed) as kept:
+            edit = f"{room}/bug.edit"
+            with open(edit, "w", encoding="utf-8") as it:
+                it.write(bug.text())
+            kind, text = self.rt.must_fail(self.crate, edit, ONE_JOB, kept)
+        self.settle(bug, kind, "" if kind == self.rt.REFUSED else f": {text.partition('bug.edit: ')[2]}")
+
+
+def try_bugs(rt, crates):
+    """Tries the bugs of these crates' lists, crates side by side, tells each one's result, and returns whether all were refused."""
+    def say(line):
+        print(line, flush=True)
+
+    tries = sorted((Tries(rt, crate, say) for crate in crates), key=lambda it: -len(it.bugs))
+    lanes = int(os.environ.get("RT_JOBS") or os.cpu_count())
+    with rt.ending(), ThreadPoolExecutor(lanes) as pool:
+        found = sum(pool.map(Tries.run, tries), Counter())
+    before, refused = found.pop("before", 0), found.pop(rt.REFUSED, 0)
+    others = "".join(f", {number} {kind}" for kind, number in sorted(found.items()))
+    print(f"{refused + before} refused, {before} of them by an earlier run{others}")
+    return not found
+
+
+def bugs_that_miss():
+    """Tells each edit and each bug of a list that doesn't fit the sources, and returns how many there are. (rt ci passes over an
+    edit that it can't apply.)"""
+    rt, missing = load_rt(), 0
+    for file in sorted(glob.glob(f"{TOP}/crates/*/must-fail/*.edit") + glob.glob(f"{TOP}/crates/*/{BY_HAND}")):
+        folder = file[: file.index("/must-fail")]
+        is_list = file.endswith(BY_HAND)
+        texts = [(f"{bug.name}: ", bug.text()) for bug in bugs_of(read(file))] if is_list else [("", read(file))]
+        for name, text in texts:
+            why = rt.edited(text, folder)[1]
+            if why:
+                print(f"{os.path.relpath(file, TOP)}: {name}{why}")
+                missing += 1
+    return missing
 
 
 def main(words):
     if words == ["--apply"]:
         sys.exit(1 if bugs_that_miss() else 0)
-    if words[:1] == ["--aside"] and len(words) > 2:
-        files = [it[1:] for it in words[2:] if it.startswith("+")]
-        return Aside(words[1], [it for it in words[2:] if not it.startswith("+")], files).print()
-    parts = words.pop(0) if words and words[0] in ("--proofs", "--functions", *EDITS_ALONE) else ""
-    names, edits_alone = words, parts in EDITS_ALONE
+    parts = words.pop(0) if words and words[0] in ("--proofs", "--functions", *OVER_LIBRARIES) else ""
     rt = load_rt()
     with tempfile.TemporaryDirectory() as room:
         top = TOP
-        if not edits_alone:
+        if parts not in OVER_LIBRARIES:
             top = f"{room}/copy"
             shutil.copytree(TOP, top, ignore=shutil.ignore_patterns("out", ".git"))
         os.chdir(top)
         rt.rtlib.guarded()
-        rt.Crate.cuts_libraries = not edits_alone
+        rt.Crate.cuts_libraries = parts not in OVER_LIBRARIES
+        rt.Crate.allowed = rt.handles_of(top)
         rt.rtlib.Crate = rt.Crate
         crates = sorted(rt.rtlib.crates_below(top), key=lambda crate: len(crate.below()))
-        wanted = [crate for crate in crates if not names or crate.name in names]
-        whole = 0.0
+        lacking = [name for name in words if name not in [crate.name for crate in crates]]
+        if lacking:
+            sys.exit(f"gate.py: {lacking[0]} is no crate of crates.txt")
+        wanted = [crate for crate in crates if not words or crate.name in words]
+        unbuilt = sorted({it.name for crate in wanted for it in crate.below() if not os.path.isdir(it.rlib)})
+        if parts in OVER_LIBRARIES and unbuilt:
+            sys.exit(f"gate.py: there is no built library of {unbuilt[0]}: run `rt ci` first")
         for crate in crates:
             os.makedirs(f"{crate.folder}/out", exist_ok=True)
-            crate.out = open(f"{crate.folder}/out/gate.log", "w")
-            if crate in wanted:
-                whole += measure(rt, crate, parts)
-            elif not edits_alone and any(crate in above.below() for above in wanted):
-                crate.ci(ONE_JOB, False)
+            crate.out = open(f"{crate.folder}/out/gate.log", "w", encoding="utf-8")
+        if parts == "--bugs":
+            sys.exit(0 if try_bugs(rt, wanted) else 1)
+        whole, well = 0.0, True
+        with rt.ending():
+            for crate in crates:
+                if crate in wanted:
+                    seconds, is_well = measure(rt, crate, parts)
+                    whole, well = whole + seconds, well and is_well
+                elif parts != "--edits" and any(crate in above.below() for above in wanted):
+                    crate.ci(ONE_JOB, False)
     print(f"{whole:8.1f}  processor seconds in all")
+    sys.exit(0 if well else 1)
 
 
 main(sys.argv[1:])
