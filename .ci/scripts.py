@@ -18,7 +18,7 @@ from concurrent.futures import ThreadPoolExecutor
 from pathlib import Path
 
 from metadata import try_asked, try_given, try_metadata_refused
-from since import try_since, try_since_answers, try_since_refused
+from since import try_since, try_since_answers, try_since_locked, try_since_refused
 
 HERE = Path(__file__).resolve().parent
 TOP = HERE.parent
@@ -346,6 +346,7 @@ PARTS = {
     "installed": (try_installed, []),
     "changes": (try_since, []),
     "changes, answers": (try_since_answers, []),
+    "changes, a new lock file": (try_since_locked, []),
     "changes, refusals": (try_since_refused, []),
     "what cargo is asked": (try_asked, []),
     "metadata": (try_given, []),
