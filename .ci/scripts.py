@@ -6,6 +6,7 @@ the gate has just built; two runs are with rt itself. Needs git, cargo and the p
 'N passed, M failed'.
 """
 
+import hashlib
 import os
 import re
 import shutil
@@ -266,6 +267,10 @@ def try_memory(world, program, words, more="", path=None, **how):
     """How the program is to get its memory: in huge pages, and by more settings, or as the user says. In its place is
     one that tells."""
     program.write_text('#!/bin/sh\nprintf %s "$GLIBC_TUNABLES"\n')
+    made_of = program.with_name("made-of")
+    if made_of.exists():
+        sources = made_of.read_text().splitlines()[0]
+        made_of.write_text(f"{sources}\n{hashlib.sha256(program.read_bytes()).hexdigest()} this rt\n")
     for told in ({}, {"GLIBC_TUNABLES": "a=1"}):
         ran = world.run(words, environment=(path or {}) | told, **how)
         wanted = told.get("GLIBC_TUNABLES", f"glibc.malloc.hugetlb=1{more}")
