@@ -40,8 +40,9 @@ MANY = 100
 HOST = re.search(r"host: (.*)", subprocess.run(["rustc", "-vV"], capture_output=True, text=True, check=True).stdout)[1]
 TRIPLES = [HOST, "x86_64-pc-windows-msvc", "aarch64-apple-darwin", "wasm32-unknown-unknown"]
 
-# The workspace's own files.
+# The workspace's own files, and where cargo looks for the targets of a package at its root.
 EVERYONES = ("Cargo.toml", "Cargo.lock", "rust-toolchain", "rust-toolchain.toml")
+TARGETS_FOLDERS = ("src", "tests", "examples", "benches")
 
 # What is told of bad arguments.
 BAD_ARGUMENTS = (
@@ -94,14 +95,16 @@ class Graph:
         return [(a, b) for a, b in pairs if b not in self.onward[a] or is_firm and a in self.firmly[b]]
 
     def touched(self, path):
-        """The packages to which a path belongs, and all members where it is everyone's."""
+        """The packages to which a path belongs and those below it, and all members where it is everyone's."""
         path = path.removeprefix("./")
-        parts = path.split("/")
-        holding = [it for it, folder in self.local.items() if parts[: len(folder)] == folder]
-        if path in EVERYONES or parts[0] == ".cargo" or not holding:
+        parts = path.split("/") if path else []
+        holding = [it for it, folder in self.local.items() if holds(folder, parts)]
+        longest = max((len(self.local[it]) for it in holding), default=0)
+        is_of_target = path == "build.rs" or any(holds([it], parts) for it in TARGETS_FOLDERS)
+        if path in EVERYONES or holds([".cargo"], parts) or not holding or not (longest or is_of_target):
             return set(self.folders)
-        longest = max(len(self.local[it]) for it in holding)
-        return {it for it in holding if len(self.local[it]) == longest}
+        below = {it for it, folder in self.local.items() if holds(parts, folder)}
+        return below | {it for it in holding if len(self.local[it]) == longest}
 
     def tested_with(self, touched):
         """The members whose tests are built from these packages."""
@@ -112,6 +115,11 @@ class Graph:
         """The lines of an answer, or what came in its place."""
         status, output, errors = run(words, self.text.encode())
         return lines_of(output) if (status, errors) == (0, "") else [f"status {status}, {output!r}, {errors!r}"]
+
+
+def holds(folder, path):
+    """Whether the path's parts begin with the folder's, with names alone behind them."""
+    return path[: len(folder)] == folder and not {"", ".", ".."} & set(path[len(folder) :])
 
 
 def reverse(links):
@@ -287,7 +295,8 @@ def try_affected(graph):
     files = ("src/lib.rs", "x/y/z", "Cargo.toml", "Cargo.lock", ".cargo/config.toml")
     some = ["/".join([*folder, it]) for folder in graph.local.values() if folder for it in files]
     some += [*EVERYONES, ".cargo/config.toml", ".cargo", ".cargo.toml", "elsewhere/x", "base-mor/x"]
-    some += ["./Cargo.lock", "./base/x", "/base/x", "../base/x", ""]
+    some += ["./Cargo.lock", "./base/x", "/base/x", "../base/x", "", "src/lib.rs", "tests", "build.rs", "src/../x"]
+    some += sorted({"/".join(it[:at]) for it in graph.local.values() for at in range(1, len(it) + 1)})
     for paths in [[], *([it] for it in some), *(graph.random.sample(some, it % 3 + 2) for it in range(STARTS))]:
         wanted = graph.tested_with(set().union(*map(graph.touched, paths)))
         answer = graph.ask("affected", *paths)
@@ -298,7 +307,7 @@ def try_affected(graph):
 def is_in(path, folders):
     """Whether the path lies in one of the folders."""
     parts = path.removeprefix("./").split("/")
-    return any(parts[: len(it)] == it for it in (folder.removeprefix("./").split("/") for folder in folders))
+    return any(holds(it, parts) for it in (folder.removeprefix("./").split("/") for folder in folders))
 
 
 def try_left_out(graph):

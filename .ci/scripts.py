@@ -6,6 +6,7 @@ the gate has just built; two runs are with rt itself. Needs git, cargo and the p
 'N passed, M failed'.
 """
 
+import hashlib
 import os
 import re
 import shutil
@@ -18,13 +19,13 @@ from concurrent.futures import ThreadPoolExecutor
 from pathlib import Path
 
 from metadata import try_asked, try_given, try_metadata_refused
-from since import try_since, try_since_answers, try_since_refused
+from since import try_since, try_since_answers, try_since_locked, try_since_refused
 
 HERE = Path(__file__).resolve().parent
 TOP = HERE.parent
 # What the scripts call beside rt, cargo and python3.
-TOOLS = "awk basename cat chmod cp dirname env find git grep head ls mkdir mktemp mv pwd readlink rm sed sh sleep sort stat"
-TOOLS += " tail tr true wc"
+TOOLS = "awk basename cat chmod cp cut dirname env find git grep head ls mkdir mktemp mv pwd readlink rm sed sh sha256sum"
+TOOLS += " sleep sort stat tail tr true wc xargs"
 BUILT = os.environ.get("BUILT", str(TOP / "crates"))
 SECONDS = 300
 
@@ -157,10 +158,23 @@ def try_interrupts(world):
             left = world.left() + still_running(started.pid)
             is_clean = status == 128 + number and not left
             yield f"{words[0]} is ended by {number.name}", is_clean, (status, output, errors, left)
+    yield from try_ended(world)
     ran = world.build()
     yield "what comes next proves", ran[0] == 0, ran
     ran = world.ask()
     yield "and answers", ran == (0, ANSWER, ""), ran
+
+
+def try_ended(world):
+    """What has ended while others are being proved isn't ended again: its number may be another process's."""
+    file = world.room / "started"
+    with world.start(["prove"], stand_in="one-slow", environment={"STARTED": str(file)}, start_new_session=True) as started:
+        wait_for(file)
+        proved = [it.stem for it in world.temporary.glob("*/*.proved")]
+        left = [it.stem for it in world.temporary.glob("*/*.pid")]
+        started.terminate()
+    is_right = "guppy_search" in proved and left == ["guppy_data"] and not still_running(started.pid)
+    yield "prove ends what runs alone", is_right, (proved, left)
 
 
 def wait_for(file):
@@ -196,12 +210,7 @@ def try_proved(world):
     with open(world.top / "examples/workspace.txt", "rb") as given:
         ran = world.run(["guppy-run", "depends", "cli", "macros"], given=given)
     yield "guppy-run too", ran == (0, "true\n", "") or ran[0] == 0, ran
-    time.sleep(0.05)
-    (world.top / "crates/guppy_search/specs/Reach.antt").touch()
-    ran = world.ask()
-    yield "a newer source makes it unproved", ran[:2] == (0, ANSWER) and UNPROVED in ran[2], ran
-    ran = world.build()
-    yield "until it is proved again", ran[0] == 0 and world.ask() == (0, ANSWER, ""), ran
+    yield from try_made_of(world)
     workspace = world.room / "a workspace"
     make_workspace(workspace)
     ran = world.run(["guppy-cargo", "affected", "other/src/lib.rs"], where=workspace)
@@ -209,10 +218,59 @@ def try_proved(world):
     yield from try_memory(world, world.top / "crates/guppy_run/out/guppy_run", ["guppy-run", "order"])
 
 
+def try_made_of(world):
+    """What a proved program was made of, by content: times count for nothing."""
+    program = world.top / "crates/guppy_cargo_main/out/guppy_cargo_main"
+    source, crates = world.top / "crates/guppy_search/specs/Reach.antt", world.top / "crates.txt"
+    source.touch()
+    yield "a newer source that has what it had", world.ask() == (0, ANSWER, ""), world.ask()
+    for file, old, new in (
+        (source, source.read_text(), source.read_text() + "-- more\n"),
+        (crates, crates.read_text(), crates.read_text().replace("guppy_folders: ", "guppy_folders: guppy_search ")),
+    ):
+        time = file.stat().st_mtime_ns
+        file.write_text(new)
+        os.utime(file, ns=(time, time))
+        ran = world.ask()
+        yield f"{file.name} has something else, and is as old", ran[:2] == (0, ANSWER) and UNPROVED in ran[2], ran
+        file.write_text(old)
+        yield f"{file.name} has what it had", world.ask() == (0, ANSWER, ""), world.ask()
+    unrelated = crates.read_text()
+    crates.write_text(unrelated + "other: guppy\n")
+    yield "a crate that it isn't made of", world.ask() == (0, ANSWER, ""), world.ask()
+    crates.write_text(unrelated)
+    source.rename(source.with_suffix(".rt"))
+    ran = world.ask()
+    yield "a source with another name", ran[:2] == (0, ANSWER) and UNPROVED in ran[2], ran
+    source.with_suffix(".rt").rename(source)
+    shutil.copy(program, world.room)
+    program.write_bytes(program.read_bytes() + b"\n")
+    ran = world.ask()
+    yield "another program", ran[:2] == (0, ANSWER) and UNPROVED in ran[2], ran
+    shutil.copy(world.room / program.name, program)
+    yield "the proved one", world.ask() == (0, ANSWER, ""), world.ask()
+    ran = world.run(["prove"], stand_in="another")
+    is_anew = ran[0] == 0 and "guppy_search is proved" in ran[1]
+    yield "another toolchain proves anew", is_anew and program.with_name("made-of").read_text().endswith(" another rt\n"), ran
+    ran = world.run(["prove"], stand_in="another")
+    yield "and not twice", ran[0] == 0 and "guppy_search is proved" not in ran[1], ran
+    ran = world.run(["guppy-cargo", "--version"])
+    yield "what the proved one says of itself", ran[0] == 0 and ran[1].endswith(", proved\n"), ran
+    program.unlink()
+    ran = world.run(["guppy-cargo", "--version"])
+    yield "and the unproved one", ran[0] == 0 and ran[1].endswith(", not proved on this machine yet\n"), ran
+    ran = world.build()
+    yield "it is proved again", ran[0] == 0 and world.ask() == (0, ANSWER, ""), ran
+
+
 def try_memory(world, program, words, more="", path=None, **how):
     """How the program is to get its memory: in huge pages, and by more settings, or as the user says. In its place is
     one that tells."""
     program.write_text('#!/bin/sh\nprintf %s "$GLIBC_TUNABLES"\n')
+    made_of = program.with_name("made-of")
+    if made_of.exists():
+        sources = made_of.read_text().splitlines()[0]
+        made_of.write_text(f"{sources}\n{hashlib.sha256(program.read_bytes()).hexdigest()} this rt\n")
     for told in ({}, {"GLIBC_TUNABLES": "a=1"}):
         ran = world.run(words, environment=(path or {}) | told, **how)
         wanted = told.get("GLIBC_TUNABLES", f"glibc.malloc.hugetlb=1{more}")
@@ -318,10 +376,9 @@ def try_without_rt(world):
     yield "quick-tests without rt", ran[0] == 1 and is_one_line(ran[2], "rt is not on the path"), ran
     ran = world.run(["guppy-cargo", *AFFECTED])
     yield "without cargo", *refusal(ran, 3, "cargo is not on the path")
-    for crate in ("guppy_run", "guppy_cargo_main"):
-        out = world.top / "crates" / crate / "out"
-        out.mkdir()
-        shutil.copy(Path(BUILT) / crate / "out" / crate, out)
+    shutil.copy(HERE / "stand-in/rt", world.bin)
+    world.build()
+    (world.bin / "rt").unlink()
     yield "a proved program needs no rt", world.ask() == (0, ANSWER, ""), world.ask()
 
 
@@ -346,6 +403,7 @@ PARTS = {
     "installed": (try_installed, []),
     "changes": (try_since, []),
     "changes, answers": (try_since_answers, []),
+    "changes, a new lock file": (try_since_locked, []),
     "changes, refusals": (try_since_refused, []),
     "what cargo is asked": (try_asked, []),
     "metadata": (try_given, []),

@@ -238,6 +238,19 @@ def try_since_answers(world):
         changing.commit()
 
 
+def try_since_locked(world):
+    """A version is raised in one manifest, and cargo writes another Cargo.lock when it is asked for the metadata."""
+    changing = Changing(world.room / "repository", "a workspace")
+    write(changing.top / ".gitignore", "")
+    metadata_file(changing)
+    changing.commit()
+    manifest = changing.root / "c/Cargo.toml"
+    write(manifest, manifest.read_text().replace("0.1.0", "0.2.0"))
+    for turn in ("first", "again"):
+        ran = world.run(["guppy-cargo", "affected", "--since", "HEAD"], where=changing.root)
+        yield f"a version is raised, asked {turn}", ran[0] == 0 and sorted(ran[1].split()) == ["a", "b", "c"], ran
+
+
 def try_since_refused(world):
     changing = Changing(world.room / "repository", "a workspace")
     home = changing.root

@@ -39,12 +39,27 @@ up_to() {
         }' "$here/crates.txt"
 }
 
-# Whether the proved program is there, and none of its sources is newer.
+# A checksum of standard input.
+checksum() {
+    sha256sum | cut -c 1-64
+}
+
+# A checksum of what the program is made of: of its sources, and of what crates.txt says of their crates.
+sources_of() (
+    crates=$(up_to "$1")
+    cd "$here/crates" && {
+        awk -F: -v crates=" $(echo $crates) " 'index(crates, " " $1 " ")' "$here/crates.txt"
+        find $crates -name out -prune -o -type f \( -name '*.rt' -o -name '*.antt' \) -print0 |
+            LC_ALL=C sort -z | xargs -0 sha256sum
+    } | checksum
+)
+
+# Whether the proved program is there and is made of these sources. The file made-of has their checksum and the program's
+# own, and the toolchain that proved it, which is by then.
 is_proved() {
-    [ -x "$here/crates/$1/out/$1" ] && [ -z "$(
-        cd "$here/crates" && find $(up_to "$1") -name out -prune -o \
-            -type f \( -name '*.rt' -o -name '*.antt' \) -newer "$1/out/$1" -print | head -n 1
-    )" ]
+    sources= built= by=
+    [ -x "$here/crates/$1/out/$1" ] && { read -r sources && read -r built by; } 2> /dev/null < "$here/crates/$1/out/made-of" &&
+        [ "$sources" = "$(sources_of "$1")" ] && [ "$built" = "$(checksum < "$here/crates/$1/out/$1")" ]
 }
 
 # Runs the program: the proved one, or else the same one unproved.
@@ -62,6 +77,7 @@ most_seconds=600
 # Runs the program unproved, by `rt try`, which checks it as it runs. It is given all of standard input in a file, since
 # rt would take what a pipe gives within two seconds for the whole.
 try_program() {
+    first=${1-}
     command -v rt > /dev/null ||
         fail "the program is not proved on this machine yet, and the toolchain's rt is not on the path"
     echo "$name: this answer takes a minute, and comes from a program that is not proved on this machine yet; '$here/prove' proves it" >&2
@@ -111,7 +127,11 @@ tell_answer() {
     0\ * | *" run=ended status=$status "*)
         # The last two lines are rt's.
         sed '$d' "$room/told" | sed '$d' >&2
-        cat "$room/answer" 2> /dev/null || {
+        case $first in
+        # It says that it is proved, as it is where this doesn't run it.
+        --version) sed 's/, proved$/, not proved on this machine yet/' "$room/answer" ;;
+        *) cat "$room/answer" ;;
+        esac 2> /dev/null || {
             echo "error: output failed" >&2
             status=2
         }

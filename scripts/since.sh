@@ -12,14 +12,18 @@ are_few() {
         give_no_changes "more paths changed since $revision than a program can be given: test all members"
 }
 
-# Sets root to the workspace's folder, and changed to the paths that changed since the revision, each in quotes for the
-# shell and followed by a space.
-take_changed() {
+# Sets root to the workspace's folder.
+take_root() {
     find_cargo "cargo is not on the path"
     root=$(eval "\"\$cargo\" locate-project --workspace --message-format plain $manifest" < /dev/null) ||
         give_up_cargo "cargo finds no workspace" ""
     root=${root%/*}
     root=${root:-/}
+}
+
+# Sets changed to the paths that changed since the revision, each in quotes for the shell and followed by a space. Cargo has
+# been asked for the metadata by then, and may have written another Cargo.lock, which is one of them.
+take_changed() {
     tell "asking git what changed since $revision"
     command -v git > /dev/null || give_no_changes "git is not on the path"
     changed=$(print_changed < /dev/null) || give_no_changes "git does not say what changed since $revision"

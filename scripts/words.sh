@@ -143,17 +143,20 @@ answer() {
     case $sorted in *"left --paths-from /dev/fd/3"* | *" --cfgs /dev/fd/3"*) exec 3<&0 ;; esac
     [ "$metadata" = - ] || exec < /dev/null
     ! asks_for_help "$@" || run "$@"
-    root= changed=
+    root=
     if [ -n "$revision" ]; then
         [ "${1-}" = affected ] || refuse "--since goes with affected, as in: $name affected --since main"
-        take_changed
-        shift
-        eval "set -- affected $changed \"\$@\""
-        are_few "$@"
+        take_root
     fi
     ! refuses "$@" || run "$@"
     # Which members a change affects, and in which order they can be published, depends on optional dependencies too.
     case ${1-} in affected | publish-order) features=${features:---all-features} ;; esac
     take_metadata
+    if [ -n "$revision" ]; then
+        take_changed
+        shift
+        eval "set -- affected $changed \"\$@\""
+        are_few "$@"
+    fi
     run "$@"
 }

@@ -10,9 +10,10 @@ use Rattle.guppy.specs.Graph.{GraphData}
 use Rattle.guppy.specs.Iterators.{packages_of}
 use Rattle.guppy.specs.Members.{IsMember}
 use Rattle.guppy.specs.Query.{IsSetWhere}
-use Rattle.guppy_folders.specs.Folders.{Begins, IsLongest, HoldsNone}
-use Rattle.guppy_folders.specs.Touched.{IsOneOutside, AreLongest}
-use Rattle.guppy_affected.specs.Folders.{folder_at, Holds, Belongs, depth}
+use Rattle.guppy_folders.specs.Folders.{IsInside, LiesIn, IsLongest, HoldsNone, HoldsNoneBelow, HoldsOne}
+use Rattle.guppy_folders.specs.Touched.{IsOneOutside, AreLongest, AreCounted}
+use Rattle.guppy_folders.proofs.LongestFolders.{no_components}
+use Rattle.guppy_affected.specs.Folders.{folder_at, Holds, Belongs, IsHeldByRoot, depth}
 use Rattle.guppy_affected.specs.Found.{AreFolders}
 use Rattle.guppy_affected.specs.Changed.{IsForAll, AreChanged, HasFolderIn, IsAdded}
 use Rattle.guppy_affected.proofs.Iterators.{where_along}
@@ -62,15 +63,15 @@ module _ (graph : GraphData) (P : ℕ → Type 0) (set : List Bool) where
       rest = λ p h. ⊎_elim (λ k. inl k) (λ (b, there). ⊎_elim (λ same. absurd (has_not (subst P (sym same) h))) (λ later. inr (b, later)) (first_or_later b p there)) (are.rest p h);
     }
 
--- with one more package, where its folder is one of these
-module _ (g : GraphData) (folders : List (List Part)) (e : Bor GraphData × ℕ) (left : List (Bor GraphData × ℕ)) (set more : List Bool)
-    (picked : ArePicked g (HasFolderIn g.packages folders) (e ∷ left) set) (added : IsAdded e.0.now.packages folders e.1 set more) where
-  added_here : IsAdded g.packages folders e.1 set more
-  added_here = subst (λ (g : GraphData). IsAdded g.packages folders e.1 set more) (picked_graph g (HasFolderIn g.packages folders) set e left picked) added
+-- with one more package, where its folder is one of these or lies in one of the paths
+module _ (g : GraphData) (folders paths : List (List Part)) (e : Bor GraphData × ℕ) (left : List (Bor GraphData × ℕ)) (set more : List Bool)
+    (picked : ArePicked g (HasFolderIn g.packages folders paths) (e ∷ left) set) (added : IsAdded e.0.now.packages folders paths e.1 set more) where
+  added_here : IsAdded g.packages folders paths e.1 set more
+  added_here = subst (λ (g : GraphData). IsAdded g.packages folders paths e.1 set more) (picked_graph g (HasFolderIn g.packages folders paths) set e left picked) added
 
-  pub picked_added : ArePicked g (HasFolderIn g.packages folders) left more
-  picked_added = ⊎_elim (λ (has, count, both). picked_more g (HasFolderIn g.packages folders) set e left picked has more both)
-      (λ (has_not, same). subst (ArePicked g (HasFolderIn g.packages folders) left) (sym same) (picked_not g (HasFolderIn g.packages folders) set e left picked has_not)) added_here
+  pub picked_added : ArePicked g (HasFolderIn g.packages folders paths) left more
+  picked_added = ⊎_elim (λ (has, count, both). picked_more g (HasFolderIn g.packages folders paths) set e left picked has more both)
+      (λ (has_not, same). subst (ArePicked g (HasFolderIn g.packages folders paths) left) (sym same) (picked_not g (HasFolderIn g.packages folders paths) set e left picked has_not)) added_here
 
   pub count_added : length set ≡ length g.packages → length more ≡ length g.packages
   count_added count_is = ⊎_elim (λ (has, count, both). count) (λ (has_not, same). ap length same ∙ count_is) added_here
@@ -94,31 +95,40 @@ module _ (packages : List PackageRecord) (folders : List (List Part)) (are : Are
   depth_of : (p : ℕ) (own : List ℕ) → folder_at packages p ≡ Some own → depth packages p ≡ length (components own)
   depth_of p own is = rw is refl
 
-  holding : (path : List ℕ) (folder : List Part) → Contains folders folder → Begins folder (components path) → (p : ℕ) × Holds packages path p × (depth packages p ≡ length folder)
+  holding : (path : List ℕ) (folder : List Part) → Contains folders folder → IsInside folder (components path) → (p : ℕ) × Holds packages path p × (depth packages p ≡ length folder)
   holding path folder there begins =
       let of = (are folder).0 there in
       let own = with_own (λ own. components own ≡ folder) (folder_at packages of.0) of.1 in
-      (of.0, rw own.1 (subst (λ c. Begins c (components path)) (sym own.2) begins), rw own.1 (ap length own.2))
+      (of.0, rw own.1 (subst (λ c. IsInside c (components path)) (sym own.2) begins), rw own.1 (ap length own.2))
 
   -- none of the folders holds the path exactly where that of no package of this machine does
   none_holds : (path : List ℕ) → HoldsNone folders (components path) → (p : ℕ) → Holds packages path p → ⊥
   none_holds path none p holds =
-      let own = with_own (λ own. Begins (components own) (components path)) (folder_at packages p) holds in
+      let own = with_own (λ own. IsInside (components own) (components path)) (folder_at packages p) holds in
       none (components own.0) (own_is_one p own.0 own.1) own.2
+
+  -- only the workspace's own folder holds it exactly where only that of a package there does
+  root_holds : (path : List ℕ) → HoldsNoneBelow folders (components path) → IsHeldByRoot packages path
+  root_holds path none p holds =
+      let own = with_own (λ own. IsInside (components own) (components path)) (folder_at packages p) holds in
+      depth_of p own.0 own.1 ∙ ap length (none (components own.0) (own_is_one p own.0 own.1) own.2)
+
+  held_by_root : (path : List ℕ) → IsHeldByRoot packages path → HoldsNoneBelow folders (components path)
+  held_by_root path held folder there inside = let q = holding path folder there inside in no_components folder (let none = held q.0 q.1 in omega arith)
 
   -- the path belongs to the packages whose folder is the longest that holds it
   longest_belongs : (path : List ℕ) (p : ℕ) (own : List ℕ) → folder_at packages p ≡ Some own → IsLongest folders (components path) (components own) → Belongs packages path p
   longest_belongs path p own is longest = record {
     holds = rw is longest.holds;
     longest = λ q holds.
-        let other = with_own (λ own. Begins (components own) (components path)) (folder_at packages q) holds in
+        let other = with_own (λ own. IsInside (components own) (components path)) (folder_at packages q) holds in
         let less = longest.longest (components other.0) (own_is_one q other.0 other.1) other.2 in
         rw (is, other.1) less;
   }
 
   belongs_longest : (path : List ℕ) (p : ℕ) → Belongs packages path p → IsSomeAnd (folder_at packages p) (λ own. IsLongest folders (components path) (components own))
   belongs_longest path p belongs =
-      let own = with_own (λ own. Begins (components own) (components path)) (folder_at packages p) belongs.holds in
+      let own = with_own (λ own. IsInside (components own) (components path)) (folder_at packages p) belongs.holds in
       subst (λ o. IsSomeAnd o (λ own. IsLongest folders (components path) (components own))) (sym own.1) (record {
         is_one = own_is_one p own.0 own.1;
         holds = own.2;
@@ -132,26 +142,44 @@ module _ (packages : List PackageRecord) (folders : List (List Part)) (are : Are
 
   module _ (paths ignored : List (List ℕ)) where
     outside_all : IsOneOutside folders paths ignored → IsForAll packages paths ignored
-    outside_all (path, there, counts, outside) = (path, there, counts, ⊎_elim (λ of. inl of) (λ none. inr (none_holds path none)) outside)
+    outside_all (path, there, counts, outside) = (
+      path,
+      there,
+      counts,
+      ⊎_elim (λ of. inl of)
+          (λ apart. inr (⊎_elim (λ none. inl (none_holds path none)) (λ alone. inr (root_holds path alone.0, alone.1)) apart)) outside,
+    )
 
     all_outside : IsForAll packages paths ignored → IsOneOutside folders paths ignored
-    all_outside (path, there, counts, everyones) = (path, there, counts, ⊎_elim (λ of. inl of) (λ none. inr (λ folder is begins. let q = holding path folder is begins in none q.0 q.1)) everyones)
+    all_outside (path, there, counts, everyones) = (
+      path,
+      there,
+      counts,
+      ⊎_elim (λ of. inl of)
+          (λ apart. inr (⊎_elim (λ none. inl (λ folder is inside. let q = holding path folder is inside in none q.0 q.1)) (λ alone. inr (held_by_root path alone.0, alone.1)) apart)) everyones,
+    )
 
     -- where one of the paths is everyone's, the members changed
     pub changed_all : (set : List Bool) → IsOneOutside folders paths ignored → IsSetWhere packages (IsMember packages) set → AreChanged packages paths ignored set
     changed_all set outside where_members = inl (outside_all outside, where_members)
 
-    -- and else the packages with the longest folders
-    pub changed_some : (set : List Bool) (touched : List (List Part)) → AreLongest folders paths ignored touched → IsSetWhere packages (HasFolderIn packages touched) set → AreChanged packages paths ignored set
-    changed_some set touched longest where_in = inr (
+    -- and else the packages with the longest folders, and those whose folders lie in the paths
+    pub changed_some : (set : List Bool) (touched counted : List (List Part)) → AreLongest folders paths ignored touched → AreCounted paths ignored counted → IsSetWhere packages (HasFolderIn packages touched counted) set → AreChanged packages paths ignored set
+    changed_some set touched counted longest those where_in = inr (
       λ all. longest.inside (all_outside all),
       where_along packages set (λ p. (
         λ has.
-            let own = with_own (λ own. Contains touched (components own)) (folder_at packages p) has in
-            let one = (longest.longest (components own.0)).0 own.2 in
-            (one.0, one.1, one.2, longest_belongs one.0 p own.0 own.1 one.3),
-        λ (path, there, counts, belongs).
+            let own = with_own (λ own. Contains touched (components own) ⊎ HoldsOne counted (components own)) (folder_at packages p) has in
+            ⊎_elim (λ there. let one = (longest.longest (components own.0)).0 there in (one.0, one.1, one.2, inl (longest_belongs one.0 p own.0 own.1 one.3)))
+            (λ (list, there, inside). let one = (those list).0 there in
+            (one.0, one.1, one.2, inr (rw own.1 (subst (λ (l : List Part). IsInside l (components own.0)) (sym one.3) inside)))) own.2,
+        λ (path, there, counts, changes). ⊎_elim
+            (λ belongs.
             let own = with_own (λ own. IsLongest folders (components path) (components own)) (folder_at packages p) (belongs_longest path p belongs) in
-            rw own.1 ((longest.longest (components own.0)).1 (path, there, counts, own.2)),
+            rw own.1 (inl ((longest.longest (components own.0)).1 (path, there, counts, own.2))))
+            (λ below.
+            let own = with_own (λ own. LiesIn path own) (folder_at packages p) below in
+            rw own.1 (inr (components path, (those (components path)).1 (path, there, counts, refl), own.2)))
+            changes,
       )) where_in,
     )

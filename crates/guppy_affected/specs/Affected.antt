@@ -10,12 +10,14 @@ use Rattle.guppy.specs.Members.{IsMember}
 use Rattle.guppy.specs.Ordered.{FirmStep}
 use Rattle.guppy.specs.Query.{SetData}
 use Rattle.guppy.specs.Reach.{LinkStep, Walk}
-use Rattle.guppy_affected.specs.Folders.{Holds, Belongs}
-pub use Rattle.guppy_folders.specs.Touched.{IsIgnored, OfOne, IsPath, IsOfWorkspace}
+use Rattle.guppy_affected.specs.Folders.{Holds, IsHeldByRoot, Changes}
+pub use Rattle.guppy_folders.specs.Touched.{IsIgnored, OfOne, IsPath, IsOfWorkspace, IsOfRootsTargets}
 
--- the path is everyone's: it is of the workspace, or no folder of a package of this machine holds it
+-- the path is everyone's: it is of the workspace, or no folder of a package of this machine holds it, or only
+-- the workspace's own does, and there it isn't where Cargo looks for that package's targets
 abbrev pub IsEveryones : List PackageRecord → List ℕ → Type 0
-IsEveryones packages path = IsOfWorkspace path ⊎ ((p : ℕ) → ¬ Holds packages path p)
+IsEveryones packages path = IsOfWorkspace path ⊎ (((p : ℕ) → ¬ Holds packages path p)
+    ⊎ (IsHeldByRoot packages path × (¬ IsOfRootsTargets path)))
 
 -- the one package is the other, or a link of any kind leads from it to a package from which a walk over
 -- links that aren't dev-only leads to the other: its tests may be built from the other
@@ -23,11 +25,11 @@ abbrev pub IsTestedWith : GraphData → ℕ → ℕ → Type 0
 IsTestedWith g p q = (p ≡ q)
     ⊎ ((r : ℕ) × LinkStep Forward g.links p r × Walk (FirmStep g.links) r q)
 
--- a change at the path is one to the package at the position: the path is everyone's, or belongs to a
--- package that it is tested with
+-- a change at the path is one to the package at the position: the path is everyone's, or the change is one of
+-- a package that it is tested with
 abbrev pub Affects : GraphData → List ℕ → ℕ → Type 0
 Affects g path p = IsEveryones g.packages path
-    ⊎ ((q : ℕ) × Belongs g.packages path q × IsTestedWith g p q)
+    ⊎ ((q : ℕ) × Changes g.packages path q × IsTestedWith g p q)
 
 -- the package at the position is a member, and one of the paths that aren't to be left out affects it
 abbrev pub IsAffected : GraphData → List (List ℕ) → List (List ℕ) → ℕ → Type 0

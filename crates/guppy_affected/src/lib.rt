@@ -57,19 +57,26 @@ fn affected_set<'g>(
 /// The IDs of the workspace's members to test when the files at `paths` changed: each once, its
 /// dependencies first, as [`package_ids`](PackageSet::package_ids) lists them in reverse.
 ///
-/// A path is relative to the workspace's root. One that lies in a folder of `ignored` counts for nothing.
+/// A path is relative to the workspace's root. A folder holds those that begin with its components, where
+/// names alone stand behind them. A path that a folder of `ignored` holds counts for nothing.
+///
 /// Any other belongs to the package of this machine, a member or one that comes from a path, with the
-/// longest folder that holds it, component by component: where packages have one folder, to each of these.
-/// It affects the members that are tested with the package: the package itself, and those from which a
-/// link of any kind leads to a package from which links that aren't dev-only lead to it, since a package's
-/// dev-dependencies are built for its own tests alone. A path that no such folder holds affects all
-/// members, and so do the workspace's own `Cargo.toml`, `Cargo.lock`, `rust-toolchain` and
-/// `rust-toolchain.toml`, and what lies in its `.cargo`.
+/// longest folder that holds it: where packages have one folder, to each of these. It is a change of this
+/// package, and of each whose own folder it holds, as a submodule does, which git tells as one path. It
+/// affects the members that are tested with these: the packages themselves, and those from which a link of
+/// any kind leads to a package from which links that aren't dev-only lead to one, since a package's
+/// dev-dependencies are built for its own tests alone.
+///
+/// All members are affected by a path that no such folder holds, as `../x`, or only that of a package at the
+/// workspace's root, but for `build.rs` and what lies in `src`, `tests`, `examples` and `benches`; and by
+/// the workspace's own `Cargo.toml`, `Cargo.lock`, `rust-toolchain` and `rust-toolchain.toml`, and what
+/// lies in its `.cargo`.
 ///
 /// `OutOfMemory` comes where a growth was refused, and no other error. Time grows with the packages and
 /// links, times the logarithm of the packages; with each path, times the folders to leave out, and times
-/// its components and the logarithm of the packages; and with each package that a path belongs to, times
-/// the packages, 64 to a step. Takes memory for the components of each folder, and some numbers a package.
+/// its components and the logarithm of the packages; with each package, times its folder's components and
+/// the logarithm of the paths; and with each package that changed, times the packages, 64 to a step. Takes
+/// memory for the components of each folder and path, and some numbers a package.
 pub fn affected<'g>(
     graph: &'g PackageGraph,
     paths: &[String],

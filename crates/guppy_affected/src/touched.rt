@@ -1,66 +1,84 @@
 //! The packages that changed.
-ghost use Rattle.std.specs.Prelude.{◌≡◌, ◌↔◌, IsTrue, map, string_bytes, IfOk, IsOkUnless};
+ghost use Rattle.std.specs.Prelude.{◌≡◌, ◌⊎◌, ◌↔◌, IsTrue, map, string_bytes, Contains, IfOk, IsOkUnless};
+ghost use Rattle.guppy.specs.Path.{components};
+ghost use Rattle.guppy.specs.Utf8Path.{path_text};
 ghost use Rattle.guppy.specs.Query.{IsSetWhere};
 ghost use Rattle.guppy.specs.Views.{graph_of, graph_packages, package_position};
-ghost use Rattle.guppy_folders.specs.Folders.{lists_in};
+ghost use Rattle.guppy_folders.specs.Folders.{lists_in, HoldsOne};
 ghost use Rattle.guppy_affected.specs.Changed.{AreChanged, HasFolderIn, IsAdded};
 
 use crate::folders::{all_folders, folder_of};
-use guppy::{Component, Error, PackageGraph, PackageMetadata, PackageSet, SortedSet};
-use guppy_folders::{is_one_of, touched_folders};
-use std::alloc::AllocError;
+use guppy::{Component, Error, PackageGraph, PackageMetadata, PackageSet, SortedSet, Utf8Path};
+use guppy_folders::{counted_paths, is_one_of, lies_in_one, touched_folders};
+use std::alloc::{AllocError, Global};
 
-// Whether the package's folder is one of these.
+// Whether the folder is one of these, or lies in one of the paths.
+fn is_in<'a>(
+    folder: Utf8Path<'a>,
+    folders: &SortedSet<Vec<Component<'a>>>,
+    paths: &SortedSet<Vec<Component<'a>>>,
+    alloc: Global,
+) -> Result<bool, AllocError>
+    ensures { IfOk result (λ is. IsTrue is ↔ (Contains (lists_in folders.now) (components (path_text folder.entry))
+        ⊎ HoldsOne (lists_in paths.now) (components (path_text folder.entry)))) }
+{
+    Ok(is_one_of(folders, alloc, folder)? || lies_in_one(paths, alloc, folder)?)
+}
+
+// Whether the package's folder is one of these, or lies in one of the paths.
 fn has_folder_in<'a>(
     metadata: PackageMetadata<'a>,
     folders: &SortedSet<Vec<Component<'a>>>,
+    paths: &SortedSet<Vec<Component<'a>>>,
 ) -> Result<bool, AllocError>
     ensures { IfOk result (λ has. IsTrue has ↔ HasFolderIn (graph_packages metadata.entry)
-        (lists_in folders.now) (package_position metadata.entry)) }
+        (lists_in folders.now) (lists_in paths.now) (package_position metadata.entry)) }
 {
     match folder_of(metadata) {
-        Some(folder) => is_one_of(folders, metadata.graph().alloc(), folder),
+        Some(folder) => is_in(folder, folders, paths, metadata.graph().alloc()),
         None => Ok(false),
     }
 }
 
-// Adds the package to the set, where its folder is one of these.
+// Adds the package to the set, where its folder is one of these, or lies in one of the paths.
 fn add_if_in<'g>(
     set: &mut PackageSet<'g>,
     folders: &SortedSet<Vec<Component<'_>>>,
+    paths: &SortedSet<Vec<Component<'_>>>,
     metadata: PackageMetadata<'g>,
 ) -> Result<(), Error>
     requires same_graph { set.old.graph ≡ (graph_of metadata).now }
     ensures graph { IfOk result (λ _. set.new.graph ≡ set.old.graph) }
     ensures added { IfOk result (λ _. IsAdded (graph_packages metadata.entry) (lists_in folders.now)
-        (package_position metadata.entry) set.old.included set.new.included) }
+        (lists_in paths.now) (package_position metadata.entry) set.old.included set.new.included) }
     ensures error { IsOkUnless result Error.OutOfMemory }
 {
-    if has_folder_in(metadata, &*folders)? {
+    if has_folder_in(metadata, &*folders, &*paths)? {
         *set = set.union(&metadata.to_package_set()?)?;
     }
     Ok(())
 }
 
-// The packages whose folders are these.
+// The packages whose folders are these, or lie in the paths.
 fn packages_in<'g>(
     graph: &'g PackageGraph,
     folders: &SortedSet<Vec<Component<'_>>>,
+    paths: &SortedSet<Vec<Component<'_>>>,
 ) -> Result<PackageSet<'g>, Error>
     ensures graph { IfOk result (λ set. set.graph ≡ graph.now) }
     ensures members { IfOk result (λ set. IsSetWhere graph.now.packages
-        (HasFolderIn graph.now.packages (lists_in folders.now)) set.included) }
+        (HasFolderIn graph.now.packages (lists_in folders.now) (lists_in paths.now)) set.included) }
     ensures error { IsOkUnless result Error.OutOfMemory }
 {
     let mut all = graph.resolve_none()?;
     for package in graph.packages() {
-        add_if_in(&mut all, folders, package)?;
+        add_if_in(&mut all, folders, paths, package)?;
     }
     Ok(all)
 }
 
 // The packages that changes of the files at the paths touch: all members where one of the paths is
-// everyone's, and else the packages that the paths belong to.
+// everyone's, and else the packages that the paths belong to, and those whose folders lie in them.
 pub(crate) fn changed_packages<'g>(
     graph: &'g PackageGraph,
     paths: &[String],
@@ -73,7 +91,10 @@ pub(crate) fn changed_packages<'g>(
 {
     let folders = all_folders(graph)?;
     match touched_folders(graph.alloc(), &folders, paths, ignored)? {
-        Some(touched) => packages_in(graph, &touched),
+        Some(touched) => {
+            let counted = counted_paths(graph.alloc(), paths, ignored)?;
+            packages_in(graph, &touched, &counted)
+        }
         None => graph.resolve_workspace(),
     }
 }

@@ -1,4 +1,5 @@
 pub mod Elements
+pub mod LastNames
 pub mod Prefixes
 pub mod Sets
 pub mod SamePaths

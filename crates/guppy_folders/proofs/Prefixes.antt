@@ -1,8 +1,9 @@
--- When a list of components begins another, component by component.
+-- When a path is inside a folder, component by component.
 use Rattle.std.proofs.Common.{◌≡◌, refl, sym, ap, true, false, List, [], ◌∷◌, None, Some}
-use Rattle.std.specs.Prelude.{◌↔◌, Option}
+use Rattle.std.specs.Prelude.{◌↔◌, Option, All}
 use Rattle.std.specs.Option.{option_eq}
 use Rattle.std.specs.Iterator.{YieldsFirstBy}
+use Rattle.std.proofs.lemmas.List.Elements.{All-same}
 use Rattle.std.proofs.lemmas.Slice.Eq.{bytes_eq-Decides}
 use Rattle.guppy_data.specs.Path.{Part}
 use Rattle.guppy_data.specs.Component.{part_shown, parts_left}
@@ -10,22 +11,21 @@ use Rattle.guppy_data.specs.contracts.texts.component.ComponentPartialEq.TheImpl
 use Rattle.guppy_data.specs.declared.texts.component.Component.{Component}
 use Rattle.guppy_data.specs.declared.texts.component.Component.TheVariants.{RootDir, CurDir, ParentDir, Normal}
 use Rattle.guppy_data.specs.declared.texts.component.Components.{Components}
-use Rattle.guppy_folders.specs.Folders.{Begins}
+use Rattle.guppy_folders.specs.Folders.{IsName, IsInside}
 
-module _ {X : Type 0} where
-  -- the empty list begins every list
-  pub Begins-empty : (ys : List X) → Begins [] ys
-  Begins-empty ys = (ys, refl)
+-- nothing in front of it: names alone
+pub Inside-nothing : (path : List Part) → IsInside [] path ↔ All IsName path
+Inside-nothing path = (λ (rest, names, is). All-same IsName path rest is names, λ names. (path, names, refl))
 
-  -- with one more in front of both
-  pub Begins-more : (x : X) (xs ys : List X) → Begins xs ys ↔ Begins (x ∷ xs) (x ∷ ys)
-  Begins-more x xs ys = (λ (rest, is). (rest, ap (λ l. x ∷ l) is), λ (rest, is). (rest, (cc)))
+-- with one more in front of both
+Inside-more : (x : Part) (xs ys : List Part) → IsInside xs ys ↔ IsInside (x ∷ xs) (x ∷ ys)
+Inside-more x xs ys = (λ (rest, names, is). (rest, names, ap (λ l. x ∷ l) is), λ (rest, names, is). (rest, names, (cc)))
 
-  Begins-over : (x : X) (xs : List X) → Begins (x ∷ xs) [] → ⊥
-  Begins-over x xs (rest, is) = absurd (cc)
+Inside-over : (x : Part) (xs : List Part) → IsInside (x ∷ xs) [] → ⊥
+Inside-over x xs (rest, names, is) = absurd (cc)
 
-  Begins-first : (x y : X) (xs ys : List X) → Begins (x ∷ xs) (y ∷ ys) → x ≡ y
-  Begins-first x y xs ys (rest, is) = cc
+Inside-first : (x y : Part) (xs ys : List Part) → IsInside (x ∷ xs) (y ∷ ys) → x ≡ y
+Inside-first x y xs ys (rest, names, is) = cc
 
 -- components that are equal show the same
 pub equal_shown : (a b : Component) → eq-value.it a b ≡ true → part_shown a ≡ part_shown b
@@ -45,17 +45,17 @@ shown_equal a b h = absurd (cc)
 module _ (part : Component) (rest after : Components) (front behind : List Part) where
   -- the component stands next, so the rest behind it decides
   pub next_same : (next : Option Component) → YieldsFirstBy part_shown parts_left rest next after → option_eq eq-value.it next (Some part) ≡ true
-      → front ≡ part_shown part ∷ behind → Begins front (parts_left rest) ↔ Begins behind (parts_left after)
+      → front ≡ part_shown part ∷ behind → IsInside front (parts_left rest) ↔ IsInside behind (parts_left after)
   next_same None step same is = absurd (cc)
   next_same (Some other) step same is =
       let first : part_shown other ≡ part_shown part = equal_shown other part same in
-      rw (is, step, first) (let more = Begins-more (part_shown part) behind (parts_left after) in (more.1, more.0))
+      rw (is, step, first) (let more = Inside-more (part_shown part) behind (parts_left after) in (more.1, more.0))
 
   -- another one stands next, or none
   pub next_other : (next : Option Component) → YieldsFirstBy part_shown parts_left rest next after → option_eq eq-value.it next (Some part) ≡ false
-      → front ≡ part_shown part ∷ behind → Begins front (parts_left rest) → ⊥
-  next_other None step other is begins = Begins-over (part_shown part) behind (rw (is, step.0) at begins)
+      → front ≡ part_shown part ∷ behind → IsInside front (parts_left rest) → ⊥
+  next_other None step other is begins = Inside-over (part_shown part) behind (rw (is, step.0) at begins)
   next_other (Some there) step other is begins =
-      let first : part_shown part ≡ part_shown there = Begins-first _ _ _ _ (rw (is, step) at begins) in
+      let first : part_shown part ≡ part_shown there = Inside-first _ _ _ _ (rw (is, step) at begins) in
       let same : eq-value.it there part ≡ true = shown_equal there part (sym first) in
       absurd (cc)

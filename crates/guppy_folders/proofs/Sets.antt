@@ -1,19 +1,20 @@
 -- Sets of folders as lists of components, and prefixes of a path.
-use Rattle.std.proofs.Common.{◌≡◌, ◌∙◌, ⊎_elim, refl, sym, ap, subst, ℕ, zero, suc, ◌<◌, ◌≤◌, Bool, true, false, ◌&&◌, List, [], ◌∷◌, ◌++◌, length, map, Contains, arith, append_assoc}
-use Rattle.std.specs.Prelude.{◌↔◌, Option, is_some, IsSome, None, Some}
-use Rattle.std.specs.Option.{option_to_list}
+use Rattle.std.proofs.Common.{◌≡◌, ◌∙◌, ⊎_elim, refl, sym, ap, subst, ℕ, ◌<◌, ◌≤◌, Bool, true, false, ◌&&◌, List, [], ◌∷◌, ◌++◌, length, map, Contains, arith, append_assoc}
+use Rattle.std.specs.Prelude.{◌↔◌}
 use Rattle.std.specs.List.{Any}
 use Rattle.std.specs.Cmp.Lexicographic.{pointwise}
 use Rattle.std.specs.declared.vec.Vec.{Vec}
 use Rattle.std.specs.declared.alloc.Global.{Global}
 use Rattle.std.proofs.lemmas.Bool.{cases_lt}
 use Rattle.std.proofs.lemmas.List.{append-nil, length-append}
+use Rattle.std.proofs.lemmas.List.Elements.{All-nil}
 use Rattle.guppy_data.specs.Path.{Part}
 use Rattle.guppy_data.specs.Component.{part_shown}
 use Rattle.guppy_data.specs.Sorted.{KeepsUpTo}
 use Rattle.guppy_data.specs.contracts.texts.component.ComponentPartialEq.TheImpl.{eq-value}
 use Rattle.guppy_data.specs.declared.texts.component.Component.{Component}
-use Rattle.guppy_folders.specs.Folders.{Begins, lists_in}
+use Rattle.guppy_folders.specs.Folders.{IsName, IsInside, EndsInNoName, lists_in}
+use Rattle.guppy_folders.proofs.LastNames.{All-more, last_of, last_is_name}
 use Rattle.guppy_folders.proofs.Prefixes.{equal_shown, shown_equal}
 use Rattle.guppy_folders.proofs.Elements.{Contains-map, from_map}
 
@@ -62,43 +63,41 @@ set_made items set kept c = (
       subst (λ c. Contains (lists_in set) c) (sym (parts_same one.0.items other.1.items other.4) ∙ one.2) (Contains-map (λ (l : Vec Component Global). map part_shown l.items) set other.1 (other.0, other.2, other.3)),
 )
 
-module _ {X : Type 0} where
-  pub Begins-itself : (xs : List X) → Begins xs xs
-  Begins-itself xs = ([], sym (append-nil xs))
+pub Inside-itself : (xs : List Part) → IsInside xs xs
+Inside-itself xs = ([], All-nil IsName, sym (append-nil xs))
 
-  pub Begins-shorter : (xs ys whole : List X) → Begins (xs ++ ys) whole → Begins xs whole
-  Begins-shorter xs ys whole (rest, is) = (ys ++ rest, is ∙ append_assoc xs ys rest)
+-- a folder from which a name is left out
+pub Inside-shorter : (xs : List Part) (x : Part) (whole : List Part) → IsName x → IsInside (xs ++ x ∷ []) whole → IsInside xs whole
+Inside-shorter xs x whole name (rest, names, is) = (x ∷ rest, All-more IsName x rest name names, is ∙ append_assoc xs (x ∷ []) rest)
 
-  pub Begins-length : (xs whole : List X) → Begins xs whole → length xs ≤ length whole
-  Begins-length xs whole (rest, is) = let long = ap length is ∙ length-append xs rest in omega arith
+pub Inside-length : (xs whole : List Part) → IsInside xs whole → length xs ≤ length whole
+Inside-length xs whole (rest, names, is) = let long = ap length is ∙ length-append xs rest in omega arith
 
-  -- two prefixes of a list that are as long are the same
-  pub same_prefix : (whole xs ys : List X) → Begins xs whole → Begins ys whole → length xs ≡ length ys → xs ≡ ys
-  same_prefix whole [] [] b d long = refl
-  same_prefix whole [] (y ∷ ys) b d long = absurd (omega arith)
-  same_prefix whole (x ∷ xs) [] b d long = absurd (omega arith)
-  same_prefix whole (x ∷ xs) (y ∷ ys) (rest, is) (other, is_also) long =
-      let both : x ∷ (xs ++ rest) ≡ y ∷ (ys ++ other) = sym is ∙ is_also in
-      let first : x ≡ y = cc in
-      let behind : xs ++ rest ≡ ys ++ other = cc in
-      let later : xs ≡ ys = same_prefix (xs ++ rest) xs ys (rest, refl) (other, behind) (omega arith) in
-      cc
+-- two folders of a path that are as long are the same
+pub same_prefix : (whole xs ys : List Part) → IsInside xs whole → IsInside ys whole → length xs ≡ length ys → xs ≡ ys
+same_prefix whole [] [] b d long = refl
+same_prefix whole [] (y ∷ ys) b d long = absurd (omega arith)
+same_prefix whole (x ∷ xs) [] b d long = absurd (omega arith)
+same_prefix whole (x ∷ xs) (y ∷ ys) (rest, names, is) (other, others, is_also) long =
+    let both : x ∷ (xs ++ rest) ≡ y ∷ (ys ++ other) = sym is ∙ is_also in
+    let first : x ≡ y = cc in
+    let behind : xs ++ rest ≡ ys ++ other = cc in
+    let later : xs ≡ ys = same_prefix (xs ++ rest) xs ys (rest, names, refl) (other, others, behind) (omega arith) in
+    cc
 
-  -- of the lists that begin the whole, none is longer than this one
-  abbrev pub NoLonger : List (List X) → List X → ℕ → Type 0
-  NoLonger lists whole n = (other : List X) → Contains lists other → Begins other whole → length other ≤ n
+-- of the folders that hold the path, none is longer than this number
+abbrev pub NoLonger : List (List Part) → List Part → ℕ → Type 0
+NoLonger lists whole n = (other : List Part) → Contains lists other → IsInside other whole → length other ≤ n
 
-  -- where one is none of the lists, those that begin the whole are shorter
-  pub shorter_than : (lists : List (List X)) (whole xs : List X) → Begins xs whole → NoLonger lists whole (length xs) → (Contains lists xs → ⊥) → (other : List X) → Contains lists other → Begins other whole → length other < length xs
-  shorter_than lists whole xs begins longest missing other there also =
-      ⊎_elim (λ less. less) (λ long. absurd (missing (subst (Contains lists) (same_prefix whole other xs also begins (let most = longest other there also in omega arith)) there))) (cases_lt (length other) (length xs))
+-- where one is none of the folders, those that hold the path are shorter
+pub shorter_than : (lists : List (List Part)) (whole xs : List Part) → IsInside xs whole → NoLonger lists whole (length xs) → (Contains lists xs → ⊥) → (other : List Part) → Contains lists other → IsInside other whole → length other < length xs
+shorter_than lists whole xs inside longest missing other there also =
+    ⊎_elim (λ less. less) (λ long. absurd (missing (subst (Contains lists) (same_prefix whole other xs also inside (let most = longest other there also in omega arith)) there))) (cases_lt (length other) (length xs))
 
--- what a pop took from a list
-pub popped_one : (popped : Option Component) → is_some popped ≡ true → length (map part_shown (option_to_list popped)) ≡ 1
-popped_one None h = absurd (cc)
-popped_one (Some part) h = refl
-
-pub popped_none : (popped : Option Component) (n : ℕ) → (IsSome popped ↔ (0 < n)) → is_some popped ≡ false → n ≡ 0
-popped_none None zero variant h = refl
-popped_none None (suc n) variant h = let some = variant.1 (omega arith) in absurd (cc)
-popped_none (Some part) n variant h = absurd (cc)
+-- where the last component is no name, no shorter folder holds the path
+pub none_shorter : (whole xs : List Part) → IsInside xs whole → EndsInNoName xs → (other : List Part) → IsInside other whole → length other < length xs → ⊥
+none_shorter whole xs (rest, names, is) ends other (behind, others, is_also) less =
+    let last = last_of xs (omega arith) in
+    let long = ap length last.2 ∙ length-append last.0 (last.1 ∷ []) in
+    let both : (last.0 ++ last.1 ∷ []) ++ rest ≡ other ++ behind = ap (λ (l : List Part). l ++ rest) (sym last.2) ∙ (sym is ∙ is_also) in
+    ends last.0 last.1 last.2 (last_is_name last.0 last.1 rest other behind both (omega arith) others)

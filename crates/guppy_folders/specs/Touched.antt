@@ -4,7 +4,7 @@ use Rattle.std.specs.declared.vec.Vec.{Vec}
 use Rattle.std.specs.declared.alloc.Global.{Global}
 use Rattle.guppy_data.specs.Path.{Part, components}
 use Rattle.guppy_data.specs.declared.texts.component.Component.{Component}
-use Rattle.guppy_folders.specs.Folders.{LiesIn, lists_in, HoldsNone, IsLongest}
+use Rattle.guppy_folders.specs.Folders.{LiesIn, lists_in, HoldsNone, HoldsNoneBelow, IsLongest}
 
 -- one of the folders to leave out holds the path
 abbrev pub IsIgnored : List (List ℕ) → List ℕ → Type 0
@@ -25,10 +25,26 @@ IsOfWorkspace path = IsPath (codes "Cargo.toml") path ⊎ (IsPath (codes "Cargo.
     ⊎ (IsPath (codes "rust-toolchain") path ⊎ (IsPath (codes "rust-toolchain.toml") path
     ⊎ LiesIn (codes ".cargo") path)))
 
--- one of the paths is of the workspace, or none of the folders holds it
+-- the path is where Cargo by itself looks for the tests, examples and benchmarks of a package at the workspace's
+-- root
+abbrev pub IsOfRootsTests : List ℕ → Type 0
+IsOfRootsTests path = LiesIn (codes "tests") path
+    ⊎ (LiesIn (codes "examples") path ⊎ LiesIn (codes "benches") path)
+
+-- the path is where Cargo by itself looks for the targets of a package at the workspace's root
+abbrev pub IsOfRootsTargets : List ℕ → Type 0
+IsOfRootsTargets path = IsPath (codes "build.rs") path
+    ⊎ (LiesIn (codes "src") path ⊎ IsOfRootsTests path)
+
+-- the path is of the workspace, or none of the folders holds it, or only the workspace's own, outside of where
+-- Cargo looks for targets
+abbrev pub IsOutside : List (List Part) → List ℕ → Type 0
+IsOutside folders path = IsOfWorkspace path ⊎ (HoldsNone folders (components path)
+    ⊎ (HoldsNoneBelow folders (components path) × (¬ IsOfRootsTargets path)))
+
+-- one of the paths is outside of the folders
 abbrev pub IsOneOutside : List (List Part) → List (List ℕ) → List (List ℕ) → Type 0
-IsOneOutside folders paths ignored =
-    OfOne paths ignored (λ path. IsOfWorkspace path ⊎ HoldsNone folders (components path))
+IsOneOutside folders paths ignored = OfOne paths ignored (IsOutside folders)
 
 -- the folder is the longest that holds one of the paths
 abbrev pub IsLongestOfOne : List (List Part) → List (List ℕ) → List (List ℕ) → List Part → Type 0
@@ -47,3 +63,8 @@ abbrev pub AreTouchedFolders : List (List Part) → List (List ℕ) → List (Li
     → Option (List (Vec Component Global)) → Type 0
 AreTouchedFolders folders paths ignored found = MatchOption found
     (IsOneOutside folders paths ignored) (λ set. AreLongest folders paths ignored (lists_in set))
+
+-- exactly the paths that count, each as the list of its components
+abbrev pub AreCounted : List (List ℕ) → List (List ℕ) → List (List Part) → Type 0
+AreCounted paths ignored lists = (list : List Part)
+    → Contains lists list ↔ OfOne paths ignored (λ path. components path ≡ list)

@@ -3,12 +3,14 @@ ghost use Rattle.std.specs.Prelude.{◌≡◌, ◌↔◌, IsTrue, [], ◌∷◌,
 ghost use Rattle.guppy_data.specs.Path.{components};
 ghost use Rattle.guppy_data.specs.Component.{part_shown};
 ghost use Rattle.guppy_data.specs.Utf8Path.{path_text};
-ghost use Rattle.guppy_folders.specs.Folders.{LiesIn, lists_in, IsLongest, HoldsNone};
+ghost use Rattle.guppy_folders.specs.Folders.{LiesIn, lists_in, IsLongest, HoldsNone, HoldsOne};
 
+use crate::names::{are_names, pop_name};
 use guppy_data::{Component, SortedSet, Utf8Path};
 use std::alloc::{AllocError, Global};
 
-/// Whether the path lies in the folder: whether the folder's components begin the path's.
+/// Whether the path is the folder or lies in it: whether the folder's components begin the path's, and names alone
+/// stand behind them.
 pub(crate) fn lies_in(path: Utf8Path<'_>, folder: Utf8Path<'_>) -> bool
     ensures { IsTrue result ↔ LiesIn (path_text folder.entry) (path_text path.entry) }
 {
@@ -18,7 +20,7 @@ pub(crate) fn lies_in(path: Utf8Path<'_>, folder: Utf8Path<'_>) -> bool
             return false;
         }
     }
-    true
+    are_names(rest)
 }
 
 /// The components of the path.
@@ -61,7 +63,7 @@ pub fn is_one_of<'a>(
 }
 
 /// The longest of the folders that holds the path, or `None` where none does. The path's own folder is
-/// looked up first, and then those that it lies in, from the longest on.
+/// looked up first, and then those that it lies in, from the longest on, as long as names are left out.
 pub(crate) fn longest<'a>(
     alloc: Global,
     folders: &SortedSet<Vec<Component<'a>>>,
@@ -77,8 +79,23 @@ pub(crate) fn longest<'a>(
         if folders.contains(&folder) {
             return Ok(Some(folder));
         }
-        if folder.pop().is_none() {
+        if !pop_name(&mut folder) {
             return Ok(None);
         }
     }
+}
+
+/// Whether one of the folders holds this one, or is it; or that memory ran out.
+///
+/// Takes memory for the folder's components, and each folder that it lies in is compared with as many of `folders` as the
+/// logarithm of their number.
+pub fn lies_in_one<'a>(
+    folders: &SortedSet<Vec<Component<'a>>>,
+    alloc: Global,
+    folder: Utf8Path<'a>,
+) -> Result<bool, AllocError>
+    ensures { IfOk result (λ lies. IsTrue lies
+        ↔ HoldsOne (lists_in folders.now) (components (path_text folder.entry))) }
+{
+    Ok(longest(alloc, folders, folder)?.is_some())
 }

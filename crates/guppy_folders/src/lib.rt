@@ -2,12 +2,14 @@
 //!
 //! The modules, from the bottom up:
 //!
+//! - `names`: components that are names;
 //! - `folders`: when a folder holds a path, and the longest of several that does;
-//! - `touched`: the longest folders that hold some of many paths.
+//! - `touched`: the longest folders that hold some of many paths, and the paths that count.
 #![tactic(auto)]
 
 mod folders;
+mod names;
 mod touched;
 
-pub use folders::{add_folder, is_one_of};
-pub use touched::touched_folders;
+pub use folders::{add_folder, is_one_of, lies_in_one};
+pub use touched::{counted_paths, touched_folders};

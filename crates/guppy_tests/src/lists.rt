@@ -179,25 +179,64 @@ packages_of_this_machine_have_folders | @base @app $base/shared $../near %far: a
 packages_with_one_folder_share_its_paths | @app @other $shared $shared/.: app>shared other>shared/.
     sorted affected shared/x = app other
 
-a_member_at_the_root_holds_what_no_other_does | root=root@ @base: root>base
+a_member_at_the_root_holds_what_its_targets_are_made_of | root=root@ @base @other: root>base
     affected src/lib.rs = root
-    affected elsewhere/x = root
+    affected src = root
+    affected src/bin/x.rs = root
+    affected tests/x = root
+    affected examples/x benches/x = root
+    affected build.rs = root
     affected base/Cargo.toml = base root
-    affected Cargo.toml = base root
-    affected Cargo.lock = base root
-    affected rust-toolchain = base root
-    affected rust-toolchain.toml = base root
-    affected .cargo/config.toml = base root
-    affected .cargo = base root
-    affected rust-toolchain.md = root
-    affected .cargo.toml = root
+    affected other/src/lib.rs = other
+    sorted affected elsewhere/lib.rs = base other root
+    sorted affected elsewhere/src/lib.rs = base other root
+    sorted affected srcs/lib.rs = base other root
+    sorted affected build.rs.txt = base other root
+    sorted affected Cargo.toml = base other root
+    sorted affected Cargo.lock = base other root
+    sorted affected rust-toolchain = base other root
+    sorted affected rust-toolchain.toml = base other root
+    sorted affected .cargo/config.toml = base other root
+    sorted affected .cargo = base other root
+    sorted affected rust-toolchain.md = base other root
+    sorted affected .cargo.toml = base other root
+
+folders_hold_names_alone | root=root@ @base @other: root>base
+    sorted affected ../src/lib.rs = base other root
+    sorted affected .. = base other root
+    sorted affected /src/lib.rs = base other root
+    sorted affected / = base other root
+    sorted affected ./src/lib.rs = base other root
+    sorted affected src/../proto/x = base other root
+    sorted affected other/../base/x = base other root
+    sorted affected other/src/../../base/x = base other root
+    affected other/./x = other
+    sorted affected-but src src/../x = base other root
+    sorted affected-but docs ../docs/x = base other root
+    affected-but ../docs ../docs/x = nothing
+
+a_path_changes_the_packages_below_it | root=root@ @a @a/in @a/in/most @a-in @user $src/vendor/x $outside/y: user>src/vendor/x \
+    a-in>outside/y
+    sorted affected a = a a/in a/in/most
+    sorted affected a/ = a a/in a/in/most
+    sorted affected a/in = a/in a/in/most
+    affected a/i = a
+    affected a/in/mos = a/in
+    affected src/vendor/x/y = user
+    affected src/vendor/x = user
+    sorted affected src/vendor = root user
+    sorted affected src = root user
+    affected src/vend = root
+    affected-but src/vendor src/vendor a/in/most = a/in/most
+    sorted affected outside = a a-in a/in a/in/most root user
+    affected outside/y = a-in
 
 paths_to_leave_out_affect_nothing | root=root@ @base: root>base
     affected-but docs docs/x = nothing
     affected-but docs docs = nothing
-    affected-but docs docsx/y = root
-    affected-but docs/a docs/b = root
-    affected-but docs docs/x base/y = base root
+    affected-but docs docsx/y = base root
+    affected-but docs/a docs/b = base root
+    affected-but src src/x base/y = base root
     affected-but base base/x src/lib.rs = root
     affected-but .cargo .cargo/config.toml = nothing
     affected-but Cargo.lock Cargo.lock = nothing

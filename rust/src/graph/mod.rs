@@ -256,8 +256,9 @@ impl PackageGraph {
     }
 
     /// The members to test when the files at these paths changed, what they depend on first: those whose folder holds
-    /// one of them, where a path that no package's folder holds counts for all, and those that depend on one of these. Paths
-    /// in an ignored folder count for nothing. Paths and folders are relative to the workspace's root.
+    /// one of them or lies in one, and those that depend on one of these. A path counts for all members where no package's
+    /// folder holds it, or only that of one at the root, outside of `build.rs`, `src`, `tests`, `examples` and `benches`.
+    /// Paths in an ignored folder count for nothing. Paths and folders are relative to the workspace's root.
     ///
     /// `Refused` has paths with a NUL, which none has. The JSON is read again. Proved.
     pub fn affected<'a>(

@@ -19,7 +19,7 @@ returns-clause-added c =
         union_with_one before.included w.in_ok-to_package_set.field-0.included w.in_ok-set.field-0.included here w.in_ok-to_package_set.ensures.members.members w.in_ok-set.ensures.members,
       ))
       | else-branch w ↦ rw w.set-is (inr (
-        λ (h : HasFolderIn (graph_packages c.args.metadata) (lists_in c.args.folders.now) here). let is : c.in_ok-has_folder_in.field-0 ≡ true = has.1 h in absurd (cc),
+        λ (h : HasFolderIn (graph_packages c.args.metadata) (lists_in c.args.folders.now) (lists_in c.args.paths.now) here). let is : c.in_ok-has_folder_in.field-0 ≡ true = has.1 h in absurd (cc),
         refl,
       ))
     ]

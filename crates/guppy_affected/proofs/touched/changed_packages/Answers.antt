@@ -12,7 +12,7 @@ returns-in-Some-clause-changed c =
     let ignored = map string_bytes c.args.ignored.now in
     let longest = rw c.in-Some.is at c.in_ok-touched.ensures in
     IfOk-along c.packages_in.result _ (λ set. AreChanged packages paths ignored set.included)
-    (λ set where_in. changed_some packages (lists_in c.in_ok-folders.folders) c.in_ok-folders.ensures paths ignored set.included (lists_in c.in-Some.touched) longest where_in) c.packages_in.ensures.members
+    (λ set where_in. changed_some packages (lists_in c.in_ok-folders.folders) c.in_ok-folders.ensures paths ignored set.included (lists_in c.in-Some.touched) (lists_in c.in_ok-counted-in-Some.counted) longest c.in_ok-counted-in-Some.ensures where_in) c.packages_in.ensures.members
 
 pub returns-clause-changed : goal.returns-clause-changed
 returns-clause-changed c =

@@ -13,17 +13,18 @@ pub loop-package-init : goal.loop-package-init
 loop-package-init c =
     let g = c.args.graph in
     let folders = lists_in c.args.folders.now in
+    let paths = lists_in c.args.paths.now in
     record {
       same = c.in_ok-all.ensures.graph;
       count = ap length c.in_ok-all.ensures.none ∙ length-replicate _ false;
-      picked = rw (c.in_ok-all.ensures.none, c.into_iter-package-iterator.ensures.into_iter_gives) (picked_none g (HasFolderIn g.now.packages folders) (λ p has. with_folder_within _ g.now.packages p has) (packages_left c.packages-package-items.result) c.packages-package-items.ensures (length g.now.packages));
+      picked = rw (c.in_ok-all.ensures.none, c.into_iter-package-iterator.ensures.into_iter_gives) (picked_none g (HasFolderIn g.now.packages folders paths) (λ p has. with_folder_within _ g.now.packages p has) (packages_left c.packages-package-items.result) c.packages-package-items.ensures (length g.now.packages));
     }
 
 pub add_if_in-requires : goal.add_if_in-requires
 add_if_in-requires c =
     let g = c.args.graph.now in
     let here = c.in-Some.package in
-    let P = HasFolderIn g.packages (lists_in c.args.folders.now) in
+    let P = HasFolderIn g.packages (lists_in c.args.folders.now) (lists_in c.args.paths.now) in
     let picked = subst (λ (left : List (Bor GraphData × ℕ)). ArePicked g P left c.loop-package.all.included) c.in-Some.ensures.steps c.loop-package.invariant.picked in
     record { same_graph = c.loop-package.invariant.same ∙ sym (picked_graph g P c.loop-package.all.included (package_seen here) (packages_left c.next.new.self) picked) }
 
@@ -31,22 +32,23 @@ pub loop-package-preserved : goal.loop-package-preserved
 loop-package-preserved c =
     let g = c.args.graph.now in
     let folders = lists_in c.args.folders.now in
+    let paths = lists_in c.args.paths.now in
     let before = c.loop-package.all.included in
     let after = c.add_if_in.new.set.included in
     let seen = package_seen c.in-Some.package in
     let left = packages_left c.next.new.self in
-    let picked = subst (λ (left : List (Bor GraphData × ℕ)). ArePicked g (HasFolderIn g.packages folders) left before) c.in-Some.ensures.steps c.loop-package.invariant.picked in
+    let picked = subst (λ (left : List (Bor GraphData × ℕ)). ArePicked g (HasFolderIn g.packages folders paths) left before) c.in-Some.ensures.steps c.loop-package.invariant.picked in
     let added = c.in_ok-add_if_in.ensures.added in
     record {
       same = c.in_ok-add_if_in.ensures.graph ∙ c.loop-package.invariant.same;
-      count = count_added g folders seen left before after picked added c.loop-package.invariant.count;
-      picked = picked_added g folders seen left before after picked added;
+      count = count_added g folders paths seen left before after picked added c.loop-package.invariant.count;
+      picked = picked_added g folders paths seen left before after picked added;
     }
 
 pub returns-clause-members : goal.returns-clause-members
 returns-clause-members c =
     let g = c.args.graph.now in
-    let P = HasFolderIn g.packages (lists_in c.args.folders.now) in
+    let P = HasFolderIn g.packages (lists_in c.args.folders.now) (lists_in c.args.paths.now) in
     record {
       count_is = c.loop-package.invariant.count;
       members = picked_all g P c.loop-package.all.included (subst (λ (left : List (Bor GraphData × ℕ)). ArePicked g P left c.loop-package.all.included) c.in-None.ensures.steps.0 c.loop-package.invariant.picked);

@@ -9,5 +9,5 @@ abbrev pub invariant-loop-package : goal.invariant-loop-package
 invariant-loop-package l = record {
   same : l.all.graph ≡ l.graph;
   count : length l.all.included ≡ length l.graph.packages;
-  picked : ArePicked l.graph (HasFolderIn l.graph.packages (lists_in l.folders)) (packages_left l.package-iterator) l.all.included;
+  picked : ArePicked l.graph (HasFolderIn l.graph.packages (lists_in l.folders) (lists_in l.paths)) (packages_left l.package-iterator) l.all.included;
 }

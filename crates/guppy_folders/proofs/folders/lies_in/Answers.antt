@@ -1,5 +1,8 @@
-use Rattle.std.proofs.Common.{rules, refl}
-use Rattle.guppy_folders.proofs.Prefixes.{Begins-empty, next_same, next_other}
+use Rattle.std.proofs.Common.{rules, subst, sym, List}
+use Rattle.guppy_data.specs.Path.{Part}
+use Rattle.guppy_data.specs.Component.{parts_left}
+use Rattle.guppy_folders.specs.Folders.{IsInside}
+use Rattle.guppy_folders.proofs.Prefixes.{Inside-nothing, next_same, next_other}
 use Rattle.guppy_folders.proofs.folders.lies_in.Goals as goal
 
 pub loop-part-init : goal.loop-part-init
@@ -16,4 +19,9 @@ loop-part-preserved c =
     (λ b. now.0 (c.loop-part.invariant.0 b), λ b. c.loop-part.invariant.1 (now.1 b))
 
 pub returns : goal.returns
-returns c = (λ h. c.loop-part.invariant.1 (rw c.in-None.ensures.steps.0 (Begins-empty _)), λ b. refl)
+returns c =
+    let nothing = Inside-nothing (parts_left c.loop-part.rest) in
+    let left = c.in-None.ensures.steps.0 in (
+      λ h. c.loop-part.invariant.1 (subst (λ (front : List Part). IsInside front (parts_left c.loop-part.rest)) (sym left) (nothing.1 (c.are_names.ensures.0 h))),
+      λ inside. c.are_names.ensures.1 (nothing.0 (subst (λ (front : List Part). IsInside front (parts_left c.loop-part.rest)) left (c.loop-part.invariant.0 inside))),
+    )

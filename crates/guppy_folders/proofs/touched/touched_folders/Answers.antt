@@ -1,4 +1,4 @@
-use Rattle.std.proofs.Common.{◌≡◌, ◌∙◌, inl, inr, sym, ap, subst, ℕ, true, List, [], ◌∷◌, ◌++◌, map, take, string_bytes}
+use Rattle.std.proofs.Common.{◌≡◌, ◌∙◌, sym, ap, subst, ℕ, true, List, [], ◌∷◌, ◌++◌, map, take, string_bytes}
 use Rattle.std.specs.declared.vec.Vec.{Vec}
 use Rattle.std.specs.declared.alloc.Global.{Global}
 use Rattle.std.proofs.lemmas.List.{map_push, take_all}
@@ -6,8 +6,8 @@ use Rattle.guppy_data.specs.Path.{components}
 use Rattle.guppy_data.specs.Component.{part_shown}
 use Rattle.guppy_data.specs.Utf8Path.{path_text}
 use Rattle.guppy_data.specs.declared.texts.component.Component.{Component}
-use Rattle.guppy_folders.specs.Touched.{IsIgnored, IsOfWorkspace, AreLongest}
-use Rattle.guppy_folders.specs.Folders.{lists_in, HoldsNone, IsLongest}
+use Rattle.guppy_folders.specs.Touched.{IsIgnored, IsOutside, AreLongest}
+use Rattle.guppy_folders.specs.Folders.{lists_in, IsLongest}
 use Rattle.guppy_folders.proofs.Elements.{one_more, text_there}
 use Rattle.guppy_folders.proofs.LongestFolders.{longest_skipped, longest_more, longest_along}
 use Rattle.guppy_folders.proofs.Sets.{set_made}
@@ -25,14 +25,6 @@ loop-path-preserved-then-is_ignored c =
     subst (λ (paths : List (List ℕ)). AreLongest folders paths ignored (lists_in c.loop-path.touched.items)) (sym (one_more texts i c.path-item.result c.loop-path-test.true c.path-item.is))
     (longest_skipped folders ignored (map string_bytes (take i texts)) (lists_in c.loop-path.touched.items) c.loop-path.invariant own skipped)
 
-pub returns-then-is_of_workspace : goal.returns-then-is_of_workspace
-returns-then-is_of_workspace c =
-    let ignored = map string_bytes c.args.ignored.now in
-    let own = string_bytes c.path-item.result in
-    let text : path_text c.new-path.result ≡ own = c.new-path.ensures ∙ c.as_str.ensures.value in
-    let counts : IsIgnored ignored own → ⊥ = λ h. let is : c.is_ignored.result ≡ true = c.is_ignored.ensures.1 (subst (IsIgnored ignored) (sym text) h) in absurd (cc) in
-    (own, text_there c.args.paths.now c.loop-path.path-index c.path-item.result c.loop-path-test.true c.path-item.is, counts, inl (subst IsOfWorkspace text (c.is_of_workspace.ensures.0 c.if-is_of_workspace.true)))
-
 pub returns-in-None : goal.returns-in-None
 returns-in-None c =
     let folders = lists_in c.args.folders.now in
@@ -40,8 +32,8 @@ returns-in-None c =
     let own = string_bytes c.path-item.result in
     let text : path_text c.new-path.result ≡ own = c.new-path.ensures ∙ c.as_str.ensures.value in
     let counts : IsIgnored ignored own → ⊥ = λ h. let is : c.is_ignored.result ≡ true = c.is_ignored.ensures.1 (subst (IsIgnored ignored) (sym text) h) in absurd (cc) in
-    let none = rw c.in-None.is at c.in_ok-folder.ensures in
-    (own, text_there c.args.paths.now c.loop-path.path-index c.path-item.result c.loop-path-test.true c.path-item.is, counts, inr (subst (λ path. HoldsNone folders (components path)) text none))
+    let outside = rw c.in-None.is at c.in_ok-folder.ensures in
+    (own, text_there c.args.paths.now c.loop-path.path-index c.path-item.result c.loop-path-test.true c.path-item.is, counts, subst (IsOutside folders) text outside)
 
 pub loop-path-preserved : goal.loop-path-preserved
 loop-path-preserved c =
@@ -52,10 +44,10 @@ loop-path-preserved c =
     let own = string_bytes c.path-item.result in
     let text : path_text c.new-path.result ≡ own = c.new-path.ensures ∙ c.as_str.ensures.value in
     let counts : IsIgnored ignored own → ⊥ = λ h. let is : c.is_ignored.result ≡ true = c.is_ignored.ensures.1 (subst (IsIgnored ignored) (sym text) h) in absurd (cc) in
-    let apart : IsOfWorkspace own → ⊥ = λ h. let is : c.is_of_workspace.result ≡ true = c.is_of_workspace.ensures.1 (subst IsOfWorkspace (sym text) h) in absurd (cc) in
     let folder = c.in-Some.folder in
-    let longest = rw c.in-Some.is at c.in_ok-folder.ensures in
-    let is_longest = subst (λ (path : List ℕ). IsLongest folders (components path) (map part_shown folder.items)) text longest in
+    let found = rw c.in-Some.is at c.in_ok-folder.ensures in
+    let apart : IsOutside folders own → ⊥ = λ h. found.0 (subst (IsOutside folders) (sym text) h) in
+    let is_longest = subst (λ (path : List ℕ). IsLongest folders (components path) (map part_shown folder.items)) text found.1 in
     let so_far = map string_bytes (take i texts) in
     let before = c.loop-path.touched.items in
     let lists : lists_in c.push.new.self.items ≡ lists_in before ++ map part_shown folder.items ∷ [] =

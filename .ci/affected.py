@@ -1,0 +1,273 @@
+#!/usr/bin/env python3
+"""Judges `guppy-cargo affected` by cargo itself. In workspaces that are made here all tests are built, a file is changed, and
+they are built again: the answer for the paths that changed must tell each member of which cargo built a test anew.
+
+What is told beyond these is counted, by what was changed. Needs cargo, git, and the program as built, or one that the first
+argument names; a second one says in how many workspaces. The last line is 'N passed, M failed'.
+"""
+
+import json
+import os
+import random
+import subprocess
+import sys
+import tempfile
+from concurrent.futures import ThreadPoolExecutor
+from pathlib import Path
+
+HERE = Path(__file__).resolve().parent
+BUILT = HERE.parent / "crates/guppy_cargo_main/out/guppy_cargo_main"
+PROGRAM = sys.argv[1] if sys.argv[1:] else str(BUILT)
+# So many workspaces are drawn, of so many packages, and so much is changed in each, one after the other.
+DRAWN, SIZE, CHANGES = int(sys.argv[2]) if sys.argv[2:] else 10, 8, 8
+SECONDS = 60
+CARGO = {"CARGO_INCREMENTAL": "0", "CARGO_BUILD_JOBS": "1", "CARGO_PROFILE_DEV_DEBUG": "0", "CARGO_NET_OFFLINE": "true"}
+
+# What a build script says of when it is to run again; of the first cargo looks at each file of its package.
+SCRIPTS = ["", "cargo:rerun-if-changed=build.rs", "cargo:rerun-if-changed=data.txt"]
+MACRO = "[lib]\nproc-macro = true\n"
+# Where files lie that several packages include.
+SHARED = ["shared", "../proto"]
+
+
+def write(path, text):
+    path.parent.mkdir(parents=True, exist_ok=True)
+    path.write_text(text)
+
+
+class Package:
+    """A drawn package: where it lies, from the workspace's root, and what its manifest asks for."""
+
+    def __init__(self, drawn, number, others, rooted):
+        self.name, self.version, self.asks = f"p{number}", 0, []
+        places = [f"p{number}", f"crates/p{number}", f"../out/p{number}", f"vendor/p{number}"]
+        places += [f"{it.folder}/in/p{number}" for it in others if it.is_member and it.folder]
+        self.folder = "" if rooted and number == 0 else drawn.choice(places)
+        # What is excluded, and half of what lies outside, is no member.
+        self.is_member = not self.folder.startswith("vendor/")
+        self.is_member &= not self.folder.startswith("../") or drawn.random() < 0.5
+        self.is_macro = 0 < number < SIZE - 1 and drawn.random() < 0.15
+        self.script = drawn.choice(SCRIPTS) if drawn.random() < 0.4 else None
+        self.reads = drawn.choice(["", "", "", "data.txt", "ws/shared", "proto"])
+
+    def manifest(self, root):
+        """Its manifest; `root` is the workspace's table where it lies at the root."""
+        head = f'[package]\nname = "{self.name}"\nversion = "0.1.{self.version}"\nedition = "2021"\n'
+        if self.is_member and self.folder.startswith("../"):
+            head += f'workspace = "{os.path.relpath("ws", os.path.join("ws", self.folder))}"\n'
+        asked = (f'[{section}dependencies]\n{it.name}.path = "{self.path_to(it)}"\n' for section, it in self.asks)
+        return head + (MACRO if self.is_macro else "") + tables(asked) + root
+
+    def path_to(self, other):
+        return os.path.relpath(os.path.join("ws", other.folder), os.path.join("ws", self.folder)) or "."
+
+    def files(self):
+        above = "../" * len(os.path.normpath(os.path.join("ws", self.folder)).split("/"))
+        read = self.reads if self.reads == "data.txt" else f"{above}{self.reads}/text.txt"
+        source = f'pub const READ: &str = include_str!("../{read}");\n' if self.reads and not self.is_macro else ""
+        found = {"src/lib.rs": f"mod part;\n{source}", "src/part.rs": "", "data.txt": "", "tests/all.rs": "", "notes.md": ""}
+        if self.script is not None:
+            found["build.rs"] = f'fn main() {{\n    println!("{self.script}");\n}}\n'
+        return found
+
+
+def tables(asked):
+    """The tables of dependencies, each section once."""
+    sections = {}
+    for it in asked:
+        head, line = it.split("\n", 1)
+        sections[head] = sections.get(head, "") + line
+    return "".join(f"{head}\n{lines}" for head, lines in sections.items())
+
+
+class Workspace:
+    """A drawn workspace, in a folder of a repository."""
+
+    def __init__(self, room, seed):
+        self.drawn, self.top, self.seed = random.Random(seed), Path(room) / str(seed), seed
+        self.root, self.rooted, self.packages = self.top / "ws", seed % 2 == 1, []
+        for number in range(SIZE):
+            self.packages.append(Package(self.drawn, number, self.packages, self.rooted))
+        for number, it in enumerate(self.packages):
+            self.draw_links(number, it)
+        for it in self.packages:
+            for name, text in it.files().items():
+                write(self.root / it.folder / name, text)
+            self.write_manifest(it)
+        if not self.rooted:
+            write(self.root / "Cargo.toml", self.table())
+        for folder in SHARED:
+            write(self.root / folder / "text.txt", "")
+        write(self.root / "README.md", "")
+        write(self.top / ".gitignore", "target\n")
+        for words in (["init", "-q"], ["add", "-A"]):
+            subprocess.run(["git", *words], cwd=self.top, check=True, capture_output=True)
+
+    def draw_links(self, number, package):
+        """Links lead to lower numbers, but for those of tests, which make cycles."""
+        for at, other in enumerate(self.packages):
+            if at != number and self.drawn.random() < 2 / SIZE:
+                section = self.drawn.choice(["", "", "build-", "dev-"]) if at < number else "dev-"
+                if section != "build-" or package.script is not None:
+                    package.asks.append((section, other))
+
+    def table(self):
+        members = [it.folder for it in self.packages if it.is_member and it.folder]
+        return f'[workspace]\nresolver = "2"\nmembers = {json.dumps(members)}\nexclude = ["vendor"]\n'
+
+    def write_manifest(self, package):
+        root = self.table() if self.rooted and not package.folder else ""
+        write(self.root / package.folder / "Cargo.toml", package.manifest(root))
+
+    def cargo(self, *words):
+        environment = os.environ | CARGO | {"CARGO_TARGET_DIR": str(self.top / "target")}
+        ways = {"cwd": self.root, "env": environment, "capture_output": True, "text": True, "timeout": SECONDS * 5}
+        ran = subprocess.run(["cargo", *words], check=False, **ways)
+        return ran.stdout if ran.returncode == 0 else sys.exit(f"affected: workspace {self.seed}: {ran.stderr[-3000:]}")
+
+    def build(self):
+        """Builds all tests, and returns the members of which one was built anew."""
+        anew = set()
+        for line in self.cargo("test", "--no-run", "--workspace", "--message-format", "json").splitlines():
+            told = json.loads(line) if line.startswith("{") else {}
+            if told.get("reason") == "compiler-artifact" and told["profile"]["test"] and not told["fresh"]:
+                anew.add(told["manifest_path"])
+        named = {str((self.root / it.folder / "Cargo.toml").resolve()): it.name for it in self.packages}
+        return {named[os.path.realpath(it)] for it in anew}
+
+    def files(self):
+        """Each file with what it has, from the workspace's root."""
+        found = {}
+        for folder, folders, names in os.walk(self.top):
+            folders[:] = [it for it in folders if it not in ("target", ".git")]
+            for name in names:
+                path = os.path.join(folder, name)
+                found[os.path.relpath(path, self.root)] = Path(path).read_bytes()
+        return found
+
+    def change(self, number):
+        """Changes a file, and tells which kind of change that is."""
+        kind = self.drawn.choice(list(KINDS))
+        package = self.drawn.choice(self.packages)
+        KINDS[kind](self, package, number)
+        return kind
+
+    def tries(self):
+        """What was changed in turn, the members of which a test was built anew, and those that were told."""
+        self.build()
+        for number in range(CHANGES):
+            before = self.files()
+            kind = self.change(number)
+            metadata = self.cargo("metadata", "--format-version", "1", "--all-features")
+            after = self.files()
+            changed = sorted(it for it in before.keys() | after.keys() if before.get(it) != after.get(it))
+            paths = [self.told(it) for it in changed]
+            yield kind, paths, self.build(), affected(metadata, paths)
+
+    def told(self, path):
+        """The path as git tells it: some folders count as one, as a submodule does."""
+        parts = path.split("/")
+        if self.drawn.random() < 0.2 and len(parts) > 1:
+            folders = ["/".join(parts[:it]) for it in range(1, len(parts)) if parts[it - 1] != ".."]
+            return self.drawn.choice(folders or [path])
+        return path
+
+
+def append(workspace, package, name, text):
+    path = workspace.root / package.folder / name
+    write(path, (path.read_text() if path.exists() else "") + text)
+
+
+def change_source(workspace, package, number):
+    append(workspace, package, workspace.drawn.choice(["src/lib.rs", "src/part.rs"]), f"// {number}\n")
+
+
+def change_test(workspace, package, number):
+    append(workspace, package, "tests/all.rs", f"// {number}\n")
+
+
+def add_test(workspace, package, number):
+    append(workspace, package, f"tests/more{number}.rs", "")
+
+
+def change_data(workspace, package, number):
+    append(workspace, package, workspace.drawn.choice(["data.txt", "notes.md"]), f"{number}\n")
+
+
+def change_script(workspace, package, number):
+    append(workspace, package, "src/part.rs" if package.script is None else "build.rs", f"// {number}\n")
+
+
+def raise_version(workspace, package, number):
+    package.version = number + 1
+    workspace.write_manifest(package)
+
+
+def ask_for_more(workspace, package, number):
+    others = [it for it in workspace.packages if it is not package and it not in [asked for _, asked in package.asks]]
+    if others:
+        package.asks.append(("dev-", workspace.drawn.choice(others)))
+    workspace.write_manifest(package)
+
+
+def change_shared(workspace, package, number):
+    write(workspace.root / workspace.drawn.choice(SHARED) / "text.txt", f"{number}\n")
+
+
+def change_outside(workspace, package, number):
+    write(workspace.root / workspace.drawn.choice(["README.md", "../README.md"]), f"{number}\n")
+
+
+def change_settings(workspace, package, number):
+    write(workspace.root / ".cargo/config.toml", f'[build]\nrustflags = ["--cfg", "x{number}"]\n')
+
+
+KINDS = {
+    "a source": change_source,
+    "a test": change_test,
+    "a new test": add_test,
+    "a file beside": change_data,
+    "a build script": change_script,
+    "a version": raise_version,
+    "a new dependency": ask_for_more,
+    "what some include": change_shared,
+    "a file that nobody reads": change_outside,
+    "settings": change_settings,
+}
+
+
+def affected(metadata, paths):
+    """The members that the program tells."""
+    ran = subprocess.run([PROGRAM, "affected", *paths], input=metadata, capture_output=True, text=True, timeout=SECONDS, check=False)
+    if ran.returncode or ran.stderr:
+        sys.exit(f"affected: {paths}: status {ran.returncode}, {ran.stderr}")
+    return set(ran.stdout.split())
+
+
+def tries_of(room, seed):
+    return seed, list(Workspace(room, seed).tries())
+
+
+def main():
+    if not os.access(PROGRAM, os.X_OK):
+        return f"affected: {PROGRAM} is not there"
+    passed = failed = 0
+    counts = {it: [0, 0] for it in KINDS}
+    with tempfile.TemporaryDirectory() as room, ThreadPoolExecutor(4) as workers:
+        for seed, tried in workers.map(lambda it: tries_of(room, it), range(DRAWN)):
+            for kind, paths, built, answer in tried:
+                missed = built - answer
+                passed, failed = passed + (not missed), failed + bool(missed)
+                counts[kind] = [counts[kind][0] + len(built), counts[kind][1] + len(answer)]
+                if missed:
+                    print(f"affected: workspace {seed}: FAILED: {kind}, {paths}: {sorted(missed)} missed, {sorted(answer)} told")
+    for kind, (anew, told) in counts.items():
+        print(f"affected: {kind}: cargo built tests of {anew} members anew, and {told} are told")
+    anew, told = (sum(it[at] for it in counts.values()) for at in (0, 1))
+    print(f"affected: together: of {anew} members anew, and {told} are told, {told - anew} beyond")
+    print(f"{passed} passed, {failed} failed")
+    return failed > 0
+
+
+if __name__ == "__main__":
+    sys.exit(main())
