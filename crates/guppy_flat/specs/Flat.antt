@@ -1,6 +1,7 @@
 -- Graphs as slices.
-use Rattle.std.specs.Prelude.{Bool, false, List, length, map, replicate}
+use Rattle.std.specs.Prelude.{◌≡◌, ℕ, Bool, false, List, length, map, replicate}
 use Rattle.guppy_search.specs.declared.graph_core.link.Link.{Link}
+use Rattle.guppy_search.specs.Graph.{GraphValue, IsGraph}
 use Rattle.guppy_search.specs.Links.{links_between}
 use Rattle.guppy_flat.specs.declared.flat.Ends.{Ends}
 
@@ -15,3 +16,8 @@ flagged links flags = links_between (map link_of links) flags
 -- the links with these ends, none of them flagged
 abbrev pub plain : List Ends → List (Link Bool)
 plain links = flagged links (replicate (length links) false)
+
+-- so many positions and these links make a graph
+abbrev pub MakeGraph : ℕ → List (Link Bool) → Type 0
+MakeGraph count links = (graph : GraphValue (Unit {0}) Bool) × (length graph.nodes ≡ count)
+    × (graph.links ≡ links) × IsGraph graph

@@ -1,7 +1,7 @@
-ghost use Rattle.std.specs.Prelude.{◌≡◌, length, map, IfOk, IfErr};
+ghost use Rattle.std.specs.Prelude.{◌≡◌, length, map, IfOk, IfErr, OnOk};
 ghost use Rattle.guppy_search.specs.Fault.{IsFault};
 ghost use Rattle.guppy_search.specs.Graph.{IsGraph};
-ghost use Rattle.guppy_flat.specs.Flat.{flagged, link_of};
+ghost use Rattle.guppy_flat.specs.Flat.{flagged, link_of, MakeGraph};
 
 use guppy_core::{Graph, GraphFault, GraphSpec, Link, PackageIx};
 use std::alloc::{AllocError, Global};
@@ -56,6 +56,7 @@ pub fn graph_of(
     ensures nodes { IfOk result (λ g. length g.nodes ≡ count) }
     ensures links { IfOk result (λ g. g.links ≡ flagged links.now flags.now) }
     ensures graph { IfOk result (λ g. IsGraph g) }
+    ensures made { OnOk result (MakeGraph count (flagged links.now flags.now)) }
     ensures fault { IfErr result (IsFault count (flagged links.now flags.now)) }
 {
     let nodes = vec![in alloc; (); count]?;

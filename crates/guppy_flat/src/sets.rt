@@ -3,7 +3,7 @@ ghost use Rattle.guppy_search.specs.Fault.{IsFault};
 ghost use Rattle.guppy_search.specs.IxSet.{IsIn};
 ghost use Rattle.guppy_search.specs.Walked.{numbers_of};
 ghost use Rattle.guppy_core.specs.Listing.{Stands};
-ghost use Rattle.guppy_flat.specs.Flat.{plain};
+ghost use Rattle.guppy_flat.specs.Flat.{plain, MakeGraph};
 ghost use Rattle.guppy_flat.specs.Sets.{MarksRoots, AreSetLinks};
 
 use crate::flat::{Ends, Flat, graph_of};
@@ -18,6 +18,7 @@ use std::alloc::{AllocError, Global};
 fn plain_graph_of(alloc: Global, count: usize, links: &[Ends]) -> Result<Graph<Flat>, GraphFault>
     ensures nodes { IfOk result (λ g. length g.nodes ≡ count) }
     ensures links { IfOk result (λ g. g.links ≡ plain links.now) }
+    ensures made { OnOk result (MakeGraph count (plain links.now)) }
     ensures fault { IfErr result (IsFault count (plain links.now)) }
 {
     let flags = vec![in alloc; false; links.len()]?;
@@ -50,6 +51,7 @@ pub fn roots(
 ) -> Result<(), GraphFault>
     requires { length marks.old ≡ length set.now }
     ensures roots { OnOk result (MarksRoots direction (plain links.now) set.now marks.new) }
+    ensures graph { OnOk result (MakeGraph (length set.now) (plain links.now)) }
     ensures fault { IfErr result (IsFault (length set.now) (plain links.now)) }
     ensures unchanged { OnErr result (marks.new ≡ marks.old) }
 {
@@ -83,6 +85,7 @@ pub fn links(
 ) -> Result<Vec<usize>, GraphFault>
     ensures links { IfOk result
         (λ list. AreSetLinks direction (plain links.now) set.now list.items) }
+    ensures graph { OnOk result (MakeGraph (length set.now) (plain links.now)) }
     ensures fault { IfErr result (IsFault (length set.now) (plain links.now)) }
 {
     let graph = plain_graph_of(alloc, set.len(), links)?;
