@@ -13,6 +13,10 @@ link_of l = record { from = l.from; to = l.to; edge = tt }
 abbrev pub flagged : List Ends → List Bool → List (Link Bool)
 flagged links flags = links_between (map link_of links) flags
 
+-- the link with these ends, not flagged
+abbrev pub unflagged : Ends → Link Bool
+unflagged l = record { from = l.from; to = l.to; edge = false }
+
 -- the links with these ends, none of them flagged
 abbrev pub plain : List Ends → List (Link Bool)
 plain links = flagged links (replicate (length links) false)

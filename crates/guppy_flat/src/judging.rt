@@ -4,7 +4,7 @@ ghost use Rattle.std.specs.List.{zip};
 ghost use Rattle.guppy_search.specs.IxSet.{has, IsIn};
 ghost use Rattle.guppy_search.specs.Links.{near_end, far_end};
 ghost use Rattle.guppy_search.specs.Resolve.{IsIncluded, LeavesOne, ShownInTime, JudgesResolve};
-ghost use Rattle.guppy_flat.specs.Flat.{link_of, plain};
+ghost use Rattle.guppy_flat.specs.Flat.{unflagged, plain};
 ghost use Rattle.guppy_flat.specs.Judging.{EachOnce, ShowsLeaving, IncludesExactly};
 
 use crate::flat::Ends;
@@ -13,7 +13,7 @@ use std::alloc::{AllocError, Global};
 
 // The end that the link leaves in the direction.
 fn near(link: Ends, direction: DependencyDirection) -> usize
-    ensures { result ≡ near_end direction (link_of link) }
+    ensures { result ≡ near_end direction (unflagged link) }
 {
     match direction {
         DependencyDirection::Forward => link.from as usize,
@@ -23,7 +23,7 @@ fn near(link: Ends, direction: DependencyDirection) -> usize
 
 // The end that it leads to.
 fn far(link: Ends, direction: DependencyDirection) -> usize
-    ensures { result ≡ far_end direction (link_of link) }
+    ensures { result ≡ far_end direction (unflagged link) }
 {
     match direction {
         DependencyDirection::Forward => link.to as usize,
@@ -74,7 +74,7 @@ fn leaving_are_marked(
 ) -> bool
     requires { length marks.now ≡ length links.now }
     ensures { (result ≡ true) ↔ ((n : ℕ) → n < length links.now
-        → IsIn marks.now n ↔ LeavesOne direction (map link_of links.now) (IsIn set.now) n) }
+        → IsIn marks.now n ↔ LeavesOne direction (plain links.now) (IsIn set.now) n) }
 {
     for number in 0..links.len() {
         let leaves = is_marked(set, near(links[number], direction));
@@ -95,7 +95,7 @@ fn shown_are_leaving(
 ) -> Result<bool, AllocError>
     requires { All (λ n. n < length links.now) shown.now }
     ensures { IfOk result (λ holds. (holds ≡ true) ↔ (EachOnce shown.now
-        × ShowsLeaving direction (map link_of links.now) set.now shown.now)) }
+        × ShowsLeaving direction (plain links.now) set.now shown.now)) }
 {
     match marks_of(alloc, shown, links.len())? {
         Some(marks) => Ok(leaving_are_marked(links, direction, marks.as_slice(), set)),
@@ -117,7 +117,7 @@ fn included_exactly(
     requires below { All (λ n. n < length links.now) shown.now }
     requires set { length set.now ≡ length starts.now }
     ensures { IfOk result (λ holds. (holds ≡ true)
-        ↔ IncludesExactly direction (map link_of links.now) starts.now
+        ↔ IncludesExactly direction (plain links.now) starts.now
         (zip shown.now answers.now) set.now) }
 {
     let mut marks = starts.to_vec(alloc)?;
@@ -144,10 +144,10 @@ fn led_to_before(
 ) -> Result<bool, AllocError>
     requires answers { length answers.now ≡ length shown.now }
     requires below { All (λ n. n < length links.now) shown.now }
-    requires ends { (p : ℕ) → IsIncluded direction (map link_of links.now) starts.now
+    requires ends { (p : ℕ) → IsIncluded direction (plain links.now) starts.now
         (zip shown.now answers.now) p → p < length starts.now }
     ensures { IfOk result (λ holds. (holds ≡ true)
-        ↔ ShownInTime direction (map link_of links.now) starts.now (zip shown.now answers.now)) }
+        ↔ ShownInTime direction (plain links.now) starts.now (zip shown.now answers.now)) }
 {
     let mut marks = starts.to_vec(alloc)?;
     for place in 0..shown.len() {

@@ -1,25 +1,18 @@
-use Rattle.std.proofs.Common.{◌≡◌, ◌<◌, ℕ, Bool, List, true, map, subst, arith}
+use Rattle.std.proofs.Common.{◌≡◌, ◌<◌, true, subst, arith}
 use Rattle.std.specs.Prelude.{◌↔◌, All}
 use Rattle.std.specs.List.{zip}
-use Rattle.std.proofs.lemmas.List.{length-map}
 use Rattle.std.proofs.lemmas.Result.{IfOk-weaker}
 use Rattle.guppy_search.proofs.Members.{IsIn-below}
 use Rattle.guppy_search.specs.Resolve.{ShownInTime, JudgesResolve}
-use Rattle.guppy_flat.specs.Flat.{link_of, plain}
-use Rattle.guppy_search.specs.declared.ix.direction.DependencyDirection.{DependencyDirection}
-use Rattle.guppy_flat.specs.declared.flat.Ends.{Ends}
-use Rattle.guppy_flat.proofs.BareLinks.{judges_plain}
-use Rattle.guppy_flat.proofs.JudgedTraces.{judged, judged_once, judged_leaving, judged_below}
+use Rattle.guppy_flat.specs.Flat.{plain}
+use Rattle.guppy_flat.proofs.JudgedTraces.{length-plain, judged, judged_once, judged_leaving, judged_below}
 use Rattle.guppy_flat.proofs.judging.judge.Goals as goal
-
-ends : (d : DependencyDirection) (links : List Ends) (initials : List Bool) (trace : List (ℕ × Bool)) (set : List Bool) → JudgesResolve d (plain links) initials trace set → JudgesResolve d (map link_of links) initials trace set
-ends d links initials trace set j = (judges_plain d links initials trace set).0 j
 
 pub returns-then-not-all_below : goal.returns-then-not-all_below
 returns-then-not-all_below c = (
   λ h. absurd (cc),
   λ j.
-      let is = c.all_below.ensures.1 (subst (λ count. All (λ n. n < count) c.args.shown.now) (length-map c.args.links.now link_of) (judged_below _ _ _ _ _ _ c.requires.answers (ends c.args.direction c.args.links.now _ _ _ j))) in
+      let is = c.all_below.ensures.1 (subst (λ count. All (λ n. n < count) c.args.shown.now) (length-plain c.args.links.now) (judged_below _ _ _ _ _ _ c.requires.answers j)) in
       let not = c.if-not-all_below.true in
       cc,
 )
@@ -28,8 +21,7 @@ pub returns-then-not-branch : goal.returns-then-not-branch
 returns-then-not-branch c = (
   λ h. absurd (cc),
   λ j.
-      let k = ends c.args.direction c.args.links.now _ _ _ j in
-      let is = c.in_ok-shown_are_leaving.ensures.1 (judged_once _ _ _ _ _ _ c.requires.answers k, judged_leaving _ _ _ _ _ _ c.requires.answers k) in
+      let is = c.in_ok-shown_are_leaving.ensures.1 (judged_once _ _ _ _ _ _ c.requires.answers j, judged_leaving _ _ _ _ _ _ c.requires.answers j) in
       let not = c.if-not-branch.true in
       cc,
 )
@@ -38,7 +30,7 @@ pub returns-then-not-branch-2 : goal.returns-then-not-branch-2
 returns-then-not-branch-2 c = (
   λ h. absurd (cc),
   λ j.
-      let is = c.in_ok-included_exactly.ensures.1 (ends c.args.direction c.args.links.now _ _ _ j).included in
+      let is = c.in_ok-included_exactly.ensures.1 j.included in
       let not = c.if-not-branch-2.true in
       cc,
 )
@@ -52,14 +44,14 @@ led_to_before-requires-clause-ends c = λ p i.
 pub returns : goal.returns
 returns c =
     let Judged = JudgesResolve c.args.direction (plain c.args.links.now) c.args.starts.now (zip c.args.shown.now c.args.answers.now) c.args.set.now in
-    let InTime = ShownInTime c.args.direction (map link_of c.args.links.now) c.args.starts.now (zip c.args.shown.now c.args.answers.now) in
+    let InTime = ShownInTime c.args.direction (plain c.args.links.now) c.args.starts.now (zip c.args.shown.now c.args.answers.now) in
     IfOk-weaker c.led_to_before.result (λ holds. (holds ≡ true) ↔ InTime) (λ holds. (holds ≡ true) ↔ Judged)
     (λ holds e. (
-      λ h. let shows = c.in_ok-shown_are_leaving.ensures.0 c.if-not-branch.false in (judges_plain c.args.direction c.args.links.now c.args.starts.now (zip c.args.shown.now c.args.answers.now) c.args.set.now).1 (judged c.args.direction (map link_of c.args.links.now) c.args.starts.now c.args.shown.now c.args.answers.now c.args.set.now c.requires.answers
+      λ h. let shows = c.in_ok-shown_are_leaving.ensures.0 c.if-not-branch.false in judged c.args.direction (plain c.args.links.now) c.args.starts.now c.args.shown.now c.args.answers.now c.args.set.now c.requires.answers
           shows.0
           shows.1
           (c.in_ok-included_exactly.ensures.0 c.if-not-branch-2.false)
-          (e.0 h)),
-      λ j. e.1 (ends c.args.direction c.args.links.now _ _ _ j).led_to,
+          (e.0 h),
+      λ j. e.1 j.led_to,
     ))
     c.led_to_before.ensures

@@ -1,11 +1,11 @@
-use Rattle.std.proofs.Common.{◌≡◌, ◌∙◌, Bool, true, false, get_or, map, refl, sym, below_more}
+use Rattle.std.proofs.Common.{◌≡◌, ◌∙◌, Bool, true, false, get_or, refl, sym, below_more}
 use Rattle.std.specs.Prelude.{◌↔◌}
 use Rattle.std.proofs.Math.Bool.{beq, not}
 use Rattle.guppy_search.specs.Links.{near_end}
 use Rattle.guppy_search.specs.IxSet.{has, IsIn}
 use Rattle.guppy_search.specs.Resolve.{LeavesOne}
 use Rattle.guppy_flat.specs.declared.flat.Ends.{Ends}
-use Rattle.guppy_flat.specs.Flat.{link_of}
+use Rattle.guppy_flat.specs.Flat.{unflagged, plain}
 use Rattle.guppy_flat.proofs.JudgedTraces.{LeavesOne-at, link_found, tests_same, tests_differ}
 use Rattle.guppy_flat.proofs.judging.leaving_are_marked.Goals as goal
 
@@ -29,11 +29,11 @@ returns-then-marks-number c = (
   λ h. absurd (cc),
   λ each.
       let d = c.args.direction in
-      let links = map link_of c.args.links.now in
+      let links = plain c.args.links.now in
       let n = c.loop-number.number in
       let within = c.loop-number-test.true in
       let marks = c.args.marks.now in
-      let link = link_of (get_or c.args.links.now n none) in
+      let link = unflagged (get_or c.args.links.now n none) in
       let leaves : c.is_marked-leaves.result ≡ has c.args.set.now (near_end d link) = rw (← c.near.ensures) c.is_marked-leaves.ensures in
       let at = LeavesOne-at d links (IsIn c.args.set.now) n link (link_found c.args.links.now n none within) in
       let other : has marks n ≡ has c.args.set.now (near_end d link) → ⊥ = λ e. told_other (has marks n) c.is_marked-leaves.result c.if-marks-number.true (e ∙ sym leaves) in
@@ -43,11 +43,11 @@ returns-then-marks-number c = (
 pub loop-number-preserved : goal.loop-number-preserved
 loop-number-preserved c =
     let d = c.args.direction in
-    let links = map link_of c.args.links.now in
+    let links = plain c.args.links.now in
     let n = c.loop-number.number in
     let within = c.loop-number-test.true in
     let marks = c.args.marks.now in
-    let link = link_of (get_or c.args.links.now n none) in
+    let link = unflagged (get_or c.args.links.now n none) in
     let leaves : c.is_marked-leaves.result ≡ has c.args.set.now (near_end d link) = rw (← c.near.ensures) c.is_marked-leaves.ensures in
     let at = LeavesOne-at d links (IsIn c.args.set.now) n link (link_found c.args.links.now n none within) in
     let same : has marks n ≡ has c.args.set.now (near_end d link) = told_same (has marks n) c.is_marked-leaves.result c.if-marks-number.false ∙ leaves in

@@ -1,14 +1,13 @@
-use Rattle.std.proofs.Common.{◌<◌, length, map, sym, subst, arith}
+use Rattle.std.proofs.Common.{◌<◌, length, sym, subst, arith}
 use Rattle.std.specs.Prelude.{All}
-use Rattle.std.proofs.lemmas.List.{length-map}
-use Rattle.guppy_flat.specs.Flat.{link_of}
-use Rattle.guppy_flat.proofs.JudgedTraces.{all_leaving}
+use Rattle.guppy_flat.specs.Flat.{plain}
+use Rattle.guppy_flat.proofs.JudgedTraces.{length-plain, all_leaving}
 use Rattle.guppy_flat.proofs.judging.shown_are_leaving.Goals as goal
 
 pub returns-in-Some : goal.returns-in-Some
 returns-in-Some c =
-    let links = map link_of c.args.links.now in
-    let size = length-map c.args.links.now link_of in
+    let links = plain c.args.links.now in
+    let size = length-plain c.args.links.now in
     let below : All (λ n. n < length links) c.args.shown.now = subst (λ count. All (λ n. n < count) c.args.shown.now) (sym size) c.requires in
     let once = rw c.in-Some.is at c.in_ok-marks.ensures.once in
     let marked = rw c.in-Some.is at c.in_ok-marks.ensures.marked in
