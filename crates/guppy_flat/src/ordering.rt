@@ -1,9 +1,8 @@
 ghost use Rattle.std.specs.Prelude.{◌≡◌, ◌↔◌, ℕ, ◌<◌, ◌≤◌, false, length, map, take, All, IfOk, IfErr, OnOk, OnErr};
 ghost use Rattle.std.specs.List.{concat};
-ghost use Rattle.guppy_search.specs.Fault.{IsFault};
 ghost use Rattle.guppy_search.specs.IxSet.{has};
 ghost use Rattle.guppy_core.specs.Sccs.{InOneBlock};
-ghost use Rattle.guppy_flat.specs.Flat.{flagged, MakeGraph};
+ghost use Rattle.guppy_flat.specs.Flat.{flagged, IsFlatFault, MakeGraph};
 ghost use Rattle.guppy_flat.specs.Ordering.{AreOrdered, IsOrdered, IsWithPrevious, MarksFirsts};
 
 use crate::flat::{Ends, Flat, graph_of};
@@ -60,7 +59,7 @@ pub fn order(
     ensures order { OnOk result
         (IsOrdered (flagged links.now flags.now) (length list.old) list.new) }
     ensures graph { OnOk result (MakeGraph (length list.old) (flagged links.now flags.now)) }
-    ensures fault { IfErr result (IsFault (length list.old) (flagged links.now flags.now)) }
+    ensures fault { IfErr result (IsFlatFault (length list.old) (flagged links.now flags.now)) }
     ensures unchanged { OnErr result (list.new ≡ list.old) }
 {
     let graph = graph_of(alloc, list.len(), links, flags)?;
@@ -110,7 +109,7 @@ pub fn components(
     ensures firsts { OnOk result
         (MarksFirsts (flagged links.now flags.now) list.new firsts.new) }
     ensures graph { OnOk result (MakeGraph (length list.old) (flagged links.now flags.now)) }
-    ensures fault { IfErr result (IsFault (length list.old) (flagged links.now flags.now)) }
+    ensures fault { IfErr result (IsFlatFault (length list.old) (flagged links.now flags.now)) }
     ensures unchanged { OnErr result (list.new ≡ list.old) }
     ensures unmarked { OnErr result (firsts.new ≡ firsts.old) }
 {

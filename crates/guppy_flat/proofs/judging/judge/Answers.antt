@@ -5,7 +5,8 @@ use Rattle.std.proofs.lemmas.Result.{IfOk-weaker}
 use Rattle.guppy_search.proofs.Members.{IsIn-below}
 use Rattle.guppy_search.specs.Resolve.{ShownInTime, JudgesResolve}
 use Rattle.guppy_flat.specs.Flat.{plain}
-use Rattle.guppy_flat.proofs.JudgedTraces.{length-plain, judged, judged_once, judged_leaving, judged_below}
+use Rattle.guppy_flat.proofs.FlatLinks.{length-plain}
+use Rattle.guppy_flat.proofs.JudgedTraces.{judged, judged_once, judged_leaving, judged_below}
 use Rattle.guppy_flat.proofs.judging.judge.Goals as goal
 
 pub returns-then-not-all_below : goal.returns-then-not-all_below

@@ -1,7 +1,8 @@
 use Rattle.std.proofs.Common.{◌<◌, length, sym, subst, arith}
 use Rattle.std.specs.Prelude.{All}
 use Rattle.guppy_flat.specs.Flat.{plain}
-use Rattle.guppy_flat.proofs.JudgedTraces.{length-plain, all_leaving}
+use Rattle.guppy_flat.proofs.FlatLinks.{length-plain}
+use Rattle.guppy_flat.proofs.JudgedTraces.{all_leaving}
 use Rattle.guppy_flat.proofs.judging.shown_are_leaving.Goals as goal
 
 pub returns-in-Some : goal.returns-in-Some
