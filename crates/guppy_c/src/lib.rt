@@ -5,9 +5,11 @@
 //!
 //! - `answer`: answers as text, of the JSON that `cargo metadata` prints;
 //! - `flat`: answers about a graph that the caller holds as slices;
-//! - `platform`: what a text says of a platform.
+//! - `platform`: what a text says of a platform;
+//! - `version`: which interface this is.
 #![tactic(auto)]
 
 pub mod answer;
 pub mod flat;
 pub mod platform;
+pub mod version;
