@@ -1,12 +1,45 @@
 // Made by scripts/exports.py of crates/guppy_c; not to be edited.
 //
-// A slice is a pointer, which is not null, and how many elements lie there. One that is written overlaps no other.
+// A slice is a pointer and how many elements lie there. The pointer is not null, not even of no elements, and aligned
+// for them. Each element has a value, and a `bool` is 0 or 1. A slice that is written overlaps no other.
+//
+// A call keeps no pointer, and nothing else for a later one. Several threads may call at once, as long as none writes
+// what a call of another one reads or writes.
+
 #ifndef GUPPY_H
 #define GUPPY_H
 
 #include <stdbool.h>
 #include <stddef.h>
 #include <stdint.h>
+
+#ifdef __cplusplus
+extern "C" {
+#endif
+
+// The number of this interface; `guppy_version` answers that of the archive.
+#define GUPPY_C_VERSION 1
+
+// What the program that links the archive defines: three functions that give it memory. A call of the archive calls
+// them, from its own thread.
+
+// What a request for memory gets.
+struct rattle_tried {
+    // Whether there is memory.
+    bool found;
+    // Where there is, the block; else any address but null.
+    void *block;
+};
+
+// Gives a block of so many bytes, perhaps none. Its address is a multiple of the alignment, which divides 16.
+struct rattle_tried rattle_alloc(size_t bytes, size_t alignment);
+
+// Gives a block of so many bytes in place of the block, as C's `realloc` does: where it moves, the first `kept` bytes come
+// along, as far as they have room. Where there is no memory, the block stays as it is.
+struct rattle_tried rattle_realloc(void *block, size_t kept, size_t bytes, size_t alignment);
+
+// Takes the block back.
+void rattle_dealloc(void *block);
 
 // How a call ended that writes a text.
 struct guppy_answer {
@@ -34,6 +67,24 @@ struct guppy_listed {
     size_t len;
 };
 
+// Whether what was walked is a resolve.
+struct guppy_judged {
+    // How the call ended, with 0, 1 or 6.
+    struct guppy_outcome outcome;
+    // At 0 whether it is, else `false`.
+    bool holds;
+};
+
+// What a text says of a platform.
+struct guppy_evaluated {
+    // 0: answered. 1: a line sets nothing. 2: not all that is passed is UTF-8. 3: there was no memory.
+    uint32_t status;
+    // At 0 what the text says, 0: that it is another platform, 1: nothing, 2: that it is this one; else 0.
+    uint32_t value;
+    // At 1 how many lines stand before the first that sets nothing, else 0.
+    size_t line;
+};
+
 // A link by its ends, two positions.
 struct guppy_ends {
     // The position that it leaves.
@@ -56,6 +107,20 @@ struct guppy_outcome guppy_components(const struct guppy_ends *links, size_t lin
 // positions as places in the list. None is a list of no positions.
 struct guppy_listed guppy_cycle(const struct guppy_ends *links, size_t links_len, const bool *flags, size_t flags_len, uint32_t *list, size_t list_len);
 
+// Tells what the text, as `cfg(unix)` or the name of a platform, says of the platform with this name, for which a
+// compiler prints these lines, as `rustc --print cfg --target NAME` does: names, as `unix`, and keys with a value, as
+// `target_os="linux"`. Unknown is what reads as neither a predicate nor a name.
+struct guppy_evaluated guppy_eval(const uint8_t *text, size_t text_len, const uint8_t *triple, size_t triple_len, const uint8_t *cfgs, size_t cfgs_len);
+
+// Tells whether a walk from the marked starts that showed somebody links, in the order of their numbers in `shown`,
+// with their answers, and ended with the marked set, is a resolve: no link is shown twice; exactly those are shown
+// that leave a position of the set, each after this was a start or an accepted link had led to it; and the set has
+// exactly the starts and what accepted links lead to. From dependents to dependencies where `forward` says so, else
+// the other way. There is an answer for each number shown, and a mark of the set for each of the starts' positions.
+//
+// No link is refused: it is no resolve where a number is no link's, or an accepted link leads to no position.
+struct guppy_judged guppy_judge(const struct guppy_ends *links, size_t links_len, const bool *starts, size_t starts_len, const size_t *shown, size_t shown_len, const bool *answers, size_t answers_len, const bool *set, size_t set_len, bool forward);
+
 // Writes the numbers of the links inside the marked set that are walked from its roots to the front of
 // `numbers`, each once: one whose leaving end is no root after a link that leads to that end. Where the set
 // holds each component that it touches, these are all links inside. A place for each link always does.
@@ -74,7 +139,7 @@ struct guppy_outcome guppy_reach(const struct guppy_ends *links, size_t links_le
 // Writes the packages, links and workspace that the JSON describes as one text, in which each part tells how long it is:
 // a field is its length in bytes, a colon and the text, or `-` where there is none; a list its length, a semicolon and
 // its elements.
-// 
+//
 // The workspace's root and target directory are fields; then comes the list of packages: ID, name, version, source,
 // manifest, edition, description, license and repository, all fields, the source behind `w` where it is the path of a
 // member, `p` where it is a path, `x` where it is elsewhere; then the list of links: two IDs, the name in the manifest
@@ -86,5 +151,13 @@ struct guppy_answer guppy_records(const uint8_t *json, size_t json_len, uint8_t 
 // set enters from another one; a link enters what it leads to where `forward` says so, else what it
 // leaves. There is a mark for each of the set's positions.
 struct guppy_outcome guppy_roots(const struct guppy_ends *links, size_t links_len, const bool *set, size_t set_len, bool forward, bool *marks, size_t marks_len);
+
+// The number of the archive's interface. A program that was built with another `GUPPY_C_VERSION` must make no other
+// call: the number changes with each export, parameter, struct and status.
+uint32_t guppy_version(void);
+
+#ifdef __cplusplus
+}
+#endif
 
 #endif

@@ -2,7 +2,8 @@
 """Writes what other languages declare of crates/guppy_c: rust/src/exports.rs and rust/guppy.h.
 
 Both are made of the signatures and structs in the sources. With --check it writes nothing, and fails where a file is not
-what it would write.
+what it would write. Where the header would declare other structs or functions than it does, it asks for another number
+of the interface.
 """
 
 import re
@@ -11,19 +12,74 @@ from pathlib import Path
 
 TOP = Path(__file__).resolve().parent.parent
 SOURCES = sorted((TOP / "crates/guppy_c/src").glob("*.rt")) + [TOP / "crates/guppy_flat/src/flat.rt"]
+RUST = TOP / "rust/src/exports.rs"
+HEADER = TOP / "rust/guppy.h"
 C_TYPES = {"u8": "uint8_t", "u32": "uint32_t", "usize": "size_t", "bool": "bool"}
 DOCS = r"((?:^ *///[^\n]*\n)*)"
 STRUCT = re.compile(DOCS + r"#\[repr\(C\)\]\n#\[derive\([^\n]*\)\]\npub struct (\w+) \{\n(.*?)^\}", re.M | re.S)
 FIELD = re.compile(DOCS + r" *pub (\w+): (\w+),\n", re.M)
 EXPORT = re.compile(DOCS + r'#\[unsafe\(no_mangle\)\]\npub extern "C" fn (\w+)\(([^)]*)\) -> (\w+)', re.M)
+SLICE = re.compile(r"&(mut )?\[(\w+)\]")
+ANSWERED = re.compile(r"fn guppy_version\(\) -> u32\n +ensures \{ result ≡ (\d+) \}")
+NUMBER = re.compile(r"#define GUPPY_C_VERSION (\d+)\n")
 HEAD = """// Made by scripts/exports.py of crates/guppy_c; not to be edited.
 //
-// A slice is a pointer, which is not null, and how many elements lie there. One that is written overlaps no other.
+// A slice is a pointer and how many elements lie there. The pointer is not null, not even of no elements, and aligned
+// for them. Each element has a value, and a `bool` is 0 or 1. A slice that is written overlaps no other.
+//
+// A call keeps no pointer, and nothing else for a later one. Several threads may call at once, as long as none writes
+// what a call of another one reads or writes.
+"""
+BEGIN = """
+#ifndef GUPPY_H
+#define GUPPY_H
+
+#include <stdbool.h>
+#include <stddef.h>
+#include <stdint.h>
+
+#ifdef __cplusplus
+extern "C" {
+#endif
+
+// The number of this interface; `guppy_version` answers that of the archive.
+"""
+MEMORY = """// What the program that links the archive defines: three functions that give it memory. A call of the archive calls
+// them, from its own thread.
+
+// What a request for memory gets.
+struct rattle_tried {
+    // Whether there is memory.
+    bool found;
+    // Where there is, the block; else any address but null.
+    void *block;
+};
+
+// Gives a block of so many bytes, perhaps none. Its address is a multiple of the alignment, which divides 16.
+struct rattle_tried rattle_alloc(size_t bytes, size_t alignment);
+
+// Gives a block of so many bytes in place of the block, as C's `realloc` does: where it moves, the first `kept` bytes come
+// along, as far as they have room. Where there is no memory, the block stays as it is.
+struct rattle_tried rattle_realloc(void *block, size_t kept, size_t bytes, size_t alignment);
+
+// Takes the block back.
+void rattle_dealloc(void *block);
+
+"""
+END = """#ifdef __cplusplus
+}
+#endif
+
+#endif
 """
 
 
 def words_of(docs):
     return [line.strip().removeprefix("///").strip() for line in docs.splitlines()]
+
+
+def comment(mark, docs, indent=""):
+    return [f"{indent}{mark} {it}".rstrip() + "\n" for it in docs]
 
 
 def parameters_of(text):
@@ -33,67 +89,81 @@ def parameters_of(text):
 
 
 def read():
-    structs, exports = [], []
+    """The structs, the exports, and the number of the interface."""
+    structs, exports, number = [], [], None
     for file in SOURCES:
         text = file.read_text(encoding="utf-8")
         structs += [(name, words_of(docs), FIELD.findall(body)) for docs, name, body in STRUCT.findall(text)]
         exports += [(name, words_of(docs), parameters_of(given), result) for docs, name, given, result in EXPORT.findall(text)]
         if len(EXPORT.findall(text)) != text.count("no_mangle"):
             sys.exit(f"exports: a signature in {file} has another form than the others")
-    return structs, sorted(exports)
+        answered = ANSWERED.search(text)
+        number = answered[1] if answered else number
+    return structs, sorted(exports), number
 
 
-def rust_of(structs, exports):
-    lines = [HEAD]
+def rust_of(structs, exports, number):
+    lines = [HEAD, "\n/// The number of this interface.\n", f"pub(crate) const VERSION: u32 = {number};\n\n"]
     for name, docs, fields in structs:
-        lines += [f"/// {it}\n" for it in docs]
+        lines += comment("///", docs)
         lines += ["#[repr(C)]\n", "#[derive(Clone, Copy, Debug, PartialEq, Eq)]\n", f"pub(crate) struct {name} {{\n"]
         for told, field, type in fields:
-            lines += [f"    /// {it}\n" for it in words_of(told)] + [f"    pub(crate) {field}: {type},\n"]
+            lines += comment("///", words_of(told), "    ") + [f"    pub(crate) {field}: {type},\n"]
         lines.append("}\n\n")
     lines.append('#[allow(dead_code)]\nextern "C" {\n')
     for name, docs, parameters, result in exports:
-        lines += [f"    /// {it}\n" for it in docs] + [f"    fn {name}(\n"]
+        lines += comment("///", docs, "    ")
+        given = []
         for parameter, type in parameters:
-            slice = re.fullmatch(r"&(mut )?\[(\w+)\]", type)
+            slice = SLICE.fullmatch(type)
             if slice:
-                lines.append(f"        {parameter}: *{'mut' if slice[1] else 'const'} {slice[2]},\n")
-                lines.append(f"        {parameter}_len: usize,\n")
+                given.append(f"        {parameter}: *{'mut' if slice[1] else 'const'} {slice[2]},\n")
+                given.append(f"        {parameter}_len: usize,\n")
             else:
-                lines.append(f"        {parameter}: {type},\n")
-        lines.append(f"    ) -> {result};\n")
+                given.append(f"        {parameter}: {type},\n")
+        lines += [f"    fn {name}(", *(["\n", *given, "    "] if given else []), f") -> {result};\n"]
     return "".join([*lines, "}\n"])
 
 
-def header_of(structs, exports):
+def header_of(structs, exports, number):
     names = {name: f"struct guppy_{name.lower()}" for name, _, _ in structs} | C_TYPES
-    lines = [HEAD, "#ifndef GUPPY_H\n#define GUPPY_H\n\n#include <stdbool.h>\n#include <stddef.h>\n#include <stdint.h>\n\n"]
+    lines = [HEAD, BEGIN, f"#define GUPPY_C_VERSION {number}\n\n", MEMORY]
     for name, docs, fields in structs:
-        lines += [f"// {it}\n" for it in docs] + [f"{names[name]} {{\n"]
+        lines += comment("//", docs) + [f"{names[name]} {{\n"]
         for told, field, type in fields:
-            lines += [f"    // {it}\n" for it in words_of(told)] + [f"    {names[type]} {field};\n"]
+            lines += comment("//", words_of(told), "    ") + [f"    {names[type]} {field};\n"]
         lines.append("};\n\n")
     for name, docs, parameters, result in exports:
         given = []
         for parameter, type in parameters:
-            slice = re.fullmatch(r"&(mut )?\[(\w+)\]", type)
+            slice = SLICE.fullmatch(type)
             if slice:
                 given += [f"{'' if slice[1] else 'const '}{names[slice[2]]} *{parameter}", f"size_t {parameter}_len"]
             else:
                 given.append(f"{names[type]} {parameter}")
-        lines += [f"// {it}\n" for it in docs] + [f"{names[result]} {name}(", ", ".join(given), ");\n\n"]
-    return "".join([*lines, "#endif\n"])
+        lines += comment("//", docs) + [f"{names[result]} {name}(", ", ".join(given) or "void", ");\n\n"]
+    return "".join([*lines, END])
+
+
+def is_other_with_one_number(old, new):
+    """Whether two headers declare other structs or functions, under one number."""
+    declared = ["".join(re.sub(r"//[^\n]*", "", text).split()) for text in (old, new)]
+    numbers = [NUMBER.findall(text) for text in (old, new)]
+    return declared[0] != declared[1] and numbers[0] == numbers[1]
 
 
 def main():
-    made = {"rust/src/exports.rs": rust_of(*read()), "rust/guppy.h": header_of(*read())}
-    for name, text in made.items():
-        file = TOP / name
-        if sys.argv[1:] == ["--check"]:
-            if not file.exists() or file.read_text(encoding="utf-8") != text:
-                sys.exit(f"exports: {name} is not what scripts/exports.py writes")
-        else:
-            file.write_text(text, encoding="utf-8")
+    made = {RUST: rust_of(*read()), HEADER: header_of(*read())}
+    old = {file: file.read_text(encoding="utf-8") if file.exists() else "" for file in made}
+    if sys.argv[1:] == ["--check"]:
+        for file, text in made.items():
+            if old[file] != text:
+                sys.exit(f"exports: {file.relative_to(TOP)} is not what scripts/exports.py writes")
+        return
+    if is_other_with_one_number(old[HEADER], made[HEADER]):
+        sys.exit("exports: the interface is another one: change the number that `guppy_version` answers")
+    for file, text in made.items():
+        file.write_text(text, encoding="utf-8")
 
 
 if __name__ == "__main__":

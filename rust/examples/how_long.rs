@@ -1,5 +1,6 @@
 //! Prints how many milliseconds it takes to read the graph of a file and list its packages in their order, and to resolve
-//! what a member needs, the least of nine times each: `how_long metadata.json`.
+//! what a member needs, without a closure and by one whose walk is judged, the least of nine times each:
+//! `how_long metadata.json`.
 
 use guppy_proved::graph::{DependencyDirection, PackageGraph};
 use std::error::Error;
@@ -45,5 +46,13 @@ fn main() -> Result<(), Box<dyn Error>> {
         |ids| graph.query_forward(ids).map(|it| it.resolve().len()),
     );
     println!("{} resolved: {resolved:.3}", member.name());
+    let judged = least(
+        || [member.id()],
+        |ids| {
+            let query = graph.query_forward(ids)?;
+            Ok::<_, guppy_proved::Error>(query.resolve_with_fn(|_, _| true).len())
+        },
+    );
+    println!("{} resolved by a closure: {judged:.3}", member.name());
     Ok(())
 }

@@ -1,6 +1,14 @@
 // Made by scripts/exports.py of crates/guppy_c; not to be edited.
 //
-// A slice is a pointer, which is not null, and how many elements lie there. One that is written overlaps no other.
+// A slice is a pointer and how many elements lie there. The pointer is not null, not even of no elements, and aligned
+// for them. Each element has a value, and a `bool` is 0 or 1. A slice that is written overlaps no other.
+//
+// A call keeps no pointer, and nothing else for a later one. Several threads may call at once, as long as none writes
+// what a call of another one reads or writes.
+
+/// The number of this interface.
+pub(crate) const VERSION: u32 = 1;
+
 /// How a call ended that writes a text.
 #[repr(C)]
 #[derive(Clone, Copy, Debug, PartialEq, Eq)]
@@ -31,6 +39,28 @@ pub(crate) struct Listed {
     pub(crate) outcome: Outcome,
     /// How long the list is, at 0 and 7, else 0.
     pub(crate) len: usize,
+}
+
+/// Whether what was walked is a resolve.
+#[repr(C)]
+#[derive(Clone, Copy, Debug, PartialEq, Eq)]
+pub(crate) struct Judged {
+    /// How the call ended, with 0, 1 or 6.
+    pub(crate) outcome: Outcome,
+    /// At 0 whether it is, else `false`.
+    pub(crate) holds: bool,
+}
+
+/// What a text says of a platform.
+#[repr(C)]
+#[derive(Clone, Copy, Debug, PartialEq, Eq)]
+pub(crate) struct Evaluated {
+    /// 0: answered. 1: a line sets nothing. 2: not all that is passed is UTF-8. 3: there was no memory.
+    pub(crate) status: u32,
+    /// At 0 what the text says, 0: that it is another platform, 1: nothing, 2: that it is this one; else 0.
+    pub(crate) value: u32,
+    /// At 1 how many lines stand before the first that sets nothing, else 0.
+    pub(crate) line: usize,
 }
 
 /// A link by its ends, two positions.
@@ -79,6 +109,37 @@ extern "C" {
         list: *mut u32,
         list_len: usize,
     ) -> Listed;
+    /// Tells what the text, as `cfg(unix)` or the name of a platform, says of the platform with this name, for which a
+    /// compiler prints these lines, as `rustc --print cfg --target NAME` does: names, as `unix`, and keys with a value, as
+    /// `target_os="linux"`. Unknown is what reads as neither a predicate nor a name.
+    fn guppy_eval(
+        text: *const u8,
+        text_len: usize,
+        triple: *const u8,
+        triple_len: usize,
+        cfgs: *const u8,
+        cfgs_len: usize,
+    ) -> Evaluated;
+    /// Tells whether a walk from the marked starts that showed somebody links, in the order of their numbers in `shown`,
+    /// with their answers, and ended with the marked set, is a resolve: no link is shown twice; exactly those are shown
+    /// that leave a position of the set, each after this was a start or an accepted link had led to it; and the set has
+    /// exactly the starts and what accepted links lead to. From dependents to dependencies where `forward` says so, else
+    /// the other way. There is an answer for each number shown, and a mark of the set for each of the starts' positions.
+    ///
+    /// No link is refused: it is no resolve where a number is no link's, or an accepted link leads to no position.
+    fn guppy_judge(
+        links: *const Ends,
+        links_len: usize,
+        starts: *const bool,
+        starts_len: usize,
+        shown: *const usize,
+        shown_len: usize,
+        answers: *const bool,
+        answers_len: usize,
+        set: *const bool,
+        set_len: usize,
+        forward: bool,
+    ) -> Judged;
     /// Writes the numbers of the links inside the marked set that are walked from its roots to the front of
     /// `numbers`, each once: one whose leaving end is no root after a link that leads to that end. Where the set
     /// holds each component that it touches, these are all links inside. A place for each link always does.
@@ -119,7 +180,7 @@ extern "C" {
     /// Writes the packages, links and workspace that the JSON describes as one text, in which each part tells how long it is:
     /// a field is its length in bytes, a colon and the text, or `-` where there is none; a list its length, a semicolon and
     /// its elements.
-    /// 
+    ///
     /// The workspace's root and target directory are fields; then comes the list of packages: ID, name, version, source,
     /// manifest, edition, description, license and repository, all fields, the source behind `w` where it is the path of a
     /// member, `p` where it is a path, `x` where it is elsewhere; then the list of links: two IDs, the name in the manifest
@@ -143,4 +204,7 @@ extern "C" {
         marks: *mut bool,
         marks_len: usize,
     ) -> Outcome;
+    /// The number of the archive's interface. A program that was built with another `GUPPY_C_VERSION` must make no other
+    /// call: the number changes with each export, parameter, struct and status.
+    fn guppy_version() -> u32;
 }

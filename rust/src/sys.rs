@@ -8,6 +8,13 @@ use std::alloc::{handle_alloc_error, Layout};
 
 include!("exports.rs");
 
+impl Ends {
+    /// The position that the link leads to, forward or the other way.
+    pub(crate) fn far(self, forward: bool) -> usize {
+        (if forward { self.to } else { self.from }) as usize
+    }
+}
+
 /// Why links make no graph.
 #[derive(Clone, Copy, Debug, PartialEq, Eq)]
 pub(crate) enum LinkFault {
@@ -172,6 +179,46 @@ pub(crate) fn links(links: &[Ends], set: &[bool], forward: bool) -> Vec<usize> {
     numbers
 }
 
+/// Whether a resolve from the starts shows the links with these numbers, in their order, with these answers, and includes
+/// the set.
+pub(crate) fn is_resolve(
+    links: &[Ends],
+    starts: &[bool],
+    shown: &[usize],
+    answers: &[bool],
+    set: &[bool],
+    forward: bool,
+) -> bool {
+    // SAFETY: as above, and no slice is written.
+    let judged = unsafe {
+        guppy_judge(
+            links.as_ptr(),
+            links.len(),
+            starts.as_ptr(),
+            starts.len(),
+            shown.as_ptr(),
+            shown.len(),
+            answers.as_ptr(),
+            answers.len(),
+            set.as_ptr(),
+            set.len(),
+            forward,
+        )
+    };
+    accepted(judged.outcome, links);
+    judged.holds
+}
+
+// The calls above are of a graph, and there is none before a call of one of those below.
+fn expect_own_interface() {
+    // SAFETY: nothing is passed.
+    let version = unsafe { guppy_version() };
+    assert_eq!(
+        version, VERSION,
+        "libguppy_c.a is of another build than this crate"
+    );
+}
+
 // Room for so many bytes.
 fn room_of(bytes: usize) -> Vec<u8> {
     let mut out = vec![0; bytes];
@@ -204,6 +251,7 @@ fn text_of(room: usize, call: impl Fn(&mut [u8]) -> Answer) -> Result<String, St
 /// What `guppy-cargo` prints for these arguments of the workspace that the JSON describes, or the line that says why
 /// it refuses. None of the arguments has a NUL.
 pub(crate) fn answer(json: &str, args: &[&str]) -> Result<String, String> {
+    expect_own_interface();
     let args = args.join("\0");
     let _region = region::for_text(json.len());
     // SAFETY: as above, and no slice overlaps `out`.
@@ -221,6 +269,7 @@ pub(crate) fn answer(json: &str, args: &[&str]) -> Result<String, String> {
 
 /// The packages, links and workspace that the JSON describes as one text, or the line that says why there are none.
 pub(crate) fn records(json: &str) -> Result<String, String> {
+    expect_own_interface();
     let _region = region::for_text(json.len());
     // SAFETY: as above, and no slice overlaps `out`.
     text_of(json.len(), |out| unsafe {
@@ -654,6 +703,155 @@ mod tests {
             assert!(refused.len() <= 1);
         }
         assert!(refusals > 100, "{refusals} refusals");
+    }
+
+    // A trace: the numbers shown, each with its answer.
+    type Trace = Vec<(usize, bool)>;
+
+    // The call's status, and whether it holds.
+    fn judged(links: &[Ends], starts: &[bool], trace: &Trace, set: &[bool]) -> (u32, bool) {
+        let (shown, answers): (Vec<usize>, Vec<bool>) = trace.iter().copied().unzip();
+        let (p, n, s) = (links.as_ptr(), links.len(), starts.as_ptr());
+        let (t, a, m) = (shown.as_ptr(), answers.as_ptr(), set.as_ptr());
+        let (ts, ms) = (trace.len(), set.len());
+        // SAFETY: as above.
+        let judged = unsafe { guppy_judge(p, n, s, starts.len(), t, ts, a, ts, m, ms, true) };
+        assert_eq!(judged.outcome.link, 0);
+        assert_eq!(BLOCKS.get(), 0, "all memory is given back");
+        (judged.outcome.status, judged.holds)
+    }
+
+    // The rules of a resolve, each looked at in the plainest way.
+    fn keeps_the_rules(links: &[Ends], starts: &[bool], trace: &Trace, set: &[bool]) -> bool {
+        let near = |number: usize| links[number].from as usize;
+        let is_in = |marks: &[bool], position: usize| marks.get(position) == Some(&true);
+        let is_led_to = |before: &[(usize, bool)], position: usize| {
+            let leads = |number: usize| links[number].to as usize == position;
+            is_in(starts, position) || before.iter().any(|it| it.1 && leads(it.0))
+        };
+        let is_shown = |before: &[(usize, bool)], number| before.iter().any(|it| it.0 == number);
+        trace.iter().all(|it| it.0 < links.len())
+            && (0..trace.len()).all(|at| !is_shown(&trace[..at], trace[at].0))
+            && (0..links.len()).all(|number| is_shown(trace, number) == is_in(set, near(number)))
+            && (0..20).all(|position| is_in(set, position) == is_led_to(trace, position))
+            && (0..trace.len()).all(|at| is_led_to(&trace[..at], near(trace[at].0)))
+    }
+
+    // Numbers that look like chance.
+    struct Chance(u64);
+
+    impl Chance {
+        fn below(&mut self, limit: usize) -> usize {
+            self.0 = self
+                .0
+                .wrapping_mul(6_364_136_223_846_793_005)
+                .wrapping_add(1_442_695_040_888_963_407);
+            (self.0 >> 33) as usize % limit
+        }
+    }
+
+    // A walk that answers by chance, of links whose ends are positions.
+    fn walked(links: &[Ends], starts: &[bool], chance: &mut Chance) -> (Trace, Vec<bool>) {
+        let (mut trace, mut set) = (Trace::new(), starts.to_vec());
+        let is_open = |trace: &Trace, set: &[bool], number: usize| {
+            set[links[number].from as usize] && trace.iter().all(|it| it.0 != number)
+        };
+        while let Some(number) = (0..links.len()).find(|it| is_open(&trace, &set, *it)) {
+            trace.push((number, chance.below(3) > 0));
+            set[links[number].to as usize] |= trace[trace.len() - 1].1;
+        }
+        (trace, set)
+    }
+
+    // Each walk holds, and each that was changed a little is judged as the rules say.
+    #[test]
+    fn a_resolve_is_judged_by_its_rules() {
+        let (mut chance, mut counts) = (Chance(7), [0, 0]);
+        for turn in 0..4_000 {
+            let count = 1 + chance.below(5);
+            let end = |chance: &mut Chance| chance.below(count) as u32;
+            let mut links: Vec<Ends> = (0..chance.below(8))
+                .map(|_| Ends {
+                    from: end(&mut chance),
+                    to: end(&mut chance),
+                })
+                .collect();
+            let starts: Vec<bool> = (0..count).map(|_| chance.below(2) > 0).collect();
+            let (mut trace, mut set) = walked(&links, &starts, &mut chance);
+            assert_eq!(judged(&links, &starts, &trace, &set), (0, true), "{turn}");
+            let (number, length) = (chance.below(8), trace.len().max(1));
+            let (here, there) = (chance.below(length), chance.below(length));
+            match chance.below(6) {
+                0 => set[number % count] ^= true,
+                1 => links.push(Ends { from: 9, to: 12 }),
+                _ if trace.is_empty() => trace.push((number, true)),
+                2 => trace.swap(here, there),
+                3 => trace[here] = (number, true),
+                4 => trace.insert(here, trace[there]),
+                _ => links[trace[here].0].to = number as u32,
+            }
+            let holds = keeps_the_rules(&links, &starts, &trace, &set);
+            let told = judged(&links, &starts, &trace, &set);
+            assert_eq!(
+                told,
+                (0, holds),
+                "{turn}: {links:?} {starts:?} {trace:?} {set:?}"
+            );
+            counts[usize::from(holds)] += 1;
+        }
+        assert!(counts[0] > 1_000 && counts[1] > 300, "{counts:?}");
+    }
+
+    #[test]
+    fn a_resolve_that_is_not_judged_does_not_hold() {
+        let (starts, set) = ([false, false, true], [true, false, true]);
+        let trace = vec![(0, true), (1, false)];
+        assert_eq!(judged(&LINKS, &starts, &trace, &set), (0, true));
+        assert_eq!(judged(&LINKS, &starts[..2], &trace, &set), (1, false));
+        // A mark a link, and then a mark a position, twice.
+        for granted in 0..3 {
+            GRANTED.set(granted);
+            assert_eq!(judged(&LINKS, &starts, &trace, &set), (6, false));
+        }
+        GRANTED.set(3);
+        assert_eq!(judged(&LINKS, &starts, &trace, &set), (0, true));
+        GRANTED.set(usize::MAX);
+    }
+
+    #[test]
+    fn a_text_is_evaluated_on_a_platform() {
+        let said = |text: &[u8], cfgs: &str| {
+            let (name, n) = ("linux".as_ptr(), 5);
+            let (t, c) = (text.as_ptr(), cfgs.as_ptr());
+            // SAFETY: as above.
+            let told = unsafe { guppy_eval(t, text.len(), name, n, c, cfgs.len()) };
+            assert_eq!(BLOCKS.get(), 0, "all memory is given back");
+            (told.status, told.value, told.line)
+        };
+        let cfgs = "unix\ntarget_os=\"linux\"\n";
+        for (text, value) in [
+            ("cfg(unix)", 2),
+            ("cfg(all(unix, target_os = \"linux\"))", 2),
+            ("cfg(not(unix))", 0),
+            ("linux", 2),
+            ("windows", 0),
+            ("cfg(unix", 1),
+            ("", 0),
+        ] {
+            assert_eq!(said(text.as_bytes(), cfgs), (0, value, 0), "{text}");
+        }
+        assert_eq!(said(b"linux", "unix\n\ntest"), (1, 0, 1));
+        assert_eq!(said(b"\xff", cfgs), (2, 0, 0));
+        for granted in 0.. {
+            GRANTED.set(granted);
+            let told = said(b"cfg(unix)", cfgs);
+            if GRANTED.replace(usize::MAX) < usize::MAX / 2 {
+                assert_eq!(told, (0, 2, 0));
+                assert!(granted > 4, "{granted} requests");
+                break;
+            }
+            assert_eq!(told, (3, 0, 0));
+        }
     }
 
     const JSON: &str = include_str!("../../examples/metadata.json");

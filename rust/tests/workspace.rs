@@ -240,24 +240,35 @@ fn walks_lead_both_ways() {
 }
 
 #[test]
-fn a_resolver_with_a_state_is_asked_about_each_link_once() {
-    struct First(usize);
-    impl<'g> PackageResolver<'g> for First {
+fn a_resolver_is_asked_once_about_each_link_of_what_was_found() {
+    // Takes links of one package, and remembers what it was asked.
+    struct Of<'g>(&'g str, Vec<(&'g str, &'g str)>);
+    impl<'g> PackageResolver<'g> for Of<'g> {
         fn accept(&mut self, query: &PackageQuery<'g>, link: PackageLink<'g>) -> bool {
             assert_eq!(query.direction(), Forward);
-            self.0 += 1;
-            link.from().name() == "app"
+            self.1.push((link.from().name(), link.to().name()));
+            link.from().name() == self.0
         }
     }
     let graph = workspace();
-    let mut first = First(0);
+    let mut of_app = Of("app", Vec::new());
     let set = graph
         .query_forward([id(&graph, "app")])
         .unwrap()
-        .resolve_with(&mut first);
+        .resolve_with(&mut of_app);
+    assert_eq!(sorted(set.packages(Forward)), ["app", "cli", "core"]);
+    // Those of app come first, as nothing else led to the others.
+    of_app.1[..2].sort_unstable();
+    of_app.1[2..].sort_unstable();
     assert_eq!(
-        (first.0, sorted(set.packages(Forward))),
-        (6, vec!["app", "cli", "core"])
+        of_app.1,
+        [
+            ("app", "cli"),
+            ("app", "core"),
+            ("cli", "core"),
+            ("core", "macros"),
+            ("core", "test-support"),
+        ]
     );
 }
 

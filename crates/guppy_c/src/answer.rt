@@ -48,6 +48,7 @@ fn refuse(alloc: Global, fault: CargoFault, out: &mut [u8]) -> Answer
     ensures room { result.status ≡ 1 → result.len ≤ length out.new }
     ensures no_room { result.status ≡ 2 → (length out.old < result.len)
         × (text : List ℕ) × (length text ≡ result.len) × Refuses fault text }
+    ensures no_memory { result.status ≡ 3 → result.len ≡ 0 }
     ensures least { 1 ≤ result.status }
     ensures most { result.status ≤ 3 }
     ensures unchanged { result.status ≢ 1 → out.new ≡ out.old }
@@ -74,6 +75,7 @@ pub extern "C" fn guppy_answer(alloc: Global, json: &[u8], args: &[u8], out: &mu
     ensures no_room { result.status ≡ 2 → (length out.old < result.len)
         × (text : List ℕ) × (length text ≡ result.len)
         × (IsJsonAnswer args.now json.now text ⊎ IsRefusal args.now json.now text) }
+    ensures no_memory { result.status ≡ 3 → result.len ≡ 0 }
     ensures status { result.status ≤ 3 }
     ensures unchanged { 2 ≤ result.status → out.new ≡ out.old }
 {
@@ -110,6 +112,7 @@ pub extern "C" fn guppy_records(alloc: Global, json: &[u8], out: &mut [u8]) -> A
     ensures no_room { result.status ≡ 2 → (length out.old < result.len)
         × (text : List ℕ) × (length text ≡ result.len)
         × (AreRecords json.now text ⊎ AreRefused json.now text) }
+    ensures no_memory { result.status ≡ 3 → result.len ≡ 0 }
     ensures status { result.status ≤ 3 }
     ensures unchanged { 2 ≤ result.status → out.new ≡ out.old }
 {

@@ -1,11 +1,13 @@
 //! Answers about a graph that the caller holds as slices: those of `guppy_flat`, where time and memory are
 //! said, with a status in place of each error. Lengths are tested first.
-ghost use Rattle.std.specs.Prelude.{◌≡◌, ◌≢◌, ◌<◌, ◌≤◌, ◌↔◌, ◌⊎◌, ℕ, List, Bool, length, take};
-ghost use Rattle.guppy_search.specs.Fault.{IsFault};
+ghost use Rattle.std.specs.Prelude.{◌≡◌, ◌≢◌, ◌<◌, ◌≤◌, ◌↔◌, ◌⊎◌, ℕ, List, Bool, true, false, length, take};
+ghost use Rattle.std.specs.List.{zip};
+ghost use Rattle.guppy_search.specs.Resolve.{JudgesResolve};
+ghost use Rattle.guppy_search.specs.declared.graph_core.graph.GraphFault.TheVariants.{OutOfMemory};
 ghost use Rattle.guppy_search.specs.declared.graph_core.link.Link.{Link};
 ghost use Rattle.guppy_search.specs.declared.ix.direction.DependencyDirection.TheVariants.{Forward};
 ghost use Rattle.guppy_core.specs.Cycle.{IsAcyclic, IsCycle};
-ghost use Rattle.guppy_flat.specs.Flat.{flagged, plain};
+ghost use Rattle.guppy_flat.specs.Flat.{flagged, plain, IsFlatFault, MakeGraph};
 ghost use Rattle.guppy_flat.specs.Ordering.{IsOrdered, MarksFirsts};
 ghost use Rattle.guppy_flat.specs.Search.{FlaggedStep, IsReached};
 ghost use Rattle.guppy_flat.specs.Sets.{AreSetLinks, MarksRoots};
@@ -39,8 +41,9 @@ fn direction(forward: bool) -> DependencyDirection
 
 // How a call ends that found the fault.
 fn told(fault: GraphFault) -> Outcome
-    ensures tells { (count : ℕ) (links : List (Link Bool)) → IsFault count links fault
+    ensures tells { (count : ℕ) (links : List (Link Bool)) → IsFlatFault count links fault
         → TellsFault count links result }
+    ensures memory { (result.status ≡ 6) ↔ (fault ≡ OutOfMemory) }
     ensures at_least { 2 ≤ result.status }
     ensures at_most { result.status ≤ 6 }
 {
@@ -70,6 +73,8 @@ pub extern "C" fn guppy_reach(
     ensures status { result.status ≤ 6 }
     ensures lengths { (result.status ≡ 1)
         ↔ ((length flags.now ≢ length links.now) ⊎ (length marks.old ≢ length starts.now)) }
+    ensures graph { result.status ≡ 0
+        → MakeGraph (length starts.now) (flagged links.now flags.now) }
     ensures fault { TellsFault (length starts.now) (flagged links.now flags.now) result }
     ensures unchanged { result.status ≢ 0 → marks.new ≡ marks.old }
 {
@@ -96,6 +101,8 @@ pub extern "C" fn guppy_order(
         → IsOrdered (flagged links.now flags.now) (length list.old) list.new }
     ensures status { result.status ≤ 6 }
     ensures lengths { (result.status ≡ 1) ↔ (length flags.now ≢ length links.now) }
+    ensures graph { result.status ≡ 0
+        → MakeGraph (length list.old) (flagged links.now flags.now) }
     ensures fault { TellsFault (length list.old) (flagged links.now flags.now) result }
     ensures unchanged { result.status ≢ 0 → list.new ≡ list.old }
 {
@@ -125,6 +132,8 @@ pub extern "C" fn guppy_components(
     ensures status { result.status ≤ 6 }
     ensures lengths { (result.status ≡ 1)
         ↔ ((length flags.now ≢ length links.now) ⊎ (length firsts.old ≢ length list.old)) }
+    ensures graph { result.status ≡ 0
+        → MakeGraph (length list.old) (flagged links.now flags.now) }
     ensures fault { TellsFault (length list.old) (flagged links.now flags.now) result }
     ensures unchanged { result.status ≢ 0 → list.new ≡ list.old }
     ensures unmarked { result.status ≢ 0 → firsts.new ≡ firsts.old }
@@ -153,6 +162,7 @@ pub extern "C" fn guppy_roots(
         → MarksRoots (direction_of forward) (plain links.now) set.now marks.new }
     ensures status { result.status ≤ 6 }
     ensures lengths { (result.status ≡ 1) ↔ (length marks.old ≢ length set.now) }
+    ensures graph { result.status ≡ 0 → MakeGraph (length set.now) (plain links.now) }
     ensures fault { TellsFault (length set.now) (plain links.now) result }
     ensures unchanged { result.status ≢ 0 → marks.new ≡ marks.old }
 {
@@ -193,6 +203,8 @@ pub extern "C" fn guppy_cycle(
     ensures status { result.outcome.status ≤ 6 }
     ensures len { result.outcome.status ≢ 0 → result.len ≡ 0 }
     ensures lengths { (result.outcome.status ≡ 1) ↔ (length flags.now ≢ length links.now) }
+    ensures graph { result.outcome.status ≡ 0
+        → MakeGraph (length list.old) (flagged links.now flags.now) }
     ensures fault { TellsFault (length list.old) (flagged links.now flags.now) result.outcome }
 {
     if flags.len() != links.len() {
@@ -218,6 +230,7 @@ fn put(found: &[usize], numbers: &mut [usize]) -> Listed
     ensures written { result.outcome.status ≡ 0
         → (result.len ≡ length found.now) × (take result.len numbers.new ≡ found.now) }
     ensures status { (result.outcome.status ≡ 0) ⊎ (result.outcome.status ≡ 7) }
+    ensures no_link { result.outcome.link ≡ 0 }
     ensures room { result.outcome.status ≡ 7
         → (length numbers.old < result.len) × (result.len ≡ length found.now) }
     ensures unchanged { result.outcome.status ≢ 0 → numbers.new ≡ numbers.old }
@@ -253,7 +266,10 @@ pub extern "C" fn guppy_links(
         × (list : List ℕ) × (result.len ≡ length list)
         × AreSetLinks (direction_of forward) (plain links.now) set.now list }
     ensures status { result.outcome.status ≤ 7 }
+    ensures len { result.outcome.status ≢ 0 → result.outcome.status ≢ 7 → result.len ≡ 0 }
     ensures lengths { result.outcome.status ≢ 1 }
+    ensures graph { (result.outcome.status ≡ 0) ⊎ (result.outcome.status ≡ 7)
+        → MakeGraph (length set.now) (plain links.now) }
     ensures fault { TellsFault (length set.now) (plain links.now) result.outcome }
     ensures unchanged { result.outcome.status ≢ 0 → numbers.new ≡ numbers.old }
 {
@@ -262,6 +278,69 @@ pub extern "C" fn guppy_links(
         Err(fault) => Listed {
             outcome: told(fault),
             len: 0,
+        },
+    }
+}
+
+/// Whether what was walked is a resolve.
+#[repr(C)]
+#[derive(Clone, Copy, Debug, PartialEq, Eq)]
+pub struct Judged {
+    /// How the call ended, with 0, 1 or 6.
+    pub outcome: Outcome,
+    /// At 0 whether it is, else `false`.
+    pub holds: bool,
+}
+
+/// Tells whether a walk from the marked starts that showed somebody links, in the order of their numbers in `shown`,
+/// with their answers, and ended with the marked set, is a resolve: no link is shown twice; exactly those are shown
+/// that leave a position of the set, each after this was a start or an accepted link had led to it; and the set has
+/// exactly the starts and what accepted links lead to. From dependents to dependencies where `forward` says so, else
+/// the other way. There is an answer for each number shown, and a mark of the set for each of the starts' positions.
+///
+/// No link is refused: it is no resolve where a number is no link's, or an accepted link leads to no position.
+#[unsafe(no_mangle)]
+pub extern "C" fn guppy_judge(
+    alloc: Global,
+    links: &[Ends],
+    starts: &[bool],
+    shown: &[usize],
+    answers: &[bool],
+    set: &[bool],
+    forward: bool,
+) -> Judged
+    ensures judged { result.outcome.status ≡ 0 → (result.holds ≡ true)
+        ↔ JudgesResolve (direction_of forward) (plain links.now) starts.now
+        (zip shown.now answers.now) set.now }
+    ensures status { (result.outcome.status ≡ 0) ⊎ (result.outcome.status ≡ 1)
+        ⊎ (result.outcome.status ≡ 6) }
+    ensures no_link { result.outcome.link ≡ 0 }
+    ensures lengths { (result.outcome.status ≡ 1)
+        ↔ ((length answers.now ≢ length shown.now) ⊎ (length set.now ≢ length starts.now)) }
+    ensures unanswered { result.outcome.status ≢ 0 → result.holds ≡ false }
+{
+    if answers.len() != shown.len() || set.len() != starts.len() {
+        return Judged {
+            outcome: Outcome { status: 1, link: 0 },
+            holds: false,
+        };
+    }
+    match guppy_flat::judge(
+        alloc,
+        links,
+        starts,
+        shown,
+        answers,
+        set,
+        direction(forward),
+    ) {
+        Ok(holds) => Judged {
+            outcome: Outcome { status: 0, link: 0 },
+            holds,
+        },
+        Err(_) => Judged {
+            outcome: Outcome { status: 6, link: 0 },
+            holds: false,
         },
     }
 }

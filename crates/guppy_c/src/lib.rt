@@ -4,8 +4,12 @@
 //! caller's own slices, each a pointer and a length. A call tests what it needs of them, and tells a status.
 //!
 //! - `answer`: answers as text, of the JSON that `cargo metadata` prints;
-//! - `flat`: answers about a graph that the caller holds as slices.
+//! - `flat`: answers about a graph that the caller holds as slices;
+//! - `platform`: what a text says of a platform;
+//! - `version`: which interface this is.
 #![tactic(auto)]
 
 pub mod answer;
 pub mod flat;
+pub mod platform;
+pub mod version;

@@ -1,7 +1,9 @@
 //! The calls of `guppy_flat`. Two depends on zero, which depends on one and back; one has a link to itself.
 
+ghost use Rattle.std.specs.Prelude.{◌≡◌, length};
+
 use guppy_flat::{
-    DependencyDirection, Ends, GraphFault, components, cycle, links, order, reach, roots,
+    DependencyDirection, Ends, GraphFault, components, cycle, judge, links, order, reach, roots,
 };
 
 const LINKS: [Ends; 4] = [
@@ -64,4 +66,27 @@ fn faults(rt: HostRuntime) {
     let twice = [Ends { from: 0, to: 1 }, Ends { from: 0, to: 1 }];
     let repeated = order(rt.alloc(), &twice, &[true; 2], &mut list);
     assert!(rt; repeated == Err(GraphFault::RepeatedLink(1)) && list == [9; 2]);
+}
+
+// Whether a resolve from two shows these links, in this order, with these answers, and includes this set.
+fn is_resolve(rt: &HostRuntime, shown: &[usize], answers: &[bool], set: &[bool]) -> bool
+    requires answers { length answers.now ≡ length shown.now }
+    requires set { length set.now ≡ 3 }
+{
+    let starts = [false, false, true];
+    let forward = DependencyDirection::Forward;
+    judge(rt.alloc(), &LINKS, &starts, shown, answers, set, forward) == Ok(true)
+}
+
+// It accepts the link to zero, and refuses the one to one.
+#[test]
+fn resolves_are_judged(rt: HostRuntime) {
+    let set = [true, false, true];
+    assert!(rt; is_resolve(&rt, &[0, 1], &[true, false], &set));
+    let is_too_early = is_resolve(&rt, &[1, 0], &[false, true], &set);
+    let is_shown_twice = is_resolve(&rt, &[0, 0, 1], &[true, true, false], &set);
+    let is_missing = is_resolve(&rt, &[0], &[true], &set);
+    let is_larger = is_resolve(&rt, &[0, 1], &[true, false], &[true; 3]);
+    let is_unknown = is_resolve(&rt, &[0, 4], &[true, false], &set);
+    assert!(rt; !is_too_early && !is_shown_twice && !is_missing && !is_larger && !is_unknown);
 }

@@ -1,8 +1,7 @@
-ghost use Rattle.std.specs.Prelude.{◌≡◌, ◌≤◌, length, take, IfOk, IfErr, IfSome, MatchOption};
-ghost use Rattle.guppy_search.specs.Fault.{IsFault};
+ghost use Rattle.std.specs.Prelude.{◌≡◌, ◌≤◌, length, take, IfOk, IfErr, OnOk, IfSome, MatchOption};
 ghost use Rattle.guppy_search.specs.declared.ix.direction.DependencyDirection.TheVariants.{Forward};
 ghost use Rattle.guppy_core.specs.Cycle.{IsAcyclic, IsCycle};
-ghost use Rattle.guppy_flat.specs.Flat.{flagged};
+ghost use Rattle.guppy_flat.specs.Flat.{flagged, IsFlatFault, MakeGraph};
 ghost use Rattle.guppy_flat.specs.Search.{FlaggedStep};
 
 use crate::flat::{Ends, graph_of};
@@ -29,7 +28,8 @@ pub fn cycle(
         (IsAcyclic (FlaggedStep Forward (flagged links.now flags.now)))
         (λ count. IsCycle (FlaggedStep Forward (flagged links.now flags.now))
         (take count list.new))) }
-    ensures fault { IfErr result (IsFault (length list.old) (flagged links.now flags.now)) }
+    ensures graph { OnOk result (MakeGraph (length list.old) (flagged links.now flags.now)) }
+    ensures fault { IfErr result (IsFlatFault (length list.old) (flagged links.now flags.now)) }
 {
     let graph = graph_of(alloc, list.len(), links, flags)?;
     let mut counted = CountedGraph::new(&graph);

@@ -1,9 +1,8 @@
 ghost use Rattle.std.specs.Prelude.{◌≡◌, ◌↔◌, ℕ, ◌<◌, ◌≤◌, false, length, map, take, All, IfOk, IfErr, OnOk, OnErr};
 ghost use Rattle.std.specs.List.{concat};
-ghost use Rattle.guppy_search.specs.Fault.{IsFault};
 ghost use Rattle.guppy_search.specs.IxSet.{has};
 ghost use Rattle.guppy_core.specs.Sccs.{InOneBlock};
-ghost use Rattle.guppy_flat.specs.Flat.{flagged};
+ghost use Rattle.guppy_flat.specs.Flat.{flagged, IsFlatFault, MakeGraph};
 ghost use Rattle.guppy_flat.specs.Ordering.{AreOrdered, IsOrdered, IsWithPrevious, MarksFirsts};
 
 use crate::flat::{Ends, Flat, graph_of};
@@ -59,7 +58,8 @@ pub fn order(
     requires { length flags.now ≡ length links.now }
     ensures order { OnOk result
         (IsOrdered (flagged links.now flags.now) (length list.old) list.new) }
-    ensures fault { IfErr result (IsFault (length list.old) (flagged links.now flags.now)) }
+    ensures graph { OnOk result (MakeGraph (length list.old) (flagged links.now flags.now)) }
+    ensures fault { IfErr result (IsFlatFault (length list.old) (flagged links.now flags.now)) }
     ensures unchanged { OnErr result (list.new ≡ list.old) }
 {
     let graph = graph_of(alloc, list.len(), links, flags)?;
@@ -108,7 +108,8 @@ pub fn components(
         (IsOrdered (flagged links.now flags.now) (length list.old) list.new) }
     ensures firsts { OnOk result
         (MarksFirsts (flagged links.now flags.now) list.new firsts.new) }
-    ensures fault { IfErr result (IsFault (length list.old) (flagged links.now flags.now)) }
+    ensures graph { OnOk result (MakeGraph (length list.old) (flagged links.now flags.now)) }
+    ensures fault { IfErr result (IsFlatFault (length list.old) (flagged links.now flags.now)) }
     ensures unchanged { OnErr result (list.new ≡ list.old) }
     ensures unmarked { OnErr result (firsts.new ≡ firsts.old) }
 {

@@ -1,6 +1,5 @@
 ghost use Rattle.std.specs.Prelude.{◌≡◌, ◌<◌, ◌^◌, length, IfOk, IfErr, OnOk, OnErr};
-ghost use Rattle.guppy_search.specs.Fault.{IsFault};
-ghost use Rattle.guppy_flat.specs.Flat.{flagged};
+ghost use Rattle.guppy_flat.specs.Flat.{flagged, IsFlatFault, MakeGraph};
 ghost use Rattle.guppy_flat.specs.Search.{IsReached};
 
 use crate::flat::{Ends, Flat, graph_of};
@@ -63,7 +62,8 @@ pub fn reach(
     requires marks { length marks.old ≡ length starts.now }
     ensures reached { OnOk result
         (IsReached direction (flagged links.now flags.now) starts.now marks.new) }
-    ensures fault { IfErr result (IsFault (length starts.now) (flagged links.now flags.now)) }
+    ensures graph { OnOk result (MakeGraph (length starts.now) (flagged links.now flags.now)) }
+    ensures fault { IfErr result (IsFlatFault (length starts.now) (flagged links.now flags.now)) }
     ensures unchanged { OnErr result (marks.new ≡ marks.old) }
 {
     let graph = graph_of(alloc, starts.len(), links, flags)?;

@@ -1,12 +1,11 @@
 ghost use Rattle.std.specs.Prelude.{◌≡◌, ◌↔◌, ℕ, ◌<◌, length, map, All, IfOk, IfErr, OnOk, OnErr};
-ghost use Rattle.guppy_search.specs.Fault.{IsFault};
 ghost use Rattle.guppy_search.specs.IxSet.{IsIn};
 ghost use Rattle.guppy_search.specs.Walked.{numbers_of};
 ghost use Rattle.guppy_core.specs.Listing.{Stands};
-ghost use Rattle.guppy_flat.specs.Flat.{plain};
+ghost use Rattle.guppy_flat.specs.Flat.{plain, AreFew, IsFlatFault, MakeGraph};
 ghost use Rattle.guppy_flat.specs.Sets.{MarksRoots, AreSetLinks};
 
-use crate::flat::{Ends, Flat, graph_of};
+use crate::flat::{Ends, Flat, expect_few, graph_of};
 use crate::marks::{mark, set_of};
 use crate::ordering::components_of;
 use guppy_core::{
@@ -18,8 +17,11 @@ use std::alloc::{AllocError, Global};
 fn plain_graph_of(alloc: Global, count: usize, links: &[Ends]) -> Result<Graph<Flat>, GraphFault>
     ensures nodes { IfOk result (λ g. length g.nodes ≡ count) }
     ensures links { IfOk result (λ g. g.links ≡ plain links.now) }
-    ensures fault { IfErr result (IsFault count (plain links.now)) }
+    ensures few { OnOk result (AreFew count (plain links.now)) }
+    ensures made { OnOk result (MakeGraph count (plain links.now)) }
+    ensures fault { IfErr result (IsFlatFault count (plain links.now)) }
 {
+    expect_few(count, links.len())?;
     let flags = vec![in alloc; false; links.len()]?;
     graph_of(alloc, count, links, flags.as_slice())
 }
@@ -50,7 +52,8 @@ pub fn roots(
 ) -> Result<(), GraphFault>
     requires { length marks.old ≡ length set.now }
     ensures roots { OnOk result (MarksRoots direction (plain links.now) set.now marks.new) }
-    ensures fault { IfErr result (IsFault (length set.now) (plain links.now)) }
+    ensures graph { OnOk result (MakeGraph (length set.now) (plain links.now)) }
+    ensures fault { IfErr result (IsFlatFault (length set.now) (plain links.now)) }
     ensures unchanged { OnErr result (marks.new ≡ marks.old) }
 {
     let graph = plain_graph_of(alloc, set.len(), links)?;
@@ -83,7 +86,8 @@ pub fn links(
 ) -> Result<Vec<usize>, GraphFault>
     ensures links { IfOk result
         (λ list. AreSetLinks direction (plain links.now) set.now list.items) }
-    ensures fault { IfErr result (IsFault (length set.now) (plain links.now)) }
+    ensures graph { OnOk result (MakeGraph (length set.now) (plain links.now)) }
+    ensures fault { IfErr result (IsFlatFault (length set.now) (plain links.now)) }
 {
     let graph = plain_graph_of(alloc, set.len(), links)?;
     let components = components_of(&graph)?;

@@ -89,6 +89,14 @@ impl PackageGraph {
         }
     }
 
+    // The numbers of the links that leave the package in the direction.
+    fn links_at(&self, position: usize, direction: DependencyDirection) -> &[usize] {
+        match direction {
+            DependencyDirection::Forward => self.leaving.at(position),
+            DependencyDirection::Reverse => self.entering.at(position),
+        }
+    }
+
     fn position(&self, id: &PackageId) -> Result<usize, Error> {
         self.decoded.position(id)
     }

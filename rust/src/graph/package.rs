@@ -232,10 +232,7 @@ impl<'g> PackageMetadata<'g> {
         direction: DependencyDirection,
     ) -> impl ExactSizeIterator<Item = PackageLink<'g>> {
         let graph = self.graph;
-        let numbers = match direction {
-            DependencyDirection::Forward => graph.leaving.at(self.position),
-            DependencyDirection::Reverse => graph.entering.at(self.position),
-        };
+        let numbers = graph.links_at(self.position, direction);
         numbers.iter().map(|number| graph.link(*number))
     }
 }

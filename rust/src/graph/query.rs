@@ -12,8 +12,8 @@ pub struct PackageQuery<'g> {
 
 /// Says which links a walk follows.
 pub trait PackageResolver<'g> {
-    /// Whether to follow the link. It is asked once about each link of the graph, in the order of their
-    /// numbers, before the walk begins.
+    /// Whether to follow the link. It is asked once about each link that leaves a package that was found, and about no
+    /// other.
     fn accept(&mut self, query: &PackageQuery<'g>, link: PackageLink<'g>) -> bool;
 }
 
@@ -64,14 +64,31 @@ impl<'g> PackageQuery<'g> {
         self.over(&self.graph.all)
     }
 
-    /// The packages to which links that the resolver accepts lead from these, and these. Proved, but for
-    /// asking the resolver.
+    /// The packages to which links that the resolver accepts lead from these, and these. The resolver may change its mind:
+    /// it is asked about each link that leaves one of them, once, after the package was found, and about no other. Proved
+    /// of each walk, when it ends, whatever was answered.
     pub fn resolve_with(&self, mut resolver: impl PackageResolver<'g>) -> PackageSet<'g> {
-        let graph = self.graph;
-        let accepted: Vec<bool> = (0..graph.link_count())
-            .map(|number| resolver.accept(self, graph.link(number)))
-            .collect();
-        self.over(&accepted)
+        let (graph, forward) = (self.graph, self.direction.is_forward());
+        let ends = &graph.decoded.ends;
+        let mut included = self.starts.clone();
+        // The packages that were found and whose links weren't shown yet.
+        let mut found: Vec<usize> = (0..included.len()).filter(|at| included[*at]).collect();
+        let (mut shown, mut answers) = (Vec::new(), Vec::new());
+        while let Some(position) = found.pop() {
+            for number in graph.links_at(position, self.direction) {
+                let is_accepted = resolver.accept(self, graph.link(*number));
+                shown.push(*number);
+                answers.push(is_accepted);
+                let end = ends[*number].far(forward);
+                if is_accepted && !included[end] {
+                    included[end] = true;
+                    found.push(end);
+                }
+            }
+        }
+        let is_resolve = sys::is_resolve(ends, &self.starts, &shown, &answers, &included, forward);
+        assert!(is_resolve, "the library finds that this was no resolve");
+        PackageSet { graph, included }
     }
 
     /// [`resolve_with`](PackageQuery::resolve_with) on a function.
