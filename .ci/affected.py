@@ -1,14 +1,16 @@
 #!/usr/bin/env python3
-"""Judges `guppy-cargo affected` by cargo itself. In workspaces that are made here all tests are built, a file is changed, and
-they are built again: the answer for the paths that changed must tell each member of which cargo built a test anew.
+"""Judges `guppy-cargo affected` by cargo itself. In workspaces that are made here all tests are built, a file is
+changed, and they are built again: the answer for the paths that changed must tell each member of which cargo built a
+test anew.
 
-What is told beyond these is counted, by what was changed. Needs cargo, git, and the program as built, or one that the first
-argument names; a second one says in how many workspaces. The last line is 'N passed, M failed'.
+What is told beyond these is counted, by what was changed. Needs cargo, git, and the program as built, or one that the
+first argument names; a second one says in how many workspaces. The last line is 'N passed, M failed'.
 """
 
 import json
 import os
 import random
+import shutil
 import subprocess
 import sys
 import tempfile
@@ -222,6 +224,7 @@ def change_settings(workspace, package, number):
     write(workspace.root / ".cargo/config.toml", f'[build]\nrustflags = ["--cfg", "x{number}"]\n')
 
 
+UNREAD = "a file that nobody reads"
 KINDS = {
     "a source": change_source,
     "a test": change_test,
@@ -231,7 +234,7 @@ KINDS = {
     "a version": raise_version,
     "a new dependency": ask_for_more,
     "what some include": change_shared,
-    "a file that nobody reads": change_outside,
+    UNREAD: change_outside,
     "settings": change_settings,
 }
 
@@ -245,26 +248,32 @@ def affected(metadata, paths):
 
 
 def tries_of(room, seed):
-    return seed, list(Workspace(room, seed).tries())
+    workspace = Workspace(room, seed)
+    tried = list(workspace.tries())
+    shutil.rmtree(workspace.top)
+    return seed, tried
 
 
 def main():
     if not os.access(PROGRAM, os.X_OK):
         return f"affected: {PROGRAM} is not there"
-    passed = failed = 0
+    passed = failed = beyond = 0
     counts = {it: [0, 0] for it in KINDS}
     with tempfile.TemporaryDirectory() as room, ThreadPoolExecutor(4) as workers:
         for seed, tried in workers.map(lambda it: tries_of(room, it), range(DRAWN)):
             for kind, paths, built, answer in tried:
                 missed = built - answer
-                passed, failed = passed + (not missed), failed + bool(missed)
+                passed, failed, beyond = passed + (not missed), failed + bool(missed), beyond + len(answer - built)
                 counts[kind] = [counts[kind][0] + len(built), counts[kind][1] + len(answer)]
                 if missed:
                     print(f"affected: workspace {seed}: FAILED: {kind}, {paths}: {sorted(missed)} missed, {sorted(answer)} told")
     for kind, (anew, told) in counts.items():
         print(f"affected: {kind}: cargo built tests of {anew} members anew, and {told} are told")
+        if not anew and kind != UNREAD:
+            print(f"affected: {kind}: FAILED: cargo built no test anew, so nothing was judged")
+            failed += 1
     anew, told = (sum(it[at] for it in counts.values()) for at in (0, 1))
-    print(f"affected: together: of {anew} members anew, and {told} are told, {told - anew} beyond")
+    print(f"affected: together: cargo built tests of {anew} members anew; {told} are told, {beyond} of them beyond")
     print(f"{passed} passed, {failed} failed")
     return failed > 0
 

@@ -2,8 +2,8 @@
 """Writes what other languages declare of crates/guppy_c: rust/src/exports.rs and rust/guppy.h.
 
 Both are made of the signatures and structs in the sources. With --check it writes nothing, and fails where a file is not
-what it would write. Where the header would declare other structs or functions than it does, it asks for another number
-of the interface.
+what it would write. It refuses to change the structs or functions that the header declares as long as the number of the
+interface is the same.
 """
 
 import re
@@ -24,11 +24,13 @@ ANSWERED = re.compile(r"fn guppy_version\(\) -> u32\n +ensures \{ result ≡ (\d
 NUMBER = re.compile(r"#define GUPPY_C_VERSION (\d+)\n")
 HEAD = """// Made by scripts/exports.py of crates/guppy_c; not to be edited.
 //
-// A slice is a pointer and how many elements lie there. The pointer is not null, not even of no elements, and aligned
-// for them. Each element has a value, and a `bool` is 0 or 1. A slice that is written overlaps no other.
+// A slice is a pointer and the number of elements that lie there. The pointer is never null, even where there are no
+// elements, and is aligned for their type. Every element is initialized, also in a slice that is only written, and a
+// `bool` is 0 or 1. A slice that a call writes overlaps no other.
 //
 // A call keeps no pointer, and nothing else for a later one. Several threads may call at once, as long as none writes
-// what a call of another one reads or writes.
+// what another one's call reads or writes. No call is made from a signal handler, or from the forked child of a process
+// that has threads.
 """
 BEGIN = """
 #ifndef GUPPY_H
@@ -44,8 +46,8 @@ extern "C" {
 
 // The number of this interface; `guppy_version` answers that of the archive.
 """
-MEMORY = """// What the program that links the archive defines: three functions that give it memory. A call of the archive calls
-// them, from its own thread.
+MEMORY = """// Three functions that the program which links the archive defines, over one allocator. A call uses them on its own
+// thread, so they must be fit for as many threads as call at once. They return: nothing is thrown or jumped out of them.
 
 // What a request for memory gets.
 struct rattle_tried {
@@ -55,11 +57,11 @@ struct rattle_tried {
     void *block;
 };
 
-// Gives a block of so many bytes, perhaps none. Its address is a multiple of the alignment, which divides 16.
+// Returns a block of this many bytes, which may be 0. Its address is a multiple of the alignment: 1, 2, 4, 8 or 16.
 struct rattle_tried rattle_alloc(size_t bytes, size_t alignment);
 
-// Gives a block of so many bytes in place of the block, as C's `realloc` does: where it moves, the first `kept` bytes come
-// along, as far as they have room. Where there is no memory, the block stays as it is.
+// Makes the block one of this many bytes, as C's `realloc` does. It may move; the first `kept` bytes, or as many as
+// there is room for, stay the same. Where there is no memory, the block is left as it is.
 struct rattle_tried rattle_realloc(void *block, size_t kept, size_t bytes, size_t alignment);
 
 // Takes the block back.

@@ -54,8 +54,8 @@ sources_of() (
     } | checksum
 )
 
-# Whether the proved program is there and is made of these sources. The file made-of has their checksum and the program's
-# own, and the toolchain that proved it, which is by then.
+# Whether the proved program is there and is made of these sources. The file made-of has their checksum and, in a second
+# line, the program's own and the toolchain that proved it, which this leaves in `by`.
 is_proved() {
     sources= built= by=
     [ -x "$here/crates/$1/out/$1" ] && { read -r sources && read -r built by; } 2> /dev/null < "$here/crates/$1/out/made-of" &&
@@ -128,8 +128,8 @@ tell_answer() {
         # The last two lines are rt's.
         sed '$d' "$room/told" | sed '$d' >&2
         case $first in
-        # It says that it is proved, as it is where this doesn't run it.
-        --version) sed 's/, proved$/, not proved on this machine yet/' "$room/answer" ;;
+        # The text says "proved", which the program is only where `rt try` doesn't run it.
+        --version | -V) sed 's/, proved$/, not proved on this machine yet/' "$room/answer" ;;
         *) cat "$room/answer" ;;
         esac 2> /dev/null || {
             echo "error: output failed" >&2

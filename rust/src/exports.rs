@@ -1,10 +1,12 @@
 // Made by scripts/exports.py of crates/guppy_c; not to be edited.
 //
-// A slice is a pointer and how many elements lie there. The pointer is not null, not even of no elements, and aligned
-// for them. Each element has a value, and a `bool` is 0 or 1. A slice that is written overlaps no other.
+// A slice is a pointer and the number of elements that lie there. The pointer is never null, even where there are no
+// elements, and is aligned for their type. Every element is initialized, also in a slice that is only written, and a
+// `bool` is 0 or 1. A slice that a call writes overlaps no other.
 //
 // A call keeps no pointer, and nothing else for a later one. Several threads may call at once, as long as none writes
-// what a call of another one reads or writes.
+// what another one's call reads or writes. No call is made from a signal handler, or from the forked child of a process
+// that has threads.
 
 /// The number of this interface.
 pub(crate) const VERSION: u32 = 1;

@@ -1,6 +1,6 @@
 //! The calls of the proved library, each made safe: the only module with `unsafe`.
 //!
-//! What crosses is a number, a `bool`, a struct of numbers, or a slice as a pointer and a length. The
+//! What crosses is a number, a `bool`, a struct of these, or a slice as a pointer and a length. The
 //! library keeps none of them, and takes memory by the three functions at the end.
 #![allow(unsafe_code)]
 
@@ -179,8 +179,8 @@ pub(crate) fn links(links: &[Ends], set: &[bool], forward: bool) -> Vec<usize> {
     numbers
 }
 
-/// Whether a resolve from the starts shows the links with these numbers, in their order, with these answers, and includes
-/// the set.
+/// Whether a resolve from the starts shows the links with these numbers, in this order, with these answers, and
+/// includes the set.
 pub(crate) fn is_resolve(
     links: &[Ends],
     starts: &[bool],
@@ -209,7 +209,7 @@ pub(crate) fn is_resolve(
     judged.holds
 }
 
-// The calls above are of a graph, and there is none before a call of one of those below.
+// The calls above need a graph, and only a call of one of those below makes one.
 fn expect_own_interface() {
     // SAFETY: nothing is passed.
     let version = unsafe { guppy_version() };

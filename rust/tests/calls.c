@@ -9,7 +9,7 @@ static const struct guppy_ends links[] = {{2, 0}, {0, 1}, {1, 0}, {1, 1}};
 
 static bool order(void) {
     const bool flags[] = {true, true, false, true};
-    uint32_t list[3];
+    uint32_t list[3] = {0};
     struct guppy_outcome outcome = guppy_order(links, 4, flags, 4, list, 3);
     printf("%u %u %u\n", list[0], list[1], list[2]);
     return outcome.status == 0;

@@ -25,9 +25,9 @@ const FOLDER: &str = env!("CARGO_MANIFEST_DIR");
 
 impl Program {
     fn of(compiler: &str, words: &[&str], source: &str) -> Self {
-        let name = format!("guppy-{source}-{}", std::process::id());
-        let (program, memory) = (std::env::temp_dir().join(name), "tests/memory.o");
-        let memory = std::env::temp_dir().join(format!("{source}-{}", memory.replace('/', "-")));
+        let name = format!("guppy-{}-{source}", std::process::id());
+        let program = std::env::temp_dir().join(&name);
+        let memory = std::env::temp_dir().join(name + ".memory.o");
         let compiled = Command::new("cc")
             .args([
                 "-std=c11", "-Wall", "-Wextra", "-Werror", "-I", FOLDER, "-c",
@@ -52,7 +52,7 @@ impl Program {
     }
 
     // Its status and what it prints, of the documents' workspace on its standard input. Where valgrind is installed, it
-    // runs under this tool of it.
+    // runs under it, with these options.
     fn run(&self, tool: &[&str], words: &[&str]) -> (i32, String) {
         let mut command = if is_there("valgrind") {
             let mut command = Command::new("valgrind");

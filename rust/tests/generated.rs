@@ -70,6 +70,7 @@ fn answers_are_those_of_plain_search() {
             let forward = graph.query_forward([ids[start]]).unwrap();
             let reverse = graph.query_reverse([ids[start]]).unwrap();
             let without_dev = forward.resolve_with_fn(|_, link| !link.dev_only());
+            let back_without_dev = reverse.resolve_with_fn(|_, link| !link.dev_only());
             for end in 0..count {
                 let there = forward.resolve().contains(ids[end]).unwrap();
                 assert_eq!(there, all[start][end], "{}", told());
@@ -91,7 +92,21 @@ fn answers_are_those_of_plain_search() {
                     "{}",
                     told()
                 );
+                assert_eq!(
+                    back_without_dev.contains(ids[end]).unwrap(),
+                    only_firm[end][start],
+                    "{}",
+                    told()
+                );
             }
+            // Whatever is answered, each link that leaves the set is asked about once.
+            let mut asked = 0;
+            let by_chance = reverse.resolve_with_fn(|_, _| {
+                asked += 1;
+                draw.below(2) > 0
+            });
+            let is_left = |link: &&(usize, usize, _)| by_chance.contains(ids[link.1]).unwrap();
+            assert_eq!(asked, links.iter().filter(is_left).count(), "{}", told());
         }
         let order: Vec<_> = graph.resolve_all().packages(Forward).map(number).collect();
         let mut places = vec![count; count];

@@ -1,4 +1,4 @@
-// Every call on eight threads at once, over one graph and the JSON on standard input: each is to write what it writes
+// Each call that takes a slice, on eight threads at once, over one graph and the JSON on standard input: each is to write what it writes
 // alone.
 
 #include "guppy.h"

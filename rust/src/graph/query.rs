@@ -64,9 +64,13 @@ impl<'g> PackageQuery<'g> {
         self.over(&self.graph.all)
     }
 
-    /// The packages to which links that the resolver accepts lead from these, and these. The resolver may change its mind:
-    /// it is asked about each link that leaves one of them, once, after the package was found, and about no other. Proved
-    /// of each walk, when it ends, whatever was answered.
+    /// The packages to which links that the resolver accepts lead from these, and these. The resolver is asked once
+    /// about each link that leaves one of these packages, after the package was found, and about no other link; its
+    /// answers may change. Proved of each walk, whatever was answered: the library judges it when it has ended.
+    ///
+    /// # Panics
+    ///
+    /// Should the library judge the walk to be no resolve.
     pub fn resolve_with(&self, mut resolver: impl PackageResolver<'g>) -> PackageSet<'g> {
         let (graph, forward) = (self.graph, self.direction.is_forward());
         let ends = &graph.decoded.ends;
