@@ -1,7 +1,8 @@
 #!/usr/bin/env python3
-"""Tries `bench/gate.py --bugs` and `--edits` on a repository of one small crate, with a bug that is refused, one that stays proved
-and one that can't be applied: each is told, and the status says whether all were refused. The last line is
-'N passed, 0 failed'."""
+"""Tries `bench/gate.py --bugs` and `--edits` on a repository of one small crate, with bugs that are refused, one that
+stays proved and one that can't be applied: each is told, and the status says whether all were refused. The last line is
+'N passed, M failed'.
+"""
 import os
 import shutil
 import subprocess

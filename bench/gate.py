@@ -1,8 +1,8 @@
 #!/usr/bin/env python3
 """Measures what the parts of the merge gate cost, and tries the wrong bodies that it leaves out.
 
-    bench/gate.py               for each crate, lowest first, the processor seconds at one job of its proof, of that of its
-                                tests, and of each of its must-fail edits
+    bench/gate.py               for each crate, lowest first, the processor seconds at one job of its proof, of that of
+                                its tests, and of each of its must-fail edits
     bench/gate.py guppy_core    these crates alone, with the proofs of those below them
     bench/gate.py --proofs guppy_core       the same without the edits
     bench/gate.py --functions guppy_core    of its proof, the functions and the parts that take longest
@@ -15,11 +15,12 @@ the runs of the programs and the tests. What measures works one after the other;
 everything from nothing, on a copy of the repository.
 
 In a list a line `bug: NAME` begins a bug, which has all pairs up to the next blank line; a pair outside of one is a bug
-of its own. Bugs of different functions are tried together, as many as BATCH in one check: the check tells of each
-function whether it is proved, and one that isn't by its own fault is refused. Any other bug is tried by itself, as the gate tries
-an edit. A bug that was refused is not tried again while the files that it stands on stay the same. The status is 1
-where a bug or edit isn't refused.
+of its own. Bugs of one pair, each in another function, are tried together, up to BATCH of them: the check tells of each
+function whether it is proved, and a bug is refused where its function isn't by its own fault. Any other bug is tried by
+itself, as the gate tries an edit. One that was refused is not tried again while the files that it stands on stay the
+same. The status is 1 where a bug or edit isn't refused.
 """
+import contextlib
 import glob
 import hashlib
 import importlib.machinery
@@ -78,8 +79,8 @@ def tell(part, name, seconds, well, more=""):
 
 
 def function_and_part(module):
-    """Cuts the file of a checked module, as Rattle-guppy-proofs.set.PackageSet.packages.Lts.oantt: its last word in capitals
-    is the part of the proof, and a file of lemmas has no function."""
+    """Cuts the file of a checked module, as Rattle-guppy-proofs.set.PackageSet.packages.Lts.oantt: its last word in
+    capitals is the part of the proof, and a file of lemmas has no function."""
     words = module.removesuffix(".oantt").removesuffix(".decls").partition("-proofs.")[2].split(".")
     last = len(words)
     while last > 1 and words[last - 1][:1].isupper():
@@ -112,7 +113,7 @@ def measure_edits(rt, crate):
         seed, whole = seconds_of(rt.seeded, crate, ONE_JOB)
         tell("seed", crate.name, whole, seed)
     for edit in edits:
-        with over(rt, seed) as kept:
+        with copy_of(rt, seed) as kept:
             (kind, text), seconds = seconds_of(rt.must_fail, crate, edit, ONE_JOB, kept)
         whole, well = whole + seconds, well and kind == rt.REFUSED
         name = f"{crate.name}/{os.path.basename(edit)}"
@@ -138,22 +139,16 @@ def measure(rt, crate, parts):
     return whole + seconds, well and not status
 
 
-class over:
-    """A copy of what a crate's own check proved, for one check that may write into it."""
-
-    def __init__(self, rt, seed):
-        self.rt, self.seed, self.room = rt, seed, None
-
-    def __enter__(self):
-        if not self.seed:
-            return None
-        self.room = tempfile.mkdtemp(dir=self.seed)
-        self.rt.linked(f"{self.seed}/seed", f"{self.room}/kept")
-        return f"{self.room}/kept"
-
-    def __exit__(self, *_):
-        if self.room:
-            shutil.rmtree(self.room, ignore_errors=True)
+@contextlib.contextmanager
+def copy_of(rt, seed):
+    """Gives a copy of what a crate's own check proved, for one check that may write into it, or None where there is
+    none."""
+    if not seed:
+        yield None
+        return
+    with tempfile.TemporaryDirectory(dir=seed) as room:
+        rt.linked(f"{seed}/seed", f"{room}/kept")
+        yield f"{room}/kept"
 
 
 # The lists of bugs.
@@ -170,14 +165,14 @@ class Bug:
         return "".join(f"file: {path}\nold: {old}\nnew: {new}\n" for path, old, new in self.pairs)
 
     def function(self, folder):
-        """The file and the name of the function that the bug changes, or None where it changes more than one or none."""
-        found = set()
-        for path, old, _ in self.pairs:
-            text = read(f"{folder}/{path}")
-            end = text.find(old) + len(old)
-            names = re.findall(r"^\s*(?:pub(?:\(\w+\))? )?(?:unsafe |extern \"C\" )*fn (\w+)", text[:end], re.M)
-            found.add((path, names[-1] if names else None))
-        return found.pop() if len(found) == 1 and all(name for _, name in found) else None
+        """The file and the name of the function that the bug changes, or None of one that has several pairs."""
+        if len(self.pairs) != 1:
+            return None
+        path, old, _ = self.pairs[0]
+        text = read(f"{folder}/{path}")
+        before = text[: text.find(old) + len(old)]
+        names = re.findall(r"^\s*(?:pub(?:\(\w+\))? )?(?:unsafe |extern \"C\" )*fn (\w+)", before, re.M)
+        return (path, names[-1]) if names else None
 
 
 def bugs_of(text):
@@ -209,9 +204,16 @@ def list_of(crate):
     return bugs_of(read(path)) if os.path.isfile(path) else []
 
 
+def spliced(text, pairs):
+    """The text with each new text in the place of its old one, which stands there once."""
+    for at, old, new in sorted(((text.index(old), old, new) for old, new in pairs), reverse=True):
+        text = text[:at] + new + text[at + len(old) :]
+    return text
+
+
 def is_at_fault(line):
-    """Whether a check's line of a function blames the function itself. Of one that only calls what isn't proved, the line says
-    that it has no proof, as `fn a::b: no proof: it calls `a::c`, which is not proved`."""
+    """Whether a check's line of a function blames the function itself. Of one that only calls what isn't proved, it says
+    that there is no proof, as `fn a::b: no proof: it calls `a::c`, which is not proved`."""
     return ": not proved" in line or ": no proof" in line and not re.search(r"it calls|it passes|a call of", line)
 
 
@@ -283,15 +285,16 @@ class Tries:
         return taken, others
 
     def try_together(self, bugs, seed):
-        """Settles the bugs whose function the check refuses, and returns those that are masked by another, and the others."""
-        texts, fitting, unclear = {}, [], []
-        for bug in bugs:
-            changed, why = self.rt.edited(bug.text(), self.crate.folder)
-            (unclear if why else fitting).append(bug)
-            for path, old, new in [] if why else bug.pairs:
-                text = texts.get(path) or read(f"{self.crate.folder}/{path}")
-                texts[path] = text.replace(old, new)
-        with over(self.rt, seed) as kept:
+        """Settles the bugs whose function the check refuses, and returns those that others mask, and those left."""
+        folder = self.crate.folder
+        fitting = [bug for bug in bugs if not self.rt.edited(bug.text(), folder)[1]]
+        unclear = [bug for bug in bugs if bug not in fitting]
+        pairs = {}
+        for bug in fitting:
+            for path, old, new in bug.pairs:
+                pairs.setdefault(path, []).append((old, new))
+        texts = {path: spliced(read(f"{folder}/{path}"), of_it) for path, of_it in pairs.items()}
+        with copy_of(self.rt, seed) as kept:
             ran = self.rt.checked(self.crate, texts, ONE_JOB, kept)
         lines = [line for line in ran.stdout.split("\n") if line.startswith("fn ")]
         if not lines:
@@ -322,7 +325,7 @@ class Tries:
         return named.startswith(front) and name in re.split(r"::|\+", named.removeprefix(front))
 
     def try_alone(self, bug, seed):
-        with tempfile.TemporaryDirectory() as room, over(self.rt, seed) as kept:
+        with tempfile.TemporaryDirectory() as room, copy_of(self.rt, seed) as kept:
             edit = f"{room}/bug.edit"
             with open(edit, "w", encoding="utf-8") as it:
                 it.write(bug.text())
@@ -331,7 +334,8 @@ class Tries:
 
 
 def try_bugs(rt, crates):
-    """Tries the bugs of these crates' lists, crates side by side, tells each one's result, and returns whether all were refused."""
+    """Tries the bugs of these crates' lists, crates side by side, tells what each came to, and returns whether all were
+    refused."""
     def say(line):
         print(line, flush=True)
 
@@ -346,8 +350,8 @@ def try_bugs(rt, crates):
 
 
 def bugs_that_miss():
-    """Tells each edit and each bug of a list that doesn't fit the sources, and returns how many there are. (rt ci passes over an
-    edit that it can't apply.)"""
+    """Tells each edit and each bug of a list that doesn't fit the sources, and returns how many there are. (rt ci
+    passes over an edit that it can't apply.)"""
     rt, missing = load_rt(), 0
     for file in sorted(glob.glob(f"{TOP}/crates/*/must-fail/*.edit") + glob.glob(f"{TOP}/crates/*/{BY_HAND}")):
         folder = file[: file.index("/must-fail")]
