@@ -1,31 +1,62 @@
-//! Package graphs of Cargo workspaces, under the names of [guppy](https://docs.rs/guppy), with answers that
-//! are proved: they come from `libguppy_c.a`, a library in Rattle.
+//! Package graphs of Cargo workspaces, under the names of [guppy](https://docs.rs/guppy) 0.19.1, with answers that
+//! are proved: they come from `libguppy_c.a`, a library in Rattle. A program that takes
+//!
+//! ```toml
+//! [dependencies]
+//! guppy = { package = "guppy-proved", path = "../rust" }
+//! ```
+//!
+//! keeps its `use` lines. In this crate's own documentation guppy goes by `guppy_proved`:
 //!
 //! ```no_run
-//! use guppy_proved::graph::{DependencyDirection, PackageGraph};
+//! use guppy_proved::graph::DependencyDirection;
+//! use guppy_proved::MetadataCommand;
 //!
-//! let graph = PackageGraph::from_json(std::fs::read_to_string("metadata.json")?)?;
+//! let graph = MetadataCommand::new().build_graph()?;
 //! let core = graph.workspace().member_by_name("core")?;
 //! let dependents = graph.query_reverse([core.id()])?.resolve();
 //! for package in dependents.packages(DependencyDirection::Reverse) {
 //!     println!("{} {}", package.name(), package.version());
 //! }
-//! # Ok::<(), Box<dyn std::error::Error>>(())
+//! # Ok::<(), guppy_proved::Error>(())
 //! ```
 //!
-//! README.md says which of it is proved, and what this crate does itself.
+//! "Proved" says of a call that its answer is the library's, whose contract is proved of whatever it is passed. README.md
+//! says by which export, what is judged while it runs, and what is only tested.
 #![deny(unsafe_code, missing_docs)]
 
-mod command;
-mod error;
+#[cfg(not(all(
+    target_os = "linux",
+    target_arch = "x86_64",
+    target_pointer_width = "64"
+)))]
+compile_error!("guppy-proved links libguppy_c.a, which is made for Linux on x86-64 alone");
+
+mod dependency_kind;
+pub mod errors;
 pub mod graph;
+mod metadata;
+mod metadata_command;
+mod package_id;
+pub mod platform;
+mod proved;
 mod sys;
 
-pub use command::{CargoMetadata, MetadataCommand};
-pub use error::Error;
+pub use dependency_kind::DependencyKind;
+pub use errors::Error;
+pub use metadata::CargoMetadata;
+pub use metadata_command::MetadataCommand;
+pub use package_id::PackageId;
+
+pub use semver::{Version, VersionReq};
+pub use serde_json::Value as JsonValue;
 
 /// What `guppy-cargo` prints for these words of the workspace that the JSON describes, as `["why", "app", "core"]`: the
-/// commands and options of docs/PROGRAM.md, but no file is read. `Refused` has its error. Proved.
+/// commands and options of docs/PROGRAM.md, but no file is read. It isn't in guppy. Proved.
+///
+/// # Errors
+///
+/// [`Error::Refused`] has the line that `guppy-cargo` would tell, or says that a word has a NUL.
 pub fn answer<'w>(
     json: impl AsRef<str>,
     words: impl IntoIterator<Item = &'w str>,
@@ -34,29 +65,5 @@ pub fn answer<'w>(
     if words.iter().any(|word| word.contains('\0')) {
         return Err(Error::Refused("a word has a NUL".to_owned()));
     }
-    sys::answer(json.as_ref(), &words).map_err(Error::Refused)
-}
-
-/// The ID that Cargo gives a package.
-#[derive(Clone, Debug, PartialEq, Eq, PartialOrd, Ord, Hash)]
-pub struct PackageId {
-    repr: String,
-}
-
-impl PackageId {
-    /// The ID that is written so.
-    pub fn new(repr: impl Into<String>) -> Self {
-        PackageId { repr: repr.into() }
-    }
-
-    /// How it is written.
-    pub fn repr(&self) -> &str {
-        &self.repr
-    }
-}
-
-impl std::fmt::Display for PackageId {
-    fn fmt(&self, f: &mut std::fmt::Formatter<'_>) -> std::fmt::Result {
-        f.write_str(&self.repr)
-    }
+    proved::answer(json.as_ref(), &words).map_err(Error::Refused)
 }

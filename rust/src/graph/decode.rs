@@ -1,9 +1,14 @@
 //! The packages and links that the proved library read off the JSON, out of the one text that has them. The text is
-//! kept, and what stands in it is told by places.
+//! kept, and texts in it are told by places.
 
-use super::package::{Link, Package, Section, Source, Status};
-use crate::sys::{self, Ends, LinkFault};
+use super::package::{Package, Source};
+use super::package_link::{Link, Section, Status};
+use crate::metadata::unread;
+use crate::platform::TargetSpec;
+use crate::proved::{Ends, LinkFault};
 use crate::{Error, PackageId};
+use camino::Utf8Path;
+use semver::Version;
 use std::collections::HashMap;
 
 /// A part of the text: where it begins, and how many bytes it has.
@@ -20,17 +25,18 @@ impl Span {
 }
 
 /// Packages by position, and links by number.
+#[derive(Clone)]
 pub(super) struct Decoded {
     text: String,
     root: Span,
+    target_directory: Span,
     pub(super) packages: Vec<Package>,
     positions: Positions,
     pub(super) ends: Vec<Ends>,
     pub(super) links: Vec<Link>,
     // Where a link isn't dev-only.
     pub(super) firm: Vec<bool>,
-    specs: Vec<Vec<String>>,
-    pub(super) members: Vec<usize>,
+    specs: Vec<Vec<TargetSpec>>,
 }
 
 // The positions of packages by their IDs.
@@ -41,7 +47,7 @@ struct Parts<'t> {
     text: &'t str,
     place: usize,
     // The platforms of each status that has some, as they come.
-    specs: Vec<Vec<String>>,
+    specs: Vec<Vec<TargetSpec>>,
 }
 
 impl<'t> Parts<'t> {
@@ -105,21 +111,27 @@ impl<'t> Parts<'t> {
         }
     }
 
-    fn package(&mut self) -> Package {
-        Package {
+    // The library refuses what is no version, by the same rules.
+    fn version(&mut self) -> Result<Version, Error> {
+        let text = self.text();
+        Version::parse(text).map_err(|why| unread(format!("version {text}: {why}")))
+    }
+
+    fn package(&mut self) -> Result<Package, Error> {
+        Ok(Package {
             id: PackageId::new(self.text()),
             name: self.field(),
-            version: self.field(),
+            version: self.version()?,
             source: self.source(),
             manifest_path: self.field(),
             edition: self.field(),
             description: self.optional(),
             license: self.optional(),
             repository: self.optional(),
-        }
+        })
     }
 
-    fn packages(&mut self) -> Vec<Package> {
+    fn packages(&mut self) -> Result<Vec<Package>, Error> {
         let count = self.number(b';');
         (0..count).map(|_| self.package()).collect()
     }
@@ -133,7 +145,9 @@ impl<'t> Parts<'t> {
         if count == 0 {
             return Status::Never;
         }
-        let specs = (0..count).map(|_| self.text().to_owned()).collect();
+        let specs = (0..count)
+            .map(|_| TargetSpec::as_written(self.text()))
+            .collect();
         self.specs.push(specs);
         Status::Specs(self.specs.len() - 1)
     }
@@ -175,11 +189,10 @@ impl<'t> Parts<'t> {
     }
 }
 
+// The position of the end of a link.
 fn position(positions: &Positions, id: &str) -> Result<u32, Error> {
-    positions
-        .get(id)
-        .copied()
-        .ok_or_else(|| Error::UnknownPackageId(PackageId::new(id)))
+    let unknown = || Error::PackageGraphConstructError(format!("a link of unknown package {id}"));
+    positions.get(id).copied().ok_or_else(unknown)
 }
 
 fn positions(packages: &[Package]) -> Result<Positions, Error> {
@@ -187,29 +200,24 @@ fn positions(packages: &[Package]) -> Result<Positions, Error> {
     for (package, position) in packages.iter().zip(0..) {
         let id = package.id.repr().to_owned();
         if positions.insert(id, position).is_some() {
-            return Err(Error::Metadata(format!(
-                "repeated package ID: {}",
-                package.id
-            )));
+            let repeated = format!("repeated package ID: {}", package.id);
+            return Err(Error::PackageGraphConstructError(repeated));
         }
     }
     Ok(positions)
 }
 
 impl Decoded {
-    /// What the JSON says.
-    pub(super) fn of(json: &str) -> Result<Self, Error> {
-        let text = sys::records(json).map_err(Error::Metadata)?;
+    /// What the text has.
+    pub(super) fn of(text: String) -> Result<Self, Error> {
         let mut parts = Parts::of(&text);
-        let root = parts.field();
-        let _target_directory = parts.field();
-        let packages = parts.packages();
+        let (root, target_directory) = (parts.field(), parts.field());
+        let packages = parts.packages()?;
         let positions = positions(&packages)?;
         let (ends, links) = parts.links(&positions)?;
-        let members = (0..packages.len()).filter(|it| packages[*it].is_member());
         Ok(Decoded {
             root,
-            members: members.collect(),
+            target_directory,
             firm: links.iter().map(|link| !link.is_dev_only()).collect(),
             specs: parts.specs,
             packages,
@@ -225,31 +233,42 @@ impl Decoded {
         span.of(&self.text)
     }
 
+    /// The path of a package at a position, or the text that says where it comes from.
+    pub(super) fn path(&self, position: usize) -> &Utf8Path {
+        self.part(self.packages[position].source.part()).into()
+    }
+
     /// The platforms of the status with the number.
-    pub(super) fn specs(&self, number: usize) -> &[String] {
+    pub(super) fn specs(&self, number: usize) -> &[TargetSpec] {
         &self.specs[number]
     }
 
     /// The folder of the workspace.
-    pub(super) fn root(&self) -> &str {
-        self.part(self.root)
+    pub(super) fn root(&self) -> &Utf8Path {
+        self.part(self.root).into()
+    }
+
+    /// The folder for what is built.
+    pub(super) fn target_directory(&self) -> &Utf8Path {
+        self.part(self.target_directory).into()
     }
 
     /// The position of the package with the ID.
     pub(super) fn position(&self, id: &PackageId) -> Result<usize, Error> {
-        position(&self.positions, id.repr()).map(|position| position as usize)
+        let known = self.positions.get(id.repr());
+        let position = known.ok_or_else(|| Error::UnknownPackageId(id.clone()))?;
+        Ok(*position as usize)
     }
 
     /// The fault of the links in words.
     pub(super) fn told(&self, fault: LinkFault) -> Error {
-        let text = match fault {
+        Error::PackageGraphConstructError(match fault {
             LinkFault::TooMany => "too many packages or links".to_owned(),
             LinkFault::At(number) => {
                 let ends = self.ends[number];
                 let id = |position: u32| self.packages[position as usize].id.repr();
                 format!("a second link from {} to {}", id(ends.from), id(ends.to))
             }
-        };
-        Error::Metadata(text)
+        })
     }
 }

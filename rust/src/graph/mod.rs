@@ -1,20 +1,31 @@
 //! The graph of packages, sets of them, and what is asked of both.
 
+mod cycles;
 mod decode;
+mod depends;
+mod dot;
 mod links_at;
 mod package;
+mod package_link;
+mod package_source;
 mod query;
+mod resolve;
 mod set;
+mod workspace;
 
-pub use package::{
-    DependencyKind, DependencyReq, EnabledStatus, PackageLink, PackageMetadata, PackageSource,
-    PlatformStatus,
-};
-pub use query::{PackageQuery, PackageResolver};
+pub use cycles::Cycles;
+pub use depends::DependsCache;
+pub use dot::{DotWrite, PackageDotVisitor};
+pub use package::PackageMetadata;
+pub use package_link::{DependencyReq, EnabledStatus, PackageLink};
+pub use package_source::{ExternalSource, GitReq, PackageSource};
+pub use query::PackageQuery;
+pub use resolve::{PackageLinkContext, PackageLinkVisitor};
 pub use set::PackageSet;
+pub use workspace::Workspace;
 
-use crate::sys::{self, Components};
-use crate::{Error, PackageId};
+use crate::proved::{self, Components};
+use crate::{CargoMetadata, Error, MetadataCommand, PackageId};
 use decode::Decoded;
 use links_at::LinksAt;
 use std::fmt;
@@ -43,6 +54,7 @@ impl DependencyDirection {
 }
 
 /// The packages of what `cargo metadata` prints, and the links between them.
+#[derive(Clone)]
 pub struct PackageGraph {
     json: String,
     decoded: Decoded,
@@ -52,29 +64,67 @@ pub struct PackageGraph {
     // The links that leave and that enter each package.
     leaving: LinksAt,
     entering: LinksAt,
+    // The positions of the workspace's members, by path and by name.
+    members_by_path: Vec<usize>,
+    members_by_name: Vec<usize>,
 }
 
+/// Making a graph.
 impl PackageGraph {
-    /// The graph of what `cargo metadata --format-version 1` printed: its packages and links are those that the JSON
-    /// describes, which is proved. No ordered pair of packages may have two links, as in what Cargo prints.
+    /// The graph of what the command prints.
     ///
-    /// The graph keeps the JSON for [`affected`](PackageGraph::affected): a `String` is taken as it is, a `&str` copied.
-    pub fn from_json(json: impl Into<String>) -> Result<Self, Error> {
-        let json = json.into();
-        let decoded = Decoded::of(&json)?;
-        let count = decoded.packages.len();
-        let components = sys::components(&decoded.ends, &decoded.firm, count)
-            .map_err(|fault| decoded.told(fault))?;
+    /// # Errors
+    ///
+    /// Those of [`MetadataCommand::build_graph`].
+    pub fn from_command(command: &mut MetadataCommand) -> Result<Self, Error> {
+        command.build_graph()
+    }
+
+    /// The graph of what was read. Its packages and links are those that the JSON describes, which is proved. No ordered
+    /// pair of packages may have two links, as in what Cargo prints.
+    ///
+    /// The graph keeps the JSON for [`affected`](PackageGraph::affected), and the text with its packages and links, in
+    /// which their names and paths lie.
+    ///
+    /// # Errors
+    ///
+    /// [`Error::PackageGraphConstructError`] where two packages have one ID, or an ordered pair of them two links.
+    pub fn from_metadata(metadata: CargoMetadata) -> Result<Self, Error> {
+        let decoded = Decoded::of(metadata.records)?;
+        let (packages, ends) = (&decoded.packages, &decoded.ends);
+        let count = packages.len();
+        let components =
+            proved::components(ends, &decoded.firm, count).map_err(|fault| decoded.told(fault))?;
+        let members = (0..count).filter(|at| packages[*at].is_member());
+        let (mut members_by_path, mut members_by_name): (Vec<_>, Vec<_>) =
+            members.map(|at| (at, at)).unzip();
+        members_by_path.sort_by_key(|at| decoded.path(*at));
+        members_by_name.sort_by_key(|at| decoded.part(packages[*at].name));
         Ok(PackageGraph {
-            json,
-            all: vec![true; decoded.ends.len()],
+            json: metadata.json,
+            all: vec![true; ends.len()],
             components,
-            leaving: LinksAt::of(count, &decoded.ends, |link| link.from),
-            entering: LinksAt::of(count, &decoded.ends, |link| link.to),
+            leaving: LinksAt::of(count, ends, |link| link.from),
+            entering: LinksAt::of(count, ends, |link| link.to),
+            members_by_path,
+            members_by_name,
             decoded,
         })
     }
 
+    /// The graph of what `cargo metadata --format-version 1` printed, as [`CargoMetadata::parse_json`] reads it and
+    /// [`from_metadata`](PackageGraph::from_metadata) makes it.
+    ///
+    /// # Errors
+    ///
+    /// Those of both.
+    pub fn from_json(json: impl AsRef<str>) -> Result<Self, Error> {
+        CargoMetadata::parse_json(json)?.build_graph()
+    }
+}
+
+/// Packages, links and the workspace.
+impl PackageGraph {
     fn package(&self, position: usize) -> PackageMetadata<'_> {
         PackageMetadata {
             graph: self,
@@ -97,17 +147,15 @@ impl PackageGraph {
         }
     }
 
-    fn position(&self, id: &PackageId) -> Result<usize, Error> {
-        self.decoded.position(id)
+    // The link from the one package to the other.
+    fn link_from_to(&self, from: usize, to: usize) -> Option<PackageLink<'_>> {
+        let mut numbers = self.leaving.at(from).iter();
+        let number = numbers.find(|number| self.decoded.ends[**number].to as usize == to)?;
+        Some(self.link(*number))
     }
 
-    // A mark for each package, at those with the IDs.
-    fn marks<'a>(&self, ids: impl IntoIterator<Item = &'a PackageId>) -> Result<Vec<bool>, Error> {
-        let mut marks = vec![false; self.package_count()];
-        for id in ids {
-            marks[self.position(id)?] = true;
-        }
-        Ok(marks)
+    fn position(&self, id: &PackageId) -> Result<usize, Error> {
+        self.decoded.position(id)
     }
 
     /// How many packages there are.
@@ -131,8 +179,12 @@ impl PackageGraph {
     }
 
     /// The package with the ID.
-    pub fn metadata(&self, id: &PackageId) -> Result<PackageMetadata<'_>, Error> {
-        Ok(self.package(self.position(id)?))
+    ///
+    /// # Errors
+    ///
+    /// [`Error::UnknownPackageId`] where there is none.
+    pub fn metadata(&self, package_id: &PackageId) -> Result<PackageMetadata<'_>, Error> {
+        Ok(self.package(self.position(package_id)?))
     }
 
     /// The workspace.
@@ -140,127 +192,41 @@ impl PackageGraph {
         Workspace { graph: self }
     }
 
-    /// Whether a walk over links leads from the first package to the second. Proved.
-    pub fn depends_on(&self, from: &PackageId, to: &PackageId) -> Result<bool, Error> {
-        let to = self.position(to)?;
-        Ok(self.query_forward([from])?.resolve().included[to])
-    }
-
-    /// Whether a link leads from the first package to the second.
-    pub fn directly_depends_on(&self, from: &PackageId, to: &PackageId) -> Result<bool, Error> {
-        let (from, to) = (self.position(from)?, self.position(to)?);
-        Ok(self
-            .leaving
-            .at(from)
-            .iter()
-            .any(|number| self.decoded.ends[*number].to as usize == to))
-    }
-
-    /// A query of what these packages depend on.
-    pub fn query_forward<'a>(
-        &self,
-        ids: impl IntoIterator<Item = &'a PackageId>,
-    ) -> Result<PackageQuery<'_>, Error> {
-        self.query_directed(ids, DependencyDirection::Forward)
-    }
-
-    /// A query of what depends on these packages.
-    pub fn query_reverse<'a>(
-        &self,
-        ids: impl IntoIterator<Item = &'a PackageId>,
-    ) -> Result<PackageQuery<'_>, Error> {
-        self.query_directed(ids, DependencyDirection::Reverse)
-    }
-
-    /// A query from these packages in the direction.
-    pub fn query_directed<'a>(
-        &self,
-        ids: impl IntoIterator<Item = &'a PackageId>,
-        direction: DependencyDirection,
-    ) -> Result<PackageQuery<'_>, Error> {
-        Ok(PackageQuery {
-            graph: self,
-            direction,
-            starts: self.marks(ids)?,
-        })
-    }
-
-    /// A query of what the workspace's members depend on.
-    pub fn query_workspace(&self) -> PackageQuery<'_> {
-        let set = self.resolve_workspace();
-        PackageQuery {
-            graph: self,
-            direction: DependencyDirection::Forward,
-            starts: set.included,
-        }
-    }
-
-    /// The set of all packages.
-    pub fn resolve_all(&self) -> PackageSet<'_> {
-        PackageSet {
-            graph: self,
-            included: vec![true; self.package_count()],
-        }
-    }
-
-    /// The set with no package.
-    pub fn resolve_none(&self) -> PackageSet<'_> {
-        PackageSet {
-            graph: self,
-            included: vec![false; self.package_count()],
-        }
-    }
-
-    /// The set of exactly these packages.
-    pub fn resolve_ids<'a>(
-        &self,
-        ids: impl IntoIterator<Item = &'a PackageId>,
-    ) -> Result<PackageSet<'_>, Error> {
-        Ok(PackageSet {
-            graph: self,
-            included: self.marks(ids)?,
-        })
-    }
-
-    /// The set of the workspace's members.
-    pub fn resolve_workspace(&self) -> PackageSet<'_> {
-        let mut set = self.resolve_none();
-        for position in &self.decoded.members {
-            set.included[*position] = true;
-        }
-        set
-    }
-
     /// Which packages depend on each other.
     pub fn cycles(&self) -> Cycles<'_> {
         Cycles { graph: self }
     }
+}
 
-    /// That no links that aren't dev-only lead from a package to another and back: where some do, `Cycle`
-    /// has the IDs of those that they lead round. Proved.
+/// What isn't in guppy, or means more here.
+impl PackageGraph {
+    /// That no links that aren't dev-only lead from a package to another and back. Proved.
+    ///
+    /// # Errors
+    ///
+    /// [`Error::Cycle`] has the IDs of packages round which such links lead.
     pub fn verify(&self) -> Result<(), Error> {
         let ends = &self.decoded.ends;
-        match sys::cycle(ends, &self.decoded.firm, self.package_count()) {
-            None => Ok(()),
-            Some(cycle) => Err(Error::Cycle(
-                cycle
-                    .iter()
-                    .map(|it| self.package(*it as usize).id().clone())
-                    .collect(),
-            )),
-        }
+        let Some(cycle) = proved::cycle(ends, &self.decoded.firm, self.package_count()) else {
+            return Ok(());
+        };
+        let ids = cycle
+            .iter()
+            .map(|at| self.package(*at as usize).id().clone());
+        Err(Error::Cycle(ids.collect()))
     }
 
-    /// The workspace's members in an order in which they can be published: each after every other member
-    /// to which a path of links that aren't dev-only leads from it, also through packages that are no members.
-    /// Where there is a cycle over these, that is the answer, as [`verify`](PackageGraph::verify) has it.
-    /// Proved.
+    /// The workspace's members in an order in which they can be published: each after every other member to which a path
+    /// of links that aren't dev-only leads from it, also through packages that are no members. Proved.
+    ///
+    /// # Errors
+    ///
+    /// That of [`verify`](PackageGraph::verify).
     pub fn publish_order(&self) -> Result<Vec<PackageMetadata<'_>>, Error> {
         self.verify()?;
-        Ok(self
-            .resolve_workspace()
-            .packages(DependencyDirection::Reverse)
-            .collect())
+        let members = self.resolve_workspace();
+        let listed = members.packages(DependencyDirection::Reverse).collect();
+        Ok(listed)
     }
 
     /// The members to test when the files at these paths changed, what they depend on first: those whose folder holds
@@ -268,7 +234,11 @@ impl PackageGraph {
     /// folder holds it, or only that of one at the root, outside of `build.rs`, `src`, `tests`, `examples` and `benches`.
     /// Paths in an ignored folder count for nothing. Paths and folders are relative to the workspace's root.
     ///
-    /// `Refused` has paths with a NUL, which none has. The JSON is read again. Proved.
+    /// The JSON is read again. Proved.
+    ///
+    /// # Errors
+    ///
+    /// [`Error::Refused`] where a path has a NUL, which none has.
     pub fn affected<'a>(
         &self,
         paths: impl IntoIterator<Item = &'a str>,
@@ -280,10 +250,8 @@ impl PackageGraph {
         }
         words.extend(paths.into_iter().map(|path| format!("./{path}")));
         let answer = crate::answer(&self.json, words.iter().map(String::as_str))?;
-        answer
-            .lines()
-            .map(|id| self.metadata(&PackageId::new(id)))
-            .collect()
+        let ids = answer.lines().map(PackageId::new);
+        ids.map(|id| self.metadata(&id)).collect()
     }
 }
 
@@ -295,68 +263,5 @@ impl fmt::Debug for PackageGraph {
             self.package_count(),
             self.link_count()
         )
-    }
-}
-
-/// The packages that depend on each other.
-#[derive(Clone, Copy, Debug)]
-pub struct Cycles<'g> {
-    graph: &'g PackageGraph,
-}
-
-impl<'g> Cycles<'g> {
-    /// Whether both packages depend on each other. A package does so with itself. Proved.
-    pub fn is_cyclic(&self, first: &PackageId, second: &PackageId) -> Result<bool, Error> {
-        Ok(self.graph.depends_on(first, second)? && self.graph.depends_on(second, first)?)
-    }
-
-    /// Those of two or more packages, dependents first. Proved.
-    pub fn all_cycles(&self) -> impl Iterator<Item = Vec<&'g PackageId>> {
-        let graph = self.graph;
-        let several = graph
-            .components
-            .iter()
-            .filter(|component| component.len() > 1);
-        several.map(|component| {
-            component
-                .iter()
-                .map(|it| graph.package(*it as usize).id())
-                .collect()
-        })
-    }
-}
-
-/// The members of the workspace, and where it is.
-#[derive(Clone, Copy, Debug)]
-pub struct Workspace<'g> {
-    graph: &'g PackageGraph,
-}
-
-impl<'g> Workspace<'g> {
-    /// The folder of the workspace.
-    pub fn root(&self) -> &'g str {
-        self.graph.decoded.root()
-    }
-
-    /// How many members there are.
-    pub fn member_count(&self) -> usize {
-        self.graph.decoded.members.len()
-    }
-
-    /// The members, as the JSON has them.
-    pub fn iter(&self) -> impl ExactSizeIterator<Item = PackageMetadata<'g>> {
-        let graph = self.graph;
-        graph
-            .decoded
-            .members
-            .iter()
-            .map(|position| graph.package(*position))
-    }
-
-    /// The member with the name.
-    pub fn member_by_name(&self, name: &str) -> Result<PackageMetadata<'g>, Error> {
-        self.iter()
-            .find(|member| member.name() == name)
-            .ok_or_else(|| Error::UnknownWorkspaceName(name.to_owned()))
     }
 }

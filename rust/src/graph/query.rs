@@ -1,41 +1,95 @@
-use super::{DependencyDirection, PackageGraph, PackageLink, PackageMetadata, PackageSet};
-use crate::sys;
+use super::resolve::{Function, Walk};
+use super::{
+    DependencyDirection, PackageGraph, PackageLink, PackageLinkContext, PackageLinkVisitor,
+    PackageSet,
+};
+use crate::proved;
 use crate::{Error, PackageId};
+use camino::Utf8Path;
 
 /// Where a walk begins, and its direction.
 #[derive(Clone, Debug)]
 pub struct PackageQuery<'g> {
-    pub(super) graph: &'g PackageGraph,
+    pub(super) initials: PackageSet<'g>,
     pub(super) direction: DependencyDirection,
-    pub(super) starts: Vec<bool>,
 }
 
-/// Says which links a walk follows.
-pub trait PackageResolver<'g> {
-    /// Whether to follow the link. It is asked once about each link that leaves a package that was found, and about no
-    /// other.
-    fn accept(&mut self, query: &PackageQuery<'g>, link: PackageLink<'g>) -> bool;
-}
-
-impl<'g, R: PackageResolver<'g>> PackageResolver<'g> for &mut R {
-    fn accept(&mut self, query: &PackageQuery<'g>, link: PackageLink<'g>) -> bool {
-        (**self).accept(query, link)
+/// Queries: walks that may be made.
+impl PackageGraph {
+    /// From all members to what they depend on.
+    pub fn query_workspace(&self) -> PackageQuery<'_> {
+        self.resolve_workspace()
+            .into_query(DependencyDirection::Forward)
     }
-}
 
-// A function as a resolver.
-struct Function<F>(F);
+    /// From the members at these paths to what they depend on.
+    ///
+    /// # Errors
+    ///
+    /// [`Error::UnknownWorkspacePath`] with the first path at which there is none.
+    pub fn query_workspace_paths(
+        &self,
+        paths: impl IntoIterator<Item = impl AsRef<Utf8Path>>,
+    ) -> Result<PackageQuery<'_>, Error> {
+        let members = self.resolve_workspace_paths(paths)?;
+        Ok(members.into_query(DependencyDirection::Forward))
+    }
 
-impl<'g, F: FnMut(&PackageQuery<'g>, PackageLink<'g>) -> bool> PackageResolver<'g> for Function<F> {
-    fn accept(&mut self, query: &PackageQuery<'g>, link: PackageLink<'g>) -> bool {
-        (self.0)(query, link)
+    /// From the members with these names to what they depend on.
+    ///
+    /// # Errors
+    ///
+    /// [`Error::UnknownWorkspaceName`] with the first name that none has.
+    pub fn query_workspace_names(
+        &self,
+        names: impl IntoIterator<Item = impl AsRef<str>>,
+    ) -> Result<PackageQuery<'_>, Error> {
+        let members = self.resolve_workspace_names(names)?;
+        Ok(members.into_query(DependencyDirection::Forward))
+    }
+
+    /// From these packages in the direction.
+    ///
+    /// # Errors
+    ///
+    /// [`Error::UnknownPackageId`] with the first ID that no package has.
+    pub fn query_directed<'g, 'a>(
+        &'g self,
+        package_ids: impl IntoIterator<Item = &'a PackageId>,
+        dep_direction: DependencyDirection,
+    ) -> Result<PackageQuery<'g>, Error> {
+        Ok(self.resolve_ids(package_ids)?.into_query(dep_direction))
+    }
+
+    /// From these packages to what they depend on.
+    ///
+    /// # Errors
+    ///
+    /// [`Error::UnknownPackageId`] with the first ID that no package has.
+    pub fn query_forward<'g, 'a>(
+        &'g self,
+        package_ids: impl IntoIterator<Item = &'a PackageId>,
+    ) -> Result<PackageQuery<'g>, Error> {
+        self.query_directed(package_ids, DependencyDirection::Forward)
+    }
+
+    /// From these packages to what depends on them.
+    ///
+    /// # Errors
+    ///
+    /// [`Error::UnknownPackageId`] with the first ID that no package has.
+    pub fn query_reverse<'g, 'a>(
+        &'g self,
+        package_ids: impl IntoIterator<Item = &'a PackageId>,
+    ) -> Result<PackageQuery<'g>, Error> {
+        self.query_directed(package_ids, DependencyDirection::Reverse)
     }
 }
 
 impl<'g> PackageQuery<'g> {
     /// The graph that it is of.
     pub fn graph(&self) -> &'g PackageGraph {
-        self.graph
+        self.initials.graph()
     }
 
     /// The direction of the walk.
@@ -44,71 +98,37 @@ impl<'g> PackageQuery<'g> {
     }
 
     /// The packages at which the walk begins.
-    pub fn initials(&self) -> impl Iterator<Item = PackageMetadata<'g>> + '_ {
-        let graph = self.graph;
-        let marked = self
-            .starts
-            .iter()
-            .enumerate()
-            .filter(|(_, marked)| **marked);
-        marked.map(|(position, _)| graph.package(position))
-    }
-
-    /// Whether the walk begins at the package.
-    pub fn starts_from(&self, id: &PackageId) -> Result<bool, Error> {
-        Ok(self.starts[self.graph.position(id)?])
+    pub fn initials(&self) -> &PackageSet<'g> {
+        &self.initials
     }
 
     /// The packages to which links lead from these, and these. Proved.
-    pub fn resolve(&self) -> PackageSet<'g> {
-        self.over(&self.graph.all)
+    pub fn resolve(self) -> PackageSet<'g> {
+        let (graph, forward) = (self.graph(), self.direction.is_forward());
+        let (ends, starts) = (&graph.decoded.ends, &self.initials.included);
+        PackageSet::of(graph, proved::reach(ends, &graph.all, starts, forward))
     }
 
-    /// The packages to which links that the resolver accepts lead from these, and these. The resolver is asked once
-    /// about each link that leaves one of these packages, after the package was found, and about no other link; its
-    /// answers may change. Proved of each walk, whatever was answered: the library judges it when it has ended.
+    /// The packages to which links that the visitor accepts lead from these, and these. It is asked during the walk, once
+    /// about each link that leaves one of the packages that are found, after the package was, and about no other link; its
+    /// answers may change. Certified of each walk, whatever was answered: the proved judge sees it when it has ended.
     ///
     /// # Panics
     ///
-    /// Should the library judge the walk to be no resolve.
-    pub fn resolve_with(&self, mut resolver: impl PackageResolver<'g>) -> PackageSet<'g> {
-        let (graph, forward) = (self.graph, self.direction.is_forward());
-        let ends = &graph.decoded.ends;
-        let mut included = self.starts.clone();
-        // The packages that were found and whose links weren't shown yet.
-        let mut found: Vec<usize> = (0..included.len()).filter(|at| included[*at]).collect();
-        let (mut shown, mut answers) = (Vec::new(), Vec::new());
-        while let Some(position) = found.pop() {
-            for number in graph.links_at(position, self.direction) {
-                let is_accepted = resolver.accept(self, graph.link(*number));
-                shown.push(*number);
-                answers.push(is_accepted);
-                let end = ends[*number].far(forward);
-                if is_accepted && !included[end] {
-                    included[end] = true;
-                    found.push(end);
-                }
-            }
-        }
-        let is_resolve = sys::is_resolve(ends, &self.starts, &shown, &answers, &included, forward);
-        assert!(is_resolve, "the library finds that this was no resolve");
-        PackageSet { graph, included }
+    /// Should the judge find that the walk was no resolve.
+    pub fn resolve_with(self, mut visitor: impl PackageLinkVisitor<'g>) -> PackageSet<'g> {
+        Walk::from(self).walked(&mut visitor).judged()
     }
 
     /// [`resolve_with`](PackageQuery::resolve_with) on a function.
+    ///
+    /// # Panics
+    ///
+    /// As there.
     pub fn resolve_with_fn(
-        &self,
-        accept: impl FnMut(&PackageQuery<'g>, PackageLink<'g>) -> bool,
+        self,
+        visitor_fn: impl FnMut(&PackageLinkContext<'g>, PackageLink<'g>) -> bool,
     ) -> PackageSet<'g> {
-        self.resolve_with(Function(accept))
-    }
-
-    fn over(&self, flags: &[bool]) -> PackageSet<'g> {
-        let ends = &self.graph.decoded.ends;
-        let included = sys::reach(ends, flags, &self.starts, self.direction.is_forward());
-        PackageSet {
-            graph: self.graph,
-            included,
-        }
+        self.resolve_with(Function(visitor_fn))
     }
 }

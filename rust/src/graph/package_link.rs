@@ -1,0 +1,199 @@
+use super::decode::Span;
+use super::{PackageGraph, PackageMetadata};
+use crate::platform::{EnabledTernary, PlatformSpec, PlatformStatus};
+use crate::DependencyKind;
+use std::fmt;
+
+/// What is kept of a link, beside its ends.
+#[derive(Clone)]
+pub(super) struct Link {
+    pub(super) dep_name: Span,
+    pub(super) resolved_name: Span,
+    pub(super) normal: Section,
+    pub(super) build: Section,
+    pub(super) dev: Section,
+}
+
+impl Link {
+    pub(super) fn is_dev_only(&self) -> bool {
+        self.normal.is_never() && self.build.is_never()
+    }
+}
+
+/// On which platforms a dependency in one section is there.
+#[derive(Clone, Copy)]
+pub(super) struct Section {
+    pub(super) required: Status,
+    pub(super) optional: Status,
+}
+
+impl Section {
+    fn is_never(self) -> bool {
+        self.required == Status::Never && self.optional == Status::Never
+    }
+}
+
+/// Some platforms, as [`PlatformStatus`] has them; the texts by the number of their list.
+#[derive(Clone, Copy, PartialEq, Eq)]
+pub(super) enum Status {
+    Never,
+    Always,
+    Specs(usize),
+}
+
+/// A link of a graph: that one package depends on another. What it says is what the JSON says, which is proved.
+#[derive(Clone, Copy)]
+pub struct PackageLink<'g> {
+    pub(super) graph: &'g PackageGraph,
+    pub(super) number: usize,
+}
+
+impl<'g> PackageLink<'g> {
+    /// The package that depends on the other.
+    pub fn from(&self) -> PackageMetadata<'g> {
+        let from = self.graph.decoded.ends[self.number].from;
+        self.graph.package(from as usize)
+    }
+
+    /// The package that it depends on.
+    pub fn to(&self) -> PackageMetadata<'g> {
+        let to = self.graph.decoded.ends[self.number].to;
+        self.graph.package(to as usize)
+    }
+
+    /// Both packages.
+    pub fn endpoints(&self) -> (PackageMetadata<'g>, PackageMetadata<'g>) {
+        (self.from(), self.to())
+    }
+
+    fn link(&self) -> &'g Link {
+        &self.graph.decoded.links[self.number]
+    }
+
+    /// The dependency's name in the manifest. Where it has several, as under other platforms, it is that of the first.
+    pub fn dep_name(&self) -> &'g str {
+        self.graph.decoded.part(self.link().dep_name)
+    }
+
+    /// The dependency's name in the code.
+    pub fn resolved_name(&self) -> &'g str {
+        self.graph.decoded.part(self.link().resolved_name)
+    }
+
+    /// What it asks for in `[dependencies]`.
+    pub fn normal(&self) -> DependencyReq<'g> {
+        self.req_for_kind(DependencyKind::Normal)
+    }
+
+    /// What it asks for in `[build-dependencies]`.
+    pub fn build(&self) -> DependencyReq<'g> {
+        self.req_for_kind(DependencyKind::Build)
+    }
+
+    /// What it asks for in `[dev-dependencies]`.
+    pub fn dev(&self) -> DependencyReq<'g> {
+        self.req_for_kind(DependencyKind::Development)
+    }
+
+    /// What it asks for in the section.
+    pub fn req_for_kind(&self, kind: DependencyKind) -> DependencyReq<'g> {
+        let link = self.link();
+        let section = match kind {
+            DependencyKind::Normal => &link.normal,
+            DependencyKind::Development => &link.dev,
+            DependencyKind::Build => &link.build,
+        };
+        DependencyReq {
+            graph: self.graph,
+            section,
+        }
+    }
+
+    /// Whether it stands in no other section than `[dev-dependencies]`, so that only tests, examples and benchmarks need
+    /// it.
+    pub fn dev_only(&self) -> bool {
+        self.link().is_dev_only()
+    }
+}
+
+impl fmt::Debug for PackageLink<'_> {
+    fn fmt(&self, f: &mut fmt::Formatter<'_>) -> fmt::Result {
+        f.debug_struct("PackageLink")
+            .field("from", &self.from().id().repr())
+            .field("to", &self.to().id().repr())
+            .field("dep_name", &self.dep_name())
+            .finish_non_exhaustive()
+    }
+}
+
+/// What a link's dependencies ask for in one section.
+#[derive(Clone, Copy)]
+pub struct DependencyReq<'g> {
+    graph: &'g PackageGraph,
+    section: &'g Section,
+}
+
+impl<'g> DependencyReq<'g> {
+    /// Whether one of them stands in the section, for some platform.
+    pub fn is_present(&self) -> bool {
+        !self.section.is_never()
+    }
+
+    fn platforms(&self, status: Status) -> PlatformStatus<'g> {
+        match status {
+            Status::Never => PlatformStatus::Never,
+            Status::Always => PlatformStatus::Always,
+            Status::Specs(number) => PlatformStatus::of(self.graph.decoded.specs(number)),
+        }
+    }
+
+    /// Where it is there.
+    pub fn status(&self) -> EnabledStatus<'g> {
+        EnabledStatus {
+            required: self.platforms(self.section.required),
+            optional: self.platforms(self.section.optional),
+        }
+    }
+}
+
+impl fmt::Debug for DependencyReq<'_> {
+    fn fmt(&self, f: &mut fmt::Formatter<'_>) -> fmt::Result {
+        f.debug_struct("DependencyReq")
+            .field("status", &self.status())
+            .finish_non_exhaustive()
+    }
+}
+
+/// On which platforms a dependency is there, by itself or where a feature asks for it.
+#[derive(Clone, Copy, Debug)]
+pub struct EnabledStatus<'g> {
+    required: PlatformStatus<'g>,
+    optional: PlatformStatus<'g>,
+}
+
+impl<'g> EnabledStatus<'g> {
+    /// Whether it is there on none.
+    pub fn is_never(&self) -> bool {
+        self.required.is_never() && self.optional.is_never()
+    }
+
+    /// Whether it is required there, as [`PlatformStatus::enabled_on`] says.
+    pub fn required_on(&self, platform_spec: &PlatformSpec) -> EnabledTernary {
+        self.required.enabled_on(platform_spec)
+    }
+
+    /// Whether it is required or optional there, as [`PlatformStatus::enabled_on`] says.
+    pub fn enabled_on(&self, platform_spec: &PlatformSpec) -> EnabledTernary {
+        self.required.enabled_on(platform_spec) | self.optional.enabled_on(platform_spec)
+    }
+
+    /// Where it is required.
+    pub fn required_status(&self) -> PlatformStatus<'g> {
+        self.required
+    }
+
+    /// Where it is optional.
+    pub fn optional_status(&self) -> PlatformStatus<'g> {
+        self.optional
+    }
+}

@@ -1,0 +1,238 @@
+//! The answers of the proved library, as the rest of the crate asks for them.
+
+use crate::sys::{self, Answer, Outcome};
+use std::alloc::{handle_alloc_error, Layout};
+
+pub(crate) use crate::sys::Ends;
+
+impl Ends {
+    /// The position that the link leads to, forward or the other way.
+    pub(crate) fn far(self, forward: bool) -> usize {
+        (if forward { self.to } else { self.from }) as usize
+    }
+}
+
+/// Why links make no graph.
+#[derive(Clone, Copy, Debug, PartialEq, Eq)]
+pub(crate) enum LinkFault {
+    /// There are too many positions or links.
+    TooMany,
+    /// The link with the number has an end that is no position, or the ends of an earlier one.
+    At(usize),
+}
+
+// The library found no memory; std ends the process where it finds none, and so does this.
+fn out_of_memory(bytes: usize) -> ! {
+    handle_alloc_error(Layout::array::<u8>(bytes).unwrap_or(Layout::new::<u64>()))
+}
+
+// What the status says. Lengths fit in each call here.
+fn ended(outcome: Outcome, links: &[Ends]) -> Result<(), LinkFault> {
+    match outcome.status {
+        0 => Ok(()),
+        2 | 3 => Err(LinkFault::TooMany),
+        4 | 5 => Err(LinkFault::At(outcome.link)),
+        6 => out_of_memory(std::mem::size_of_val(links)),
+        status => unreachable!("status {status} of slices whose lengths fit"),
+    }
+}
+
+// The same, of links that made a graph before.
+fn accepted(outcome: Outcome, links: &[Ends]) {
+    ended(outcome, links).expect("these links make a graph");
+}
+
+/// All positions, component by component.
+#[derive(Clone, Debug)]
+pub(crate) struct Components {
+    order: Vec<u32>,
+    // Where each component begins, and the length of the order.
+    begins: Vec<usize>,
+}
+
+impl Components {
+    fn of(order: Vec<u32>, firsts: &[bool]) -> Self {
+        let marked = firsts.iter().enumerate().filter(|(_, first)| **first);
+        let begins = marked
+            .map(|(place, _)| place)
+            .chain([order.len()])
+            .collect();
+        Components { order, begins }
+    }
+
+    /// All positions, dependents first.
+    pub(crate) fn order(&self) -> &[u32] {
+        &self.order
+    }
+
+    /// The components, dependents first.
+    pub(crate) fn iter(&self) -> impl DoubleEndedIterator<Item = &[u32]> {
+        self.begins
+            .windows(2)
+            .map(|ends| &self.order[ends[0]..ends[1]])
+    }
+}
+
+/// The components of the positions below the count, in an order by the flagged links.
+pub(crate) fn components(
+    links: &[Ends],
+    flags: &[bool],
+    count: usize,
+) -> Result<Components, LinkFault> {
+    let (mut order, mut firsts) = (vec![0; count], vec![false; count]);
+    ended(
+        sys::components(links, flags, &mut order, &mut firsts),
+        links,
+    )?;
+    Ok(Components::of(order, &firsts))
+}
+
+/// A cycle over flagged links of the positions below the count.
+pub(crate) fn cycle(links: &[Ends], flags: &[bool], count: usize) -> Option<Vec<u32>> {
+    let mut list = vec![0; count];
+    let cycle = sys::cycle(links, flags, &mut list);
+    accepted(cycle.outcome, links);
+    list.truncate(cycle.len);
+    (!list.is_empty()).then_some(list)
+}
+
+/// The positions that flagged links lead to from the starts.
+pub(crate) fn reach(links: &[Ends], flags: &[bool], starts: &[bool], forward: bool) -> Vec<bool> {
+    let mut marks = vec![false; starts.len()];
+    accepted(sys::reach(links, flags, starts, forward, &mut marks), links);
+    marks
+}
+
+/// The roots of the set in the direction.
+pub(crate) fn roots(links: &[Ends], set: &[bool], forward: bool) -> Vec<bool> {
+    let mut marks = vec![false; set.len()];
+    accepted(sys::roots(links, set, forward, &mut marks), links);
+    marks
+}
+
+/// The numbers of the links inside the set, in the order of a walk from its roots.
+pub(crate) fn links(links: &[Ends], set: &[bool], forward: bool) -> Vec<usize> {
+    let mut numbers = vec![0; links.len()];
+    let listed = sys::links(links, set, forward, &mut numbers);
+    accepted(listed.outcome, links);
+    numbers.truncate(listed.len);
+    numbers
+}
+
+/// Whether a resolve from the starts shows the links with these numbers, in this order, with these answers, and
+/// includes the set.
+pub(crate) fn is_resolve(
+    links: &[Ends],
+    starts: &[bool],
+    shown: &[usize],
+    answers: &[bool],
+    set: &[bool],
+    forward: bool,
+) -> bool {
+    let judged = sys::judge(links, starts, shown, answers, set, forward);
+    accepted(judged.outcome, links);
+    judged.holds
+}
+
+// The text that a call writes, or why it refuses, told once more where the first room is too small.
+fn text_of(room: usize, call: impl Fn(&mut [u8]) -> Answer) -> Result<String, String> {
+    let mut out = vec![0; room];
+    let mut answer = call(&mut out);
+    if answer.status == 2 {
+        out = vec![0; answer.len];
+        answer = call(&mut out);
+    }
+    out.truncate(answer.len);
+    out.shrink_to_fit();
+    let text = String::from_utf8(out).expect("texts are UTF-8");
+    match answer.status {
+        0 => Ok(text),
+        1 => Err(text),
+        3 => out_of_memory(room),
+        status => unreachable!("status {status} of a call with room for its text"),
+    }
+}
+
+/// What `guppy-cargo` prints for these arguments of the workspace that the JSON describes, or the line that says why
+/// it refuses. None of the arguments has a NUL.
+pub(crate) fn answer(json: &str, args: &[&str]) -> Result<String, String> {
+    let args = args.join("\0");
+    text_of(1 << 12, |out| {
+        sys::answer(json.as_bytes(), args.as_bytes(), out)
+    })
+}
+
+/// The packages, links and workspace that the JSON describes as one text, or the line that says why there are none.
+pub(crate) fn records(json: &str) -> Result<String, String> {
+    text_of(json.len(), |out| sys::records(json.as_bytes(), out))
+}
+
+/// What a text says of a platform.
+#[derive(Clone, Copy, Debug, PartialEq, Eq)]
+pub(crate) enum Said {
+    /// That it is another one.
+    No,
+    /// Nothing: it is no predicate and no name.
+    Nothing,
+    /// That it is this one.
+    Yes,
+}
+
+/// What the text, as `cfg(unix)` or the name of a platform, says of the platform with the name, for which a compiler
+/// prints these lines; or how many lines stand before the first that sets nothing.
+pub(crate) fn said(text: &str, triple: &str, cfgs: &str) -> Result<Said, usize> {
+    let told = sys::eval(text.as_bytes(), triple.as_bytes(), cfgs.as_bytes());
+    match (told.status, told.value) {
+        (0, 0) => Ok(Said::No),
+        (0, 1) => Ok(Said::Nothing),
+        (0, _) => Ok(Said::Yes),
+        (1, _) => Err(told.line),
+        (3, _) => out_of_memory(cfgs.len()),
+        (status, _) => unreachable!("status {status} of texts in UTF-8"),
+    }
+}
+
+#[cfg(test)]
+mod tests {
+    use super::*;
+    use std::cell::Cell;
+
+    #[test]
+    fn a_text_is_asked_for_again_where_the_room_was_too_small() {
+        let rooms = Cell::new([0; 2]);
+        let asked = Cell::new(0);
+        let text = text_of(3, |out| {
+            let mut all = rooms.get();
+            all[asked.get()] = out.len();
+            rooms.set(all);
+            asked.set(asked.get() + 1);
+            let is_room = out.len() >= 5;
+            if is_room {
+                out[..5].copy_from_slice(b"hello");
+            }
+            Answer {
+                status: if is_room { 0 } else { 2 },
+                len: 5,
+            }
+        });
+        assert_eq!((text.as_deref(), rooms.get()), (Ok("hello"), [3, 5]));
+    }
+
+    #[test]
+    fn a_refusal_is_told() {
+        let refused = text_of(4, |out| {
+            out[..2].copy_from_slice(b"no");
+            Answer { status: 1, len: 2 }
+        });
+        assert_eq!(refused, Err("no".to_owned()));
+    }
+
+    #[test]
+    fn components_are_parted_where_one_begins() {
+        let components = Components::of(vec![3, 0, 2, 1], &[true, true, false, true]);
+        let listed: Vec<&[u32]> = components.iter().collect();
+        assert_eq!(listed, [&[3][..], &[0, 2], &[1]]);
+        let none = Components::of(Vec::new(), &[]);
+        assert_eq!(none.iter().count(), 0);
+    }
+}
