@@ -1,9 +1,38 @@
-//! Workspaces as `cargo metadata` prints them, made of links by number.
+//! The workspace of the documents, and others as `cargo metadata` prints them, made of links by number.
+#![allow(dead_code)]
+
+use guppy_proved::graph::{PackageGraph, PackageMetadata};
+use guppy_proved::PackageId;
+
+/// What cargo says of the workspace of the documents.
+pub const JSON: &str = include_str!("../../../examples/metadata.json");
+
+/// The graph of the workspace of the documents.
+pub fn workspace() -> PackageGraph {
+    PackageGraph::from_json(JSON).unwrap()
+}
+
+/// The ID of the member with the name.
+pub fn id<'g>(graph: &'g PackageGraph, name: &str) -> &'g PackageId {
+    graph.workspace().member_by_name(name).unwrap().id()
+}
+
+/// The names of the packages.
+pub fn named<'g>(packages: impl IntoIterator<Item = PackageMetadata<'g>>) -> Vec<&'g str> {
+    packages.into_iter().map(|package| package.name()).collect()
+}
+
+/// The names of the packages, sorted.
+pub fn sorted<'g>(packages: impl IntoIterator<Item = PackageMetadata<'g>>) -> Vec<&'g str> {
+    let mut names = named(packages);
+    names.sort_unstable();
+    names
+}
 
 /// A link: from, to, and its kind as Cargo writes it.
 pub type Link = (usize, usize, &'static str);
 
-fn id(package: usize) -> String {
+fn id_of(package: usize) -> String {
     format!("path+file:///w/p{package}#1.0.0")
 }
 
@@ -36,7 +65,7 @@ pub fn json_of(count: usize, links: &[Link]) -> String {
             "features":{{}},"manifest_path":"/w/p{p}/Cargo.toml","metadata":null,"publish":null,"authors":[],
             "categories":[],"keywords":[],"readme":null,"repository":null,"homepage":null,"documentation":null,
             "edition":"2021","links":null,"default_run":null,"rust_version":null}}"#,
-            id(p),
+            id_of(p),
             declared.join(",")
         )
     };
@@ -47,18 +76,18 @@ pub fn json_of(count: usize, links: &[Link]) -> String {
             .map(|(_, to, kind)| {
                 format!(
                     r#"{{"name":"p{to}","pkg":"{}","dep_kinds":[{{"kind":{},"target":null}}]}}"#,
-                    id(*to),
+                    id_of(*to),
                     quoted(kind)
                 )
             })
             .collect();
         format!(
             r#"{{"id":"{}","dependencies":[],"deps":[{}],"features":[]}}"#,
-            id(p),
+            id_of(p),
             deps.join(",")
         )
     };
-    let ids: Vec<String> = (0..count).map(|p| format!("\"{}\"", id(p))).collect();
+    let ids: Vec<String> = (0..count).map(|p| format!("\"{}\"", id_of(p))).collect();
     format!(
         r#"{{"packages":[{}],"workspace_members":[{ids}],"workspace_default_members":[{ids}],
         "resolve":{{"nodes":[{}],"root":null}},"target_directory":"/w/target","build_directory":"/w/target",
