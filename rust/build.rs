@@ -15,7 +15,7 @@ fn own_crate() -> PathBuf {
 // Proves and builds the library, where `GUPPY_C_BUILD` asks for it.
 fn is_built() -> bool {
     println!("cargo:rerun-if-env-changed=GUPPY_C_BUILD");
-    if env::var_os("GUPPY_C_BUILD").map_or(true, |set| set.is_empty()) {
+    if env::var_os("GUPPY_C_BUILD").is_none_or(|set| set.is_empty()) {
         return false;
     }
     println!("cargo:warning=GUPPY_C_BUILD is set: `rt lib` proves and builds libguppy_c.a, which takes half an hour");
@@ -33,7 +33,8 @@ fn link() {
     let folder = named.unwrap_or_else(|| own_crate().join("out"));
     let archive = folder.join("libguppy_c.a");
     println!("cargo:rerun-if-changed={}", archive.display());
-    if !archive.is_file() && !(is_own && is_built()) {
+    let is_there = archive.is_file() || is_own && is_built();
+    if !is_there {
         println!(
             "cargo:warning=there is no {}: nothing can be linked until `rt lib` in crates/guppy_c has made it \
              (half an hour; GUPPY_C_BUILD=1 runs it from here), or GUPPY_C_LIB names its folder",

@@ -2,9 +2,9 @@
 //! kept, and texts in it are told by places.
 
 use super::package::{Package, Source};
-use super::package_link::{Link, Section, Status};
+use super::package_link::{Link, Section};
 use crate::metadata::unread;
-use crate::platform::TargetSpec;
+use crate::platform::{Platforms, TargetSpec};
 use crate::proved::{Ends, LinkFault};
 use crate::{Error, PackageId};
 use camino::Utf8Path;
@@ -36,7 +36,6 @@ pub(super) struct Decoded {
     pub(super) links: Vec<Link>,
     // Where a link isn't dev-only.
     pub(super) firm: Vec<bool>,
-    specs: Vec<Vec<TargetSpec>>,
 }
 
 // The positions of packages by their IDs.
@@ -46,17 +45,11 @@ type Positions = HashMap<String, u32>;
 struct Parts<'t> {
     text: &'t str,
     place: usize,
-    // The platforms of each status that has some, as they come.
-    specs: Vec<Vec<TargetSpec>>,
 }
 
 impl<'t> Parts<'t> {
     fn of(text: &'t str) -> Self {
-        Parts {
-            text,
-            place: 0,
-            specs: Vec::new(),
-        }
+        Parts { text, place: 0 }
     }
 
     fn next(&self) -> u8 {
@@ -136,26 +129,20 @@ impl<'t> Parts<'t> {
         (0..count).map(|_| self.package()).collect()
     }
 
-    fn status(&mut self) -> Status {
+    fn platforms(&mut self) -> Platforms {
         if self.next() == b'*' {
             self.take();
-            return Status::Always;
+            return Platforms::Always;
         }
         let count = self.number(b';');
-        if count == 0 {
-            return Status::Never;
-        }
-        let specs = (0..count)
-            .map(|_| TargetSpec::as_written(self.text()))
-            .collect();
-        self.specs.push(specs);
-        Status::Specs(self.specs.len() - 1)
+        let specs = (0..count).map(|_| TargetSpec::as_written(self.text()));
+        Platforms::Specs(specs.collect())
     }
 
     fn section(&mut self) -> Section {
         Section {
-            required: self.status(),
-            optional: self.status(),
+            required: self.platforms(),
+            optional: self.platforms(),
         }
     }
 
@@ -219,7 +206,6 @@ impl Decoded {
             root,
             target_directory,
             firm: links.iter().map(|link| !link.is_dev_only()).collect(),
-            specs: parts.specs,
             packages,
             positions,
             ends,
@@ -236,11 +222,6 @@ impl Decoded {
     /// The path of a package at a position, or the text that says where it comes from.
     pub(super) fn path(&self, position: usize) -> &Utf8Path {
         self.part(self.packages[position].source.part()).into()
-    }
-
-    /// The platforms of the status with the number.
-    pub(super) fn specs(&self, number: usize) -> &[TargetSpec] {
-        &self.specs[number]
     }
 
     /// The folder of the workspace.

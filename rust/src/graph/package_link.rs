@@ -1,6 +1,6 @@
 use super::decode::Span;
 use super::{PackageGraph, PackageMetadata};
-use crate::platform::{EnabledTernary, PlatformSpec, PlatformStatus};
+use crate::platform::{EnabledTernary, PlatformSpec, PlatformStatus, Platforms};
 use crate::DependencyKind;
 use std::fmt;
 
@@ -18,27 +18,27 @@ impl Link {
     pub(super) fn is_dev_only(&self) -> bool {
         self.normal.is_never() && self.build.is_never()
     }
-}
 
-/// On which platforms a dependency in one section is there.
-#[derive(Clone, Copy)]
-pub(super) struct Section {
-    pub(super) required: Status,
-    pub(super) optional: Status,
-}
-
-impl Section {
-    fn is_never(self) -> bool {
-        self.required == Status::Never && self.optional == Status::Never
+    fn section(&self, kind: DependencyKind) -> &Section {
+        match kind {
+            DependencyKind::Normal => &self.normal,
+            DependencyKind::Development => &self.dev,
+            DependencyKind::Build => &self.build,
+        }
     }
 }
 
-/// Some platforms, as [`PlatformStatus`] has them; the texts by the number of their list.
-#[derive(Clone, Copy, PartialEq, Eq)]
-pub(super) enum Status {
-    Never,
-    Always,
-    Specs(usize),
+/// On which platforms a dependency in one section is there.
+#[derive(Clone)]
+pub(super) struct Section {
+    pub(super) required: Platforms,
+    pub(super) optional: Platforms,
+}
+
+impl Section {
+    fn is_never(&self) -> bool {
+        self.required.is_never() && self.optional.is_never()
+    }
 }
 
 /// A link of a graph: that one package depends on another. What it says is what the JSON says, which is proved.
@@ -97,15 +97,8 @@ impl<'g> PackageLink<'g> {
 
     /// What it asks for in the section.
     pub fn req_for_kind(&self, kind: DependencyKind) -> DependencyReq<'g> {
-        let link = self.link();
-        let section = match kind {
-            DependencyKind::Normal => &link.normal,
-            DependencyKind::Development => &link.dev,
-            DependencyKind::Build => &link.build,
-        };
         DependencyReq {
-            graph: self.graph,
-            section,
+            section: self.link().section(kind),
         }
     }
 
@@ -129,7 +122,6 @@ impl fmt::Debug for PackageLink<'_> {
 /// What a link's dependencies ask for in one section.
 #[derive(Clone, Copy)]
 pub struct DependencyReq<'g> {
-    graph: &'g PackageGraph,
     section: &'g Section,
 }
 
@@ -139,20 +131,9 @@ impl<'g> DependencyReq<'g> {
         !self.section.is_never()
     }
 
-    fn platforms(&self, status: Status) -> PlatformStatus<'g> {
-        match status {
-            Status::Never => PlatformStatus::Never,
-            Status::Always => PlatformStatus::Always,
-            Status::Specs(number) => PlatformStatus::of(self.graph.decoded.specs(number)),
-        }
-    }
-
     /// Where it is there.
     pub fn status(&self) -> EnabledStatus<'g> {
-        EnabledStatus {
-            required: self.platforms(self.section.required),
-            optional: self.platforms(self.section.optional),
-        }
+        EnabledStatus::of(&self.section.required, &self.section.optional)
     }
 }
 
@@ -172,6 +153,13 @@ pub struct EnabledStatus<'g> {
 }
 
 impl<'g> EnabledStatus<'g> {
+    fn of(required: &'g Platforms, optional: &'g Platforms) -> Self {
+        EnabledStatus {
+            required: PlatformStatus::of(required),
+            optional: PlatformStatus::of(optional),
+        }
+    }
+
     /// Whether it is there on none.
     pub fn is_never(&self) -> bool {
         self.required.is_never() && self.optional.is_never()

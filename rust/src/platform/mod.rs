@@ -6,6 +6,7 @@ mod target_features;
 mod target_platform;
 mod target_spec;
 
+pub(crate) use platform_eval::Platforms;
 pub use platform_eval::{EnabledTernary, PlatformEval, PlatformStatus};
 pub use platform_spec::PlatformSpec;
 pub use target_features::TargetFeatures;

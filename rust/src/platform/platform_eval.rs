@@ -1,6 +1,20 @@
 use super::{Platform, PlatformSpec, TargetSpec};
 use std::ops::{BitAnd, BitOr};
 
+/// On which platforms something is there, as it is kept.
+#[derive(Clone, Debug)]
+pub(crate) enum Platforms {
+    Always,
+    // On those of which one of these says so; on none where there is none.
+    Specs(Vec<TargetSpec>),
+}
+
+impl Platforms {
+    pub(crate) fn is_never(&self) -> bool {
+        matches!(self, Platforms::Specs(specs) if specs.is_empty())
+    }
+}
+
 /// On which platforms something is there.
 #[derive(Clone, Copy, Debug)]
 pub enum PlatformStatus<'g> {
@@ -16,13 +30,13 @@ pub enum PlatformStatus<'g> {
 }
 
 impl<'g> PlatformStatus<'g> {
-    // That of the texts, of which there are none where it is never.
-    pub(crate) fn of(specs: &'g [TargetSpec]) -> Self {
-        if specs.is_empty() {
-            PlatformStatus::Never
-        } else {
-            let eval = PlatformEval { specs };
-            PlatformStatus::PlatformDependent { eval }
+    pub(crate) fn of(platforms: &'g Platforms) -> Self {
+        match platforms {
+            Platforms::Always => PlatformStatus::Always,
+            Platforms::Specs(specs) if specs.is_empty() => PlatformStatus::Never,
+            Platforms::Specs(specs) => PlatformStatus::PlatformDependent {
+                eval: PlatformEval { specs },
+            },
         }
     }
 
