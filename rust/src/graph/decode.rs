@@ -3,26 +3,13 @@
 
 use super::package::{Package, Source};
 use super::package_link::{Link, Section};
+use super::parts::{Parts, Span};
 use crate::metadata::unread;
-use crate::platform::{Platforms, TargetSpec};
 use crate::proved::{Ends, LinkFault};
 use crate::{Error, PackageId};
 use camino::Utf8Path;
 use semver::Version;
 use std::collections::HashMap;
-
-/// A part of the text: where it begins, and how many bytes it has.
-#[derive(Clone, Copy)]
-pub(super) struct Span {
-    start: usize,
-    len: usize,
-}
-
-impl Span {
-    fn of(self, text: &str) -> &str {
-        &text[self.start..][..self.len]
-    }
-}
 
 /// Packages by position, and links by number.
 #[derive(Clone)]
@@ -41,61 +28,7 @@ pub(super) struct Decoded {
 // The positions of packages by their IDs.
 type Positions = HashMap<String, u32>;
 
-// Reads a text in which each part tells how long it is, from its front. The library is proved to write it so.
-struct Parts<'t> {
-    text: &'t str,
-    place: usize,
-}
-
-impl<'t> Parts<'t> {
-    fn of(text: &'t str) -> Self {
-        Parts { text, place: 0 }
-    }
-
-    fn next(&self) -> u8 {
-        self.text.as_bytes()[self.place]
-    }
-
-    fn take(&mut self) -> u8 {
-        let byte = self.next();
-        self.place += 1;
-        byte
-    }
-
-    // The number in front of the mark.
-    fn number(&mut self, mark: u8) -> usize {
-        let mut number = 0;
-        loop {
-            match self.take() {
-                digit @ b'0'..=b'9' => number = 10 * number + usize::from(digit - b'0'),
-                byte => {
-                    assert_eq!(byte, mark, "a mark behind each number");
-                    return number;
-                }
-            }
-        }
-    }
-
-    fn field(&mut self) -> Span {
-        let len = self.number(b':');
-        let start = self.place;
-        self.place += len;
-        Span { start, len }
-    }
-
-    fn text(&mut self) -> &'t str {
-        self.field().of(self.text)
-    }
-
-    fn optional(&mut self) -> Option<Span> {
-        if self.next() == b'-' {
-            self.take();
-            None
-        } else {
-            Some(self.field())
-        }
-    }
-
+impl Parts<'_> {
     fn source(&mut self) -> Source {
         match self.take() {
             b'w' => Source::Workspace(self.field()),
@@ -127,16 +60,6 @@ impl<'t> Parts<'t> {
     fn packages(&mut self) -> Result<Vec<Package>, Error> {
         let count = self.number(b';');
         (0..count).map(|_| self.package()).collect()
-    }
-
-    fn platforms(&mut self) -> Platforms {
-        if self.next() == b'*' {
-            self.take();
-            return Platforms::Always;
-        }
-        let count = self.number(b';');
-        let specs = (0..count).map(|_| TargetSpec::as_written(self.text()));
-        Platforms::Specs(specs.collect())
     }
 
     fn section(&mut self) -> Section {
@@ -197,7 +120,7 @@ fn positions(packages: &[Package]) -> Result<Positions, Error> {
 impl Decoded {
     /// What the text has.
     pub(super) fn of(text: String) -> Result<Self, Error> {
-        let mut parts = Parts::of(&text);
+        let mut parts = Parts::at(&text, 0);
         let (root, target_directory) = (parts.field(), parts.field());
         let packages = parts.packages()?;
         let positions = positions(&packages)?;

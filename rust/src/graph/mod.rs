@@ -8,6 +8,7 @@ mod links_at;
 mod package;
 mod package_link;
 mod package_source;
+mod parts;
 mod query;
 mod resolve;
 mod set;

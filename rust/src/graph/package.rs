@@ -1,4 +1,4 @@
-use super::decode::Span;
+use super::parts::Span;
 use super::{
     DependencyDirection, PackageGraph, PackageLink, PackageQuery, PackageSet, PackageSource,
 };

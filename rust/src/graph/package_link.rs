@@ -1,4 +1,4 @@
-use super::decode::Span;
+use super::parts::Span;
 use super::{PackageGraph, PackageMetadata};
 use crate::platform::{EnabledTernary, PlatformSpec, PlatformStatus, Platforms};
 use crate::DependencyKind;
