@@ -9,7 +9,7 @@
 // that has threads.
 
 /// The number of this interface.
-pub(crate) const VERSION: u32 = 1;
+pub(crate) const VERSION: u32 = 2;
 
 /// How a call ended that writes a text.
 #[repr(C)]
@@ -191,6 +191,7 @@ extern "C" {
     fn guppy_records(
         json: *const u8,
         json_len: usize,
+        details: bool,
         out: *mut u8,
         out_len: usize,
     ) -> Answer;

@@ -164,7 +164,7 @@ pub(crate) fn answer(json: &str, args: &[&str]) -> Result<String, String> {
 
 /// The packages, links and workspace that the JSON describes as one text, or the line that says why there are none.
 pub(crate) fn records(json: &str) -> Result<String, String> {
-    text_of(json.len(), |out| sys::records(json.as_bytes(), out))
+    text_of(json.len(), |out| sys::records(json.as_bytes(), true, out))
 }
 
 /// What a text says of a platform.

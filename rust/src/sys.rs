@@ -61,8 +61,8 @@ pub(crate) fn answer(json: &[u8], args: &[u8], out: &mut [u8]) -> Answer {
     call!(guppy_answer: &json, &args, &mut out,)
 }
 
-pub(crate) fn records(json: &[u8], out: &mut [u8]) -> Answer {
-    call!(guppy_records: &json, &mut out,)
+pub(crate) fn records(json: &[u8], details: bool, out: &mut [u8]) -> Answer {
+    call!(guppy_records: &json, details, &mut out,)
 }
 
 pub(crate) fn eval(text: &[u8], triple: &[u8], cfgs: &[u8]) -> Evaluated {

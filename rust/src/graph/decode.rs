@@ -1,12 +1,13 @@
 //! The packages and links that the proved library read off the JSON, out of the one text that has them. The text is
 //! kept, and texts in it are told by places.
 
+use super::details::{Later, LinkDetails, PackageDetails};
 use super::package::{Package, Source};
 use super::package_link::{Link, Section};
 use super::parts::{Parts, Span};
 use crate::metadata::unread;
 use crate::proved::{Ends, LinkFault};
-use crate::{Error, PackageId};
+use crate::{Error, JsonValue, PackageId};
 use camino::Utf8Path;
 use semver::Version;
 use std::collections::HashMap;
@@ -17,7 +18,13 @@ pub(super) struct Decoded {
     text: String,
     root: Span,
     target_directory: Span,
+    build_directory: Option<Span>,
+    // By position, in the order of the JSON.
+    pub(super) default_members: Vec<usize>,
+    table: Later<JsonValue>,
     pub(super) packages: Vec<Package>,
+    // Of each package.
+    tables: Vec<Later<JsonValue>>,
     positions: Positions,
     pub(super) ends: Vec<Ends>,
     pub(super) links: Vec<Link>,
@@ -54,6 +61,7 @@ impl Parts<'_> {
             description: self.optional(),
             license: self.optional(),
             repository: self.optional(),
+            details: Later::of(self.field()),
         })
     }
 
@@ -76,6 +84,7 @@ impl Parts<'_> {
             normal: self.section(),
             build: self.section(),
             dev: self.section(),
+            details: Later::of(self.field()),
         }
     }
 
@@ -122,12 +131,24 @@ impl Decoded {
     pub(super) fn of(text: String) -> Result<Self, Error> {
         let mut parts = Parts::at(&text, 0);
         let (root, target_directory) = (parts.field(), parts.field());
+        let build_directory = parts.optional();
+        let default_members = parts.list(|parts| parts.text());
         let packages = parts.packages()?;
         let positions = positions(&packages)?;
         let (ends, links) = parts.links(&positions)?;
+        let table = Later::of(parts.field());
+        let tables = parts.list(|parts| Later::of(parts.field()));
+        let default_members = default_members
+            .into_iter()
+            .map(|id| position(&positions, id));
+        let default_members = default_members.map(|known| known.map(|at| at as usize));
         Ok(Decoded {
             root,
             target_directory,
+            build_directory,
+            default_members: default_members.collect::<Result<_, _>>()?,
+            table,
+            tables,
             firm: links.iter().map(|link| !link.is_dev_only()).collect(),
             packages,
             positions,
@@ -155,6 +176,43 @@ impl Decoded {
     /// The folder for what is built.
     pub(super) fn target_directory(&self) -> &Utf8Path {
         self.part(self.target_directory).into()
+    }
+
+    /// The folder for what is built on the way, where it is another one.
+    pub(super) fn build_directory(&self) -> Option<&Utf8Path> {
+        Some(self.part(self.build_directory?).into())
+    }
+
+    /// The text that has the parts.
+    pub(super) fn text(&self) -> &str {
+        &self.text
+    }
+
+    /// The rest of a package's record.
+    pub(super) fn package_details(&self, position: usize) -> &PackageDetails {
+        let details = &self.packages[position].details;
+        details.get(|part| PackageDetails::of(&self.text, part))
+    }
+
+    /// The rest of a link's record.
+    pub(super) fn link_details<'d>(&'d self, link: &'d Link) -> &'d LinkDetails {
+        link.details.get(|part| LinkDetails::of(&self.text, part))
+    }
+
+    // The table, which the library writes as JSON.
+    fn read_table<'d>(&'d self, table: &'d Later<JsonValue>) -> &'d JsonValue {
+        let read = |part| serde_json::from_str(self.part(part)).expect("a table is JSON");
+        table.get(read)
+    }
+
+    /// The free table of the workspace.
+    pub(super) fn workspace_table(&self) -> &JsonValue {
+        self.read_table(&self.table)
+    }
+
+    /// The free table of a package.
+    pub(super) fn package_table(&self, position: usize) -> &JsonValue {
+        self.read_table(&self.tables[position])
     }
 
     /// The position of the package with the ID.

@@ -1,12 +1,15 @@
 //! The graph of packages, sets of them, and what is asked of both.
 
+mod build_targets;
 mod cycles;
 mod decode;
 mod depends;
+mod details;
 mod dot;
 mod links_at;
 mod package;
 mod package_link;
+mod package_publish;
 mod package_source;
 mod parts;
 mod query;
@@ -14,11 +17,13 @@ mod resolve;
 mod set;
 mod workspace;
 
+pub use build_targets::{BuildTarget, BuildTargetId, BuildTargetKind};
 pub use cycles::Cycles;
 pub use depends::DependsCache;
 pub use dot::{DotWrite, PackageDotVisitor};
 pub use package::PackageMetadata;
 pub use package_link::{DependencyReq, EnabledStatus, PackageLink};
+pub use package_publish::PackagePublish;
 pub use package_source::{ExternalSource, GitReq, PackageSource};
 pub use query::PackageQuery;
 pub use resolve::{PackageLinkContext, PackageLinkVisitor};

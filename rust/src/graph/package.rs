@@ -1,8 +1,10 @@
+use super::details::{Later, PackageDetails};
 use super::parts::Span;
 use super::{
-    DependencyDirection, PackageGraph, PackageLink, PackageQuery, PackageSet, PackageSource,
+    BuildTarget, BuildTargetId, BuildTargetKind, DependencyDirection, PackageGraph, PackageLink,
+    PackagePublish, PackageQuery, PackageSet, PackageSource,
 };
-use crate::{Error, PackageId};
+use crate::{Error, JsonValue, PackageId};
 use camino::Utf8Path;
 use semver::Version;
 use std::fmt;
@@ -19,6 +21,7 @@ pub(super) struct Package {
     pub(super) description: Option<Span>,
     pub(super) license: Option<Span>,
     pub(super) repository: Option<Span>,
+    pub(super) details: Later<PackageDetails>,
 }
 
 impl Package {
@@ -191,6 +194,113 @@ impl<'g> PackageMetadata<'g> {
     /// The edition of Rust that it is written in.
     pub fn edition(&self) -> &'g str {
         self.part(self.package().edition)
+    }
+}
+
+/// The rest of what its manifest says, which is read when it is first asked for.
+impl<'g> PackageMetadata<'g> {
+    fn details(&self) -> &'g PackageDetails {
+        self.graph.decoded.package_details(self.position)
+    }
+
+    fn optional(&self, part: Option<Span>) -> Option<&'g str> {
+        part.map(|part| self.part(part))
+    }
+
+    /// Its authors.
+    pub fn authors(&self) -> &'g [String] {
+        &self.details().authors
+    }
+
+    /// The path of the file with its license, from the folder of its manifest.
+    pub fn license_file(&self) -> Option<&'g Utf8Path> {
+        self.optional(self.details().license_file).map(Into::into)
+    }
+
+    /// Its categories.
+    pub fn categories(&self) -> &'g [String] {
+        &self.details().categories
+    }
+
+    /// Its keywords.
+    pub fn keywords(&self) -> &'g [String] {
+        &self.details().keywords
+    }
+
+    /// The path of its README, from the folder of its manifest.
+    pub fn readme(&self) -> Option<&'g Utf8Path> {
+        self.optional(self.details().readme).map(Into::into)
+    }
+
+    /// The URL of its homepage.
+    pub fn homepage(&self) -> Option<&'g str> {
+        self.optional(self.details().homepage)
+    }
+
+    /// The URL of its documentation.
+    pub fn documentation(&self) -> Option<&'g str> {
+        self.optional(self.details().documentation)
+    }
+
+    /// The free table `package.metadata`.
+    pub fn metadata_table(&self) -> &'g JsonValue {
+        self.graph.decoded.package_table(self.position)
+    }
+
+    /// The native library that it links.
+    pub fn links(&self) -> Option<&'g str> {
+        self.optional(self.details().links)
+    }
+
+    /// To which registries it can be published.
+    pub fn publish(&self) -> PackagePublish<'g> {
+        let registries = self.details().registries.as_deref();
+        registries.map_or(PackagePublish::Unrestricted, PackagePublish::Registries)
+    }
+
+    /// The binary that `cargo run` runs where no other is asked for.
+    pub fn default_run(&self) -> Option<&'g str> {
+        self.optional(self.details().default_run)
+    }
+
+    /// The oldest Rust that builds it.
+    pub fn rust_version(&self) -> Option<&'g Version> {
+        self.details().rust_version.as_ref()
+    }
+
+    /// What Cargo builds of it, by ID.
+    pub fn build_targets(&self) -> impl ExactSizeIterator<Item = BuildTarget<'g>> + use<'g> {
+        let text = self.graph.decoded.text();
+        let targets = self.details().targets.iter();
+        targets.map(move |target| BuildTarget { text, target })
+    }
+
+    /// The one with the ID.
+    pub fn build_target(&self, id: &BuildTargetId<'_>) -> Option<BuildTarget<'g>> {
+        self.build_targets().find(|target| target.id() == *id)
+    }
+
+    /// Whether it is a procedural macro.
+    pub fn is_proc_macro(&self) -> bool {
+        let library = self.build_target(&BuildTargetId::Library);
+        library.is_some_and(|library| library.kind() == BuildTargetKind::ProcMacro)
+    }
+
+    /// Whether it has a build script.
+    pub fn has_build_script(&self) -> bool {
+        self.build_target(&BuildTargetId::BuildScript).is_some()
+    }
+
+    /// Whether it has a feature `default`.
+    pub fn has_default_feature(&self) -> bool {
+        self.named_features().any(|name| name == "default")
+    }
+
+    /// The names of its features, as `[features]` has them.
+    pub fn named_features(&self) -> impl ExactSizeIterator<Item = &'g str> + 'g + use<'g> {
+        let decoded = &self.graph.decoded;
+        let names = self.details().named_features.iter();
+        names.map(|name| decoded.part(*name))
     }
 }
 

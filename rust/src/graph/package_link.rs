@@ -1,7 +1,10 @@
+use super::details::{Features, Later, LinkDetails, SectionDetails};
 use super::parts::Span;
 use super::{PackageGraph, PackageMetadata};
 use crate::platform::{EnabledTernary, PlatformSpec, PlatformStatus, Platforms};
 use crate::DependencyKind;
+use camino::Utf8Path;
+use semver::VersionReq;
 use std::fmt;
 
 /// What is kept of a link, beside its ends.
@@ -12,6 +15,7 @@ pub(super) struct Link {
     pub(super) normal: Section,
     pub(super) build: Section,
     pub(super) dev: Section,
+    pub(super) details: Later<LinkDetails>,
 }
 
 impl Link {
@@ -80,6 +84,27 @@ impl<'g> PackageLink<'g> {
         self.graph.decoded.part(self.link().resolved_name)
     }
 
+    fn details(&self) -> &'g LinkDetails {
+        self.graph.decoded.link_details(self.link())
+    }
+
+    /// Which versions it accepts. Where it is declared several times, these are those of one declaration.
+    pub fn version_req(&self) -> &'g VersionReq {
+        &self.details().version_req
+    }
+
+    /// The URL of the registry that it is looked for in, where it isn't crates.io.
+    pub fn registry(&self) -> Option<&'g str> {
+        let part = self.details().registry;
+        part.map(|part| self.graph.decoded.part(part))
+    }
+
+    /// The path of the dependency, where it is given by one.
+    pub fn path(&self) -> Option<&'g Utf8Path> {
+        let part = self.details().path;
+        part.map(|part| self.graph.decoded.part(part).into())
+    }
+
     /// What it asks for in `[dependencies]`.
     pub fn normal(&self) -> DependencyReq<'g> {
         self.req_for_kind(DependencyKind::Normal)
@@ -97,9 +122,7 @@ impl<'g> PackageLink<'g> {
 
     /// What it asks for in the section.
     pub fn req_for_kind(&self, kind: DependencyKind) -> DependencyReq<'g> {
-        DependencyReq {
-            section: self.link().section(kind),
-        }
+        DependencyReq { link: *self, kind }
     }
 
     /// Whether it stands in no other section than `[dev-dependencies]`, so that only tests, examples and benchmarks need
@@ -122,18 +145,63 @@ impl fmt::Debug for PackageLink<'_> {
 /// What a link's dependencies ask for in one section.
 #[derive(Clone, Copy)]
 pub struct DependencyReq<'g> {
-    section: &'g Section,
+    link: PackageLink<'g>,
+    kind: DependencyKind,
 }
 
 impl<'g> DependencyReq<'g> {
+    fn section(&self) -> &'g Section {
+        self.link.link().section(self.kind)
+    }
+
+    fn details(&self) -> &'g SectionDetails {
+        let details = self.link.details();
+        match self.kind {
+            DependencyKind::Normal => &details.normal,
+            DependencyKind::Development => &details.dev,
+            DependencyKind::Build => &details.build,
+        }
+    }
+
     /// Whether one of them stands in the section, for some platform.
     pub fn is_present(&self) -> bool {
-        !self.section.is_never()
+        !self.section().is_never()
     }
 
     /// Where it is there.
     pub fn status(&self) -> EnabledStatus<'g> {
-        EnabledStatus::of(&self.section.required, &self.section.optional)
+        let section = self.section();
+        EnabledStatus::of(&section.required, &section.optional)
+    }
+
+    // That of the features that the function picks.
+    fn of_features(&self, pick: impl Fn(&'g Features) -> &'g Platforms) -> EnabledStatus<'g> {
+        let details = self.details();
+        EnabledStatus::of(pick(&details.required), pick(&details.optional))
+    }
+
+    /// Where it is there with its default features.
+    pub fn default_features(&self) -> EnabledStatus<'g> {
+        self.of_features(|features| &features.default_features)
+    }
+
+    /// Where it is there without its default features.
+    pub fn no_default_features(&self) -> EnabledStatus<'g> {
+        self.of_features(|features| &features.no_default_features)
+    }
+
+    /// The features that are asked for somewhere: first by what is required, then by what is optional, each time by name.
+    pub fn features(&self) -> impl Iterator<Item = &'g str> + use<'g> {
+        let (text, details) = (self.link.graph.decoded.text(), self.details());
+        let both = [&details.required, &details.optional];
+        let named = both.into_iter().flat_map(|features| &features.named);
+        named.map(move |(name, _)| name.of(text))
+    }
+
+    /// Where the feature is asked for.
+    pub fn feature_status(&self, feature: &str) -> EnabledStatus<'g> {
+        let text = self.link.graph.decoded.text();
+        self.of_features(|features| features.status(text, feature))
     }
 }
 

@@ -10,6 +10,14 @@ pub(super) struct Span {
 }
 
 impl Span {
+    pub(super) fn start(self) -> usize {
+        self.start
+    }
+
+    pub(super) fn end(self) -> usize {
+        self.start + self.len
+    }
+
     pub(super) fn of(self, text: &str) -> &str {
         &text[self.start..][..self.len]
     }
@@ -63,6 +71,23 @@ impl<'t> Parts<'t> {
         self.field().of(self.text)
     }
 
+    /// That part.
+    pub(super) fn part(&self, part: Span) -> &'t str {
+        part.of(self.text)
+    }
+
+    /// What stands up to the place, which is passed.
+    pub(super) fn up_to(&mut self, end: usize) -> &'t str {
+        let start = std::mem::replace(&mut self.place, end);
+        &self.text[start..end]
+    }
+
+    /// A list of what the function reads.
+    pub(super) fn list<T>(&mut self, mut read: impl FnMut(&mut Self) -> T) -> Vec<T> {
+        let count = self.number(b';');
+        (0..count).map(|_| read(self)).collect()
+    }
+
     /// A text, or none.
     pub(super) fn optional(&mut self) -> Option<Span> {
         if self.next() == b'-' {
@@ -79,8 +104,6 @@ impl<'t> Parts<'t> {
             self.take();
             return Platforms::Always;
         }
-        let count = self.number(b';');
-        let specs = (0..count).map(|_| TargetSpec::as_written(self.text()));
-        Platforms::Specs(specs.collect())
+        Platforms::Specs(self.list(|parts| TargetSpec::as_written(parts.text())))
     }
 }

@@ -1,5 +1,5 @@
 use super::{PackageGraph, PackageMetadata};
-use crate::{Error, PackageId};
+use crate::{Error, JsonValue, PackageId};
 use camino::Utf8Path;
 
 /// The members of the workspace, and where it is.
@@ -17,6 +17,28 @@ impl<'g> Workspace<'g> {
     /// The folder for what is built.
     pub fn target_directory(&self) -> &'g Utf8Path {
         self.graph.decoded.target_directory()
+    }
+
+    /// The folder for what is built on the way, where it is another one and Cargo tells it, as from 1.91 on.
+    pub fn build_directory(&self) -> Option<&'g Utf8Path> {
+        self.graph.decoded.build_directory()
+    }
+
+    /// The IDs of the members that Cargo builds where nothing else is asked for, where Cargo tells them, as from 1.71 on.
+    pub fn default_member_ids(&self) -> impl ExactSizeIterator<Item = &'g PackageId> + use<'g> {
+        self.default_members().map(|member| member.id())
+    }
+
+    /// These members.
+    pub fn default_members(&self) -> impl ExactSizeIterator<Item = PackageMetadata<'g>> + use<'g> {
+        let graph = self.graph;
+        let members = graph.decoded.default_members.iter();
+        members.map(move |at| graph.package(*at))
+    }
+
+    /// The free table `workspace.metadata`.
+    pub fn metadata_table(&self) -> &'g JsonValue {
+        self.graph.decoded.workspace_table()
     }
 
     /// How many members there are.

@@ -273,7 +273,7 @@ const JSON: &str = include_str!("../../../examples/metadata.json");
 fn written(json: &str, args: &str, room: usize) -> [(u32, usize, Vec<u8>); 2] {
     let (mut out, mut text) = (vec![b'?'; room], vec![b'?'; room]);
     let answer = answer(json.as_bytes(), args.as_bytes(), &mut out);
-    let told = records(json.as_bytes(), &mut text);
+    let told = records(json.as_bytes(), true, &mut text);
     assert_eq!(BLOCKS.get(), 0, "all memory is given back");
     [
         (answer.status, answer.len, out),
