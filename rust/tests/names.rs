@@ -1,5 +1,11 @@
 //! That types have the traits, signatures and lifetimes on which programs over guppy rely: this compiles or doesn't.
 #![allow(dead_code)]
+// What programs may write is what is tried.
+#![allow(
+    clippy::type_complexity,
+    clippy::needless_borrows_for_generic_args,
+    clippy::nonminimal_bool
+)]
 
 extern crate guppy_proved as guppy;
 
@@ -243,7 +249,8 @@ impl PackageDotVisitor for Name {
 #[test]
 fn ids_are_compared_with_borrowed_ones() {
     let (one, other) = (PackageId::new("a"), PackageId::new("b"));
-    assert!(one == &one && &one == one && one != &other && &one != other);
+    let (lent, other_lent) = (&one, &other);
+    assert!(one == lent && lent == one && one != other_lent && lent != other);
     assert_eq!((one.to_string(), one.repr()), ("a".to_owned(), "a"));
 }
 
