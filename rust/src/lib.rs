@@ -21,8 +21,8 @@
 //! # Ok::<(), guppy_proved::Error>(())
 //! ```
 //!
-//! "Proved" says of a call that its answer is the library's, whose contract is proved of whatever it is passed. README.md
-//! says by which export, what is judged while it runs, and what is only tested.
+//! "Proved" says of a call that its answer is the library's, whose contract is proved of whatever it is passed.
+//! README.md says by which export, what is judged while it runs, and what is only tested.
 #![deny(unsafe_code, missing_docs)]
 
 #[cfg(not(all(

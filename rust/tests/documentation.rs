@@ -33,8 +33,8 @@ fn direct_dependencies_are_listed() {
     );
 }
 
-// Whether packages use one, by themselves and for their tests: the example of `Cycles`. Dependencies come first, so that
-// it is known of them.
+// Whether packages use one, by themselves and for their tests: the example of `Cycles`. Dependencies come first, so
+// that it is known of them.
 #[test]
 fn a_property_is_computed_over_a_graph_with_cycles() {
     let package_graph = graph();

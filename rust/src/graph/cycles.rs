@@ -8,8 +8,8 @@ pub struct Cycles<'g> {
 }
 
 impl<'g> Cycles<'g> {
-    /// Whether walks of at least one link lead from the first package to the second and back. So a package is on a cycle
-    /// with itself where it depends on another one that depends on it, or has a link to itself. Proved.
+    /// Whether walks of at least one link lead from the first package to the second and back. So a package is on a
+    /// cycle with itself where it depends on another one that depends on it, or has a link to itself. Proved.
     ///
     /// # Errors
     ///
@@ -37,8 +37,8 @@ impl<'g> Cycles<'g> {
     }
 
     /// The packages of each cycle, or of cycles with common packages: those of two or more, and those with a link to
-    /// themselves. Dependents come first, among cycles, and inside of one by links that aren't dev-only, where these have
-    /// no cycle. Proved.
+    /// themselves. Dependents come first, among cycles, and inside of one by links that aren't dev-only, where these
+    /// have no cycle. Proved.
     pub fn all_cycles(&self) -> impl DoubleEndedIterator<Item = Vec<&'g PackageId>> + 'g + use<'g> {
         let graph = self.graph;
         let ids = move |cycle: &[u32]| {

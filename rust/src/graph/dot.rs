@@ -26,7 +26,8 @@ impl<'a, 'b> DotWrite<'a, 'b> {
         }
     }
 
-    /// Whether backslashes are marked, as they are at first; without that, `\n`, `\l` and `\r` mean what they do in `dot`.
+    /// Whether backslashes are marked, as they are at first; without that, `\n`, `\l` and `\r` mean what they do in
+    /// `dot`.
     pub fn set_escape_backslashes(&mut self, escape_backslashes: bool) {
         self.is_escaping = escape_backslashes;
     }

@@ -86,8 +86,8 @@ impl PackageGraph {
         command.build_graph()
     }
 
-    /// The graph of what was read. Its packages and links are those that the JSON describes, which is proved. No ordered
-    /// pair of packages may have two links, as in what Cargo prints.
+    /// The graph of what was read. Its packages and links are those that the JSON describes, which is proved. No
+    /// ordered pair of packages may have two links, as in what Cargo prints.
     ///
     /// The graph keeps the JSON for [`affected`](PackageGraph::affected), and the text with its packages and links, in
     /// which their names and paths lie.
@@ -222,8 +222,8 @@ impl PackageGraph {
         Err(Error::Cycle(ids.collect()))
     }
 
-    /// The workspace's members in an order in which they can be published: each after every other member to which a path
-    /// of links that aren't dev-only leads from it, also through packages that are no members. Proved.
+    /// The workspace's members in an order in which they can be published: each after every other member to which a
+    /// path of links that aren't dev-only leads from it, also through packages that are no members. Proved.
     ///
     /// # Errors
     ///
@@ -236,9 +236,10 @@ impl PackageGraph {
     }
 
     /// The members to test when the files at these paths changed, what they depend on first: those whose folder holds
-    /// one of them or lies in one, and those that depend on one of these. A path counts for all members where no package's
-    /// folder holds it, or only that of one at the root, outside of `build.rs`, `src`, `tests`, `examples` and `benches`.
-    /// Paths in an ignored folder count for nothing. Paths and folders are relative to the workspace's root.
+    /// one of them or lies in one, and those that depend on one of these. A path counts for all members where no
+    /// package's folder holds it, or only that of one at the root, outside of `build.rs`, `src`, `tests`, `examples`
+    /// and `benches`. Paths in an ignored folder count for nothing. Paths and folders are relative to the workspace's
+    /// root.
     ///
     /// The JSON is read again. Proved.
     ///

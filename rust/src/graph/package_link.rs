@@ -125,8 +125,8 @@ impl<'g> PackageLink<'g> {
         DependencyReq { link: *self, kind }
     }
 
-    /// Whether it stands in no other section than `[dev-dependencies]`, so that only tests, examples and benchmarks need
-    /// it.
+    /// Whether it stands in no other section than `[dev-dependencies]`, so that only tests, examples and benchmarks
+    /// need it.
     pub fn dev_only(&self) -> bool {
         self.link().is_dev_only()
     }

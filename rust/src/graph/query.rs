@@ -109,9 +109,10 @@ impl<'g> PackageQuery<'g> {
         PackageSet::of(graph, proved::reach(ends, &graph.all, starts, forward))
     }
 
-    /// The packages to which links that the visitor accepts lead from these, and these. It is asked during the walk, once
-    /// about each link that leaves one of the packages that are found, after the package was, and about no other link; its
-    /// answers may change. Certified of each walk, whatever was answered: the proved judge sees it when it has ended.
+    /// The packages to which links that the visitor accepts lead from these, and these. It is asked during the walk,
+    /// once about each link that leaves one of the packages that are found, after the package was, and about no other
+    /// link; its answers may change. Certified of each walk, whatever was answered: the proved judge sees it when it
+    /// has ended.
     ///
     /// # Panics
     ///

@@ -252,7 +252,8 @@ impl<'g> PackageSet<'g> {
     }
 
     /// The packages: Forward dependents first, Reverse that list from its end. Those of one cycle stand together, where
-    /// all of them are in the set, and links that aren't dev-only lead on, where these have no cycle. The order is proved.
+    /// all of them are in the set, and links that aren't dev-only lead on, where these have no cycle. The order is
+    /// proved.
     pub fn packages<'a>(
         &'a self,
         direction: DependencyDirection,
@@ -268,8 +269,8 @@ impl<'g> PackageSet<'g> {
         self.root_packages(direction).map(|package| package.id())
     }
 
-    /// The packages whose cycle, or which alone, no link inside the set enters from outside of it, in the direction: in a
-    /// whole graph Forward those on which no other depends, Reverse those that depend on no other. Proved.
+    /// The packages whose cycle, or which alone, no link inside the set enters from outside of it, in the direction: in
+    /// a whole graph Forward those on which no other depends, Reverse those that depend on no other. Proved.
     pub fn root_packages<'a>(
         &'a self,
         direction: DependencyDirection,
@@ -279,9 +280,9 @@ impl<'g> PackageSet<'g> {
         self.listed(&roots, direction).into_iter()
     }
 
-    /// The links inside the set that a walk over such links comes to from its roots, in the direction: each once, and one
-    /// that leaves no root after a link that leads to the package that it leaves. Where the set holds each cycle that it
-    /// touches, these are all links inside. Proved.
+    /// The links inside the set that a walk over such links comes to from its roots, in the direction: each once, and
+    /// one that leaves no root after a link that leads to the package that it leaves. Where the set holds each cycle
+    /// that it touches, these are all links inside. Proved.
     pub fn links<'a>(
         &'a self,
         direction: DependencyDirection,
