@@ -1,5 +1,6 @@
 use crate::graph::PackageGraph;
-use crate::{proved, Error};
+use crate::proved::{self, Refusal, RefusalKind};
+use crate::Error;
 use serde::de::IgnoredAny;
 use serde::{de, ser};
 use serde_json::value::RawValue;
@@ -19,7 +20,8 @@ impl CargoMetadata {
     /// Reads the JSON, of which it keeps a copy; [`try_from`](CargoMetadata::try_from) keeps a `String` as it is. Cargo
     /// is best asked for `--all-features`. With `--no-deps` there are the workspace's members alone, and no links.
     ///
-    /// What is read are the packages and links that the JSON describes. Proved.
+    /// What is read are the packages, links and workspace that the JSON describes. Proved. Details of packages and links,
+    /// which most programs don't ask for, are read when they are first asked for.
     ///
     /// # Errors
     ///
@@ -54,16 +56,13 @@ impl TryFrom<String> for CargoMetadata {
     type Error = Error;
 
     fn try_from(json: String) -> Result<Self, Error> {
-        match proved::records(&json) {
+        match proved::records(&json, false) {
             Ok(records) => Ok(CargoMetadata { json, records }),
-            Err(why) if why == NOT_RESOLVED => read_light(&json),
+            Err(why) if why.kind == RefusalKind::NotResolved => read_light(&json),
             Err(why) => Err(refused(&json, why)),
         }
     }
 }
-
-// How the library refuses what Cargo prints with `--no-deps`.
-const NOT_RESOLVED: &str = "resolve: no dependencies are resolved";
 
 // Reads metadata in which no dependency is resolved as the same with a list of resolved ones that is empty.
 fn read_light(json: &str) -> Result<CargoMetadata, Error> {
@@ -72,15 +71,17 @@ fn read_light(json: &str) -> Result<CargoMetadata, Error> {
     let none = RawValue::from_string(r#"{"nodes":[],"root":null}"#.to_owned()).map_err(unread)?;
     members.insert("resolve".to_owned(), &none);
     let json = serde_json::to_string(&members).map_err(unread)?;
-    let records = proved::records(&json).map_err(|why| refused(&json, why))?;
+    let records = proved::records(&json, false).map_err(|why| refused(&json, why))?;
     Ok(CargoMetadata { json, records })
 }
 
 // Why the JSON is refused. Where it is none, serde says so, as it does in guppy.
-fn refused(json: &str, why: String) -> Error {
-    if let Err(fault) = serde_json::from_str::<IgnoredAny>(json) {
+fn refused(json: &str, why: Refusal) -> Error {
+    let read = || serde_json::from_str::<IgnoredAny>(json);
+    if let (RefusalKind::NotJson, Err(fault)) = (why.kind, read()) {
         return Error::MetadataParseError(fault);
     }
+    let why = why.text;
     let is_of_graph = [": the ID of no package", ": no declared dependency fits"];
     if is_of_graph.iter().any(|end| why.ends_with(end)) {
         return Error::PackageGraphConstructError(why);

@@ -134,8 +134,26 @@ pub(crate) fn is_resolve(
     judged.holds
 }
 
+/// Why there is no text.
+#[derive(Clone, Debug, PartialEq, Eq)]
+pub(crate) struct Refusal {
+    pub(crate) kind: RefusalKind,
+    pub(crate) text: String,
+}
+
+/// What is wrong with the JSON, where records are asked for; else it is `Other`.
+#[derive(Clone, Copy, Debug, PartialEq, Eq)]
+pub(crate) enum RefusalKind {
+    /// It is no JSON.
+    NotJson,
+    /// Its dependencies aren't resolved.
+    NotResolved,
+    /// Anything else.
+    Other,
+}
+
 // The text that a call writes, or why it refuses, told once more where the first room is too small.
-fn text_of(room: usize, call: impl Fn(&mut [u8]) -> Answer) -> Result<String, String> {
+fn text_of(room: usize, call: impl Fn(&mut [u8]) -> Answer) -> Result<String, Refusal> {
     let mut out = vec![0; room];
     let mut answer = call(&mut out);
     if answer.status == 2 {
@@ -145,10 +163,18 @@ fn text_of(room: usize, call: impl Fn(&mut [u8]) -> Answer) -> Result<String, St
     out.truncate(answer.len);
     out.shrink_to_fit();
     let text = String::from_utf8(out).expect("texts are UTF-8");
+    let refused = |kind| {
+        Err(Refusal {
+            kind,
+            text: text.clone(),
+        })
+    };
     match answer.status {
         0 => Ok(text),
-        1 => Err(text),
+        1 => refused(RefusalKind::Other),
         3 => out_of_memory(room),
+        4 => refused(RefusalKind::NotJson),
+        5 => refused(RefusalKind::NotResolved),
         status => unreachable!("status {status} of a call with room for its text"),
     }
 }
@@ -157,14 +183,18 @@ fn text_of(room: usize, call: impl Fn(&mut [u8]) -> Answer) -> Result<String, St
 /// it refuses. None of the arguments has a NUL.
 pub(crate) fn answer(json: &str, args: &[&str]) -> Result<String, String> {
     let args = args.join("\0");
-    text_of(1 << 12, |out| {
+    let answer = text_of(1 << 12, |out| {
         sys::answer(json.as_bytes(), args.as_bytes(), out)
-    })
+    });
+    answer.map_err(|refusal| refusal.text)
 }
 
-/// The packages, links and workspace that the JSON describes as one text, or the line that says why there are none.
-pub(crate) fn records(json: &str) -> Result<String, String> {
-    text_of(json.len(), |out| sys::records(json.as_bytes(), true, out))
+/// The packages, links and workspace that the JSON describes as one text, with the details of packages and links or
+/// without, or why there are none.
+pub(crate) fn records(json: &str, details: bool) -> Result<String, Refusal> {
+    text_of(json.len(), |out| {
+        sys::records(json.as_bytes(), details, out)
+    })
 }
 
 /// What a text says of a platform.
@@ -220,11 +250,18 @@ mod tests {
 
     #[test]
     fn a_refusal_is_told() {
-        let refused = text_of(4, |out| {
-            out[..2].copy_from_slice(b"no");
-            Answer { status: 1, len: 2 }
-        });
-        assert_eq!(refused, Err("no".to_owned()));
+        for (status, kind) in [
+            (1, RefusalKind::Other),
+            (4, RefusalKind::NotJson),
+            (5, RefusalKind::NotResolved),
+        ] {
+            let refused = text_of(4, |out| {
+                out[..2].copy_from_slice(b"no");
+                Answer { status, len: 2 }
+            });
+            let text = "no".to_owned();
+            assert_eq!(refused, Err(Refusal { kind, text }));
+        }
     }
 
     #[test]

@@ -1,7 +1,7 @@
 //! The packages and links that the proved library read off the JSON, out of the one text that has them. The text is
 //! kept, and texts in it are told by places.
 
-use super::details::{Later, LinkDetails, PackageDetails};
+use super::details::{table_of, Later, LinkDetails};
 use super::package::{Package, Source};
 use super::package_link::{Link, Section};
 use super::parts::{Parts, Span};
@@ -9,22 +9,18 @@ use crate::metadata::unread;
 use crate::proved::{Ends, LinkFault};
 use crate::{Error, JsonValue, PackageId};
 use camino::Utf8Path;
-use semver::Version;
+use semver::{Version, VersionReq};
 use std::collections::HashMap;
 
 /// Packages by position, and links by number.
 #[derive(Clone)]
 pub(super) struct Decoded {
     text: String,
-    root: Span,
-    target_directory: Span,
-    build_directory: Option<Span>,
+    workspace: Workspace,
     // By position, in the order of the JSON.
     pub(super) default_members: Vec<usize>,
     table: Later<JsonValue>,
     pub(super) packages: Vec<Package>,
-    // Of each package.
-    tables: Vec<Later<JsonValue>>,
     positions: Positions,
     pub(super) ends: Vec<Ends>,
     pub(super) links: Vec<Link>,
@@ -32,10 +28,30 @@ pub(super) struct Decoded {
     pub(super) firm: Vec<bool>,
 }
 
+/// What is kept of the workspace, but for its table.
+#[derive(Clone)]
+pub(super) struct Workspace {
+    root: Span,
+    target_directory: Span,
+    build_directory: Option<Span>,
+    // The IDs.
+    default_members: Vec<Span>,
+}
+
 // The positions of packages by their IDs.
 type Positions = HashMap<String, u32>;
 
 impl Parts<'_> {
+    /// The workspace, but for its table.
+    pub(super) fn workspace(&mut self) -> Workspace {
+        Workspace {
+            root: self.field(),
+            target_directory: self.field(),
+            build_directory: self.optional(),
+            default_members: self.list(Self::field),
+        }
+    }
+
     fn source(&mut self) -> Source {
         match self.take() {
             b'w' => Source::Workspace(self.field()),
@@ -65,7 +81,8 @@ impl Parts<'_> {
         })
     }
 
-    fn packages(&mut self) -> Result<Vec<Package>, Error> {
+    /// The list of packages.
+    pub(super) fn packages(&mut self) -> Result<Vec<Package>, Error> {
         let count = self.number(b';');
         (0..count).map(|_| self.package()).collect()
     }
@@ -86,6 +103,12 @@ impl Parts<'_> {
             dev: self.section(),
             details: Later::of(self.field()),
         }
+    }
+
+    /// A link whose ends are passed over.
+    pub(super) fn link_without_ends(&mut self) -> Link {
+        let _ends = (self.field(), self.field());
+        self.link()
     }
 
     // The links with their ends. Those that leave one package stand together, so its position is looked up once.
@@ -130,25 +153,17 @@ impl Decoded {
     /// What the text has.
     pub(super) fn of(text: String) -> Result<Self, Error> {
         let mut parts = Parts::at(&text, 0);
-        let (root, target_directory) = (parts.field(), parts.field());
-        let build_directory = parts.optional();
-        let default_members = parts.list(|parts| parts.text());
+        let workspace = parts.workspace();
         let packages = parts.packages()?;
         let positions = positions(&packages)?;
         let (ends, links) = parts.links(&positions)?;
         let table = Later::of(parts.field());
-        let tables = parts.list(|parts| Later::of(parts.field()));
-        let default_members = default_members
-            .into_iter()
-            .map(|id| position(&positions, id));
-        let default_members = default_members.map(|known| known.map(|at| at as usize));
+        let defaults = workspace.default_members.iter();
+        let defaults = defaults.map(|id| Ok(position(&positions, id.of(&text))? as usize));
         Ok(Decoded {
-            root,
-            target_directory,
-            build_directory,
-            default_members: default_members.collect::<Result<_, _>>()?,
+            default_members: defaults.collect::<Result<_, Error>>()?,
+            workspace,
             table,
-            tables,
             firm: links.iter().map(|link| !link.is_dev_only()).collect(),
             packages,
             positions,
@@ -170,49 +185,30 @@ impl Decoded {
 
     /// The folder of the workspace.
     pub(super) fn root(&self) -> &Utf8Path {
-        self.part(self.root).into()
+        self.part(self.workspace.root).into()
     }
 
     /// The folder for what is built.
     pub(super) fn target_directory(&self) -> &Utf8Path {
-        self.part(self.target_directory).into()
+        self.part(self.workspace.target_directory).into()
     }
 
     /// The folder for what is built on the way, where it is another one.
     pub(super) fn build_directory(&self) -> Option<&Utf8Path> {
-        Some(self.part(self.build_directory?).into())
+        Some(self.part(self.workspace.build_directory?).into())
     }
 
-    /// The text that has the parts.
-    pub(super) fn text(&self) -> &str {
-        &self.text
-    }
-
-    /// The rest of a package's record.
-    pub(super) fn package_details(&self, position: usize) -> &PackageDetails {
-        let details = &self.packages[position].details;
-        details.get(|part| PackageDetails::of(&self.text, part))
-    }
-
-    /// The rest of a link's record.
-    pub(super) fn link_details<'d>(&'d self, link: &'d Link) -> &'d LinkDetails {
-        link.details.get(|part| LinkDetails::of(&self.text, part))
-    }
-
-    // The table, which the library writes as JSON.
-    fn read_table<'d>(&'d self, table: &'d Later<JsonValue>) -> &'d JsonValue {
-        let read = |part| serde_json::from_str(self.part(part)).expect("a table is JSON");
-        table.get(read)
+    /// Which versions the link with the number accepts: of its details it is told first.
+    pub(super) fn version_req(&self, number: usize) -> &VersionReq {
+        let details = &self.links[number].details;
+        &details
+            .get(|part| LinkDetails::of(&self.text, part))
+            .version_req
     }
 
     /// The free table of the workspace.
     pub(super) fn workspace_table(&self) -> &JsonValue {
-        self.read_table(&self.table)
-    }
-
-    /// The free table of a package.
-    pub(super) fn package_table(&self, position: usize) -> &JsonValue {
-        self.read_table(&self.tables[position])
+        self.table.get(|part| table_of(&self.text, part))
     }
 
     /// The position of the package with the ID.

@@ -2,6 +2,7 @@
 
 use super::parts::{Parts, Span};
 use crate::platform::Platforms;
+use crate::{proved, JsonValue};
 use semver::{Version, VersionReq};
 use std::sync::OnceLock;
 
@@ -24,6 +25,72 @@ impl<T> Later<T> {
     pub(super) fn get(&self, read: impl FnOnce(Span) -> T) -> &T {
         self.read.get_or_init(|| Box::new(read(self.part)))
     }
+}
+
+/// A text with details, and where those of packages, by position, and of links, by number, stand in it.
+#[derive(Clone)]
+pub(super) struct Details {
+    text: String,
+    packages: Vec<Later<PackageDetails>>,
+    links: Vec<Later<LinkDetails>>,
+    // The free tables of packages.
+    tables: Vec<Later<JsonValue>>,
+}
+
+impl Details {
+    /// Those that the JSON has.
+    ///
+    /// # Panics
+    ///
+    /// Where the library refuses them. It did not refuse the rest.
+    pub(super) fn of(json: &str) -> Self {
+        let text = proved::records(json, true).unwrap_or_else(|refusal| {
+            panic!(
+                "these are no details as Cargo prints them: {}",
+                refusal.text
+            )
+        });
+        let mut parts = Parts::at(&text, 0);
+        parts.workspace();
+        let packages = parts.packages().expect("the same as without details");
+        let links = parts.list(Parts::link_without_ends);
+        let _table_of_workspace = parts.field();
+        let tables = parts.list(|parts| Later::of(parts.field()));
+        Details {
+            packages: packages
+                .into_iter()
+                .map(|package| package.details)
+                .collect(),
+            links: links.into_iter().map(|link| link.details).collect(),
+            tables,
+            text,
+        }
+    }
+
+    /// The text.
+    pub(super) fn text(&self) -> &str {
+        &self.text
+    }
+
+    /// The rest of a package's record.
+    pub(super) fn package(&self, position: usize) -> &PackageDetails {
+        self.packages[position].get(|part| PackageDetails::of(&self.text, part))
+    }
+
+    /// The rest of a link's record.
+    pub(super) fn link(&self, number: usize) -> &LinkDetails {
+        self.links[number].get(|part| LinkDetails::of(&self.text, part))
+    }
+
+    /// The free table of a package.
+    pub(super) fn table(&self, position: usize) -> &JsonValue {
+        self.tables[position].get(|part| table_of(&self.text, part))
+    }
+}
+
+/// The table of that part of the text, which the library writes as JSON.
+pub(super) fn table_of(text: &str, part: Span) -> JsonValue {
+    serde_json::from_str(part.of(text)).expect("a table is JSON")
 }
 
 /// The rest of a package's record.

@@ -33,8 +33,10 @@ pub use workspace::Workspace;
 use crate::proved::{self, Components};
 use crate::{CargoMetadata, Error, MetadataCommand, PackageId};
 use decode::Decoded;
+use details::Details;
 use links_at::LinksAt;
 use std::fmt;
+use std::sync::OnceLock;
 
 /// The direction of a walk.
 #[derive(Clone, Copy, Debug, PartialEq, Eq, Hash)]
@@ -73,6 +75,8 @@ pub struct PackageGraph {
     // The positions of the workspace's members, by path and by name.
     members_by_path: Vec<usize>,
     members_by_name: Vec<usize>,
+    // Read when they are first asked for.
+    details: OnceLock<Details>,
 }
 
 /// Making a graph.
@@ -114,6 +118,7 @@ impl PackageGraph {
             entering: LinksAt::of(count, ends, |link| link.to),
             members_by_path,
             members_by_name,
+            details: OnceLock::new(),
             decoded,
         })
     }
@@ -158,6 +163,10 @@ impl PackageGraph {
         let mut numbers = self.leaving.at(from).iter();
         let number = numbers.find(|number| self.decoded.ends[**number].to as usize == to)?;
         Some(self.link(*number))
+    }
+
+    fn details(&self) -> &Details {
+        self.details.get_or_init(|| Details::of(&self.json))
     }
 
     fn position(&self, id: &PackageId) -> Result<usize, Error> {

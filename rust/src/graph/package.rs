@@ -197,14 +197,17 @@ impl<'g> PackageMetadata<'g> {
     }
 }
 
-/// The rest of what its manifest says, which is read when it is first asked for.
+/// The rest of what its manifest says, which is what the JSON says, too: that is proved. The first of these calls on any
+/// package or link of a graph reads the JSON once more, and keeps what it has of details.
+///
+/// They panic where the details are not such as Cargo prints, of any package or link of the JSON.
 impl<'g> PackageMetadata<'g> {
     fn details(&self) -> &'g PackageDetails {
-        self.graph.decoded.package_details(self.position)
+        self.graph.details().package(self.position)
     }
 
     fn optional(&self, part: Option<Span>) -> Option<&'g str> {
-        part.map(|part| self.part(part))
+        part.map(|part| part.of(self.graph.details().text()))
     }
 
     /// Its authors.
@@ -244,7 +247,7 @@ impl<'g> PackageMetadata<'g> {
 
     /// The free table `package.metadata`.
     pub fn metadata_table(&self) -> &'g JsonValue {
-        self.graph.decoded.package_table(self.position)
+        self.graph.details().table(self.position)
     }
 
     /// The native library that it links.
@@ -270,7 +273,7 @@ impl<'g> PackageMetadata<'g> {
 
     /// What Cargo builds of it, by ID.
     pub fn build_targets(&self) -> impl ExactSizeIterator<Item = BuildTarget<'g>> + use<'g> {
-        let text = self.graph.decoded.text();
+        let text = self.graph.details().text();
         let targets = self.details().targets.iter();
         targets.map(move |target| BuildTarget { text, target })
     }
@@ -298,9 +301,9 @@ impl<'g> PackageMetadata<'g> {
 
     /// The names of its features, as `[features]` has them.
     pub fn named_features(&self) -> impl ExactSizeIterator<Item = &'g str> + 'g + use<'g> {
-        let decoded = &self.graph.decoded;
+        let text = self.graph.details().text();
         let names = self.details().named_features.iter();
-        names.map(|name| decoded.part(*name))
+        names.map(move |name| name.of(text))
     }
 }
 

@@ -85,24 +85,24 @@ impl<'g> PackageLink<'g> {
     }
 
     fn details(&self) -> &'g LinkDetails {
-        self.graph.decoded.link_details(self.link())
+        self.graph.details().link(self.number)
     }
 
     /// Which versions it accepts. Where it is declared several times, these are those of one declaration.
     pub fn version_req(&self) -> &'g VersionReq {
-        &self.details().version_req
+        self.graph.decoded.version_req(self.number)
     }
 
     /// The URL of the registry that it is looked for in, where it isn't crates.io.
     pub fn registry(&self) -> Option<&'g str> {
         let part = self.details().registry;
-        part.map(|part| self.graph.decoded.part(part))
+        part.map(|part| part.of(self.graph.details().text()))
     }
 
     /// The path of the dependency, where it is given by one.
     pub fn path(&self) -> Option<&'g Utf8Path> {
         let part = self.details().path;
-        part.map(|part| self.graph.decoded.part(part).into())
+        part.map(|part| part.of(self.graph.details().text()).into())
     }
 
     /// What it asks for in `[dependencies]`.
@@ -192,7 +192,7 @@ impl<'g> DependencyReq<'g> {
 
     /// The features that are asked for somewhere: first by what is required, then by what is optional, each time by name.
     pub fn features(&self) -> impl Iterator<Item = &'g str> + use<'g> {
-        let (text, details) = (self.link.graph.decoded.text(), self.details());
+        let (text, details) = (self.link.graph.details().text(), self.details());
         let both = [&details.required, &details.optional];
         let named = both.into_iter().flat_map(|features| &features.named);
         named.map(move |(name, _)| name.of(text))
@@ -200,7 +200,7 @@ impl<'g> DependencyReq<'g> {
 
     /// Where the feature is asked for.
     pub fn feature_status(&self, feature: &str) -> EnabledStatus<'g> {
-        let text = self.link.graph.decoded.text();
+        let text = self.link.graph.details().text();
         self.of_features(|features| features.status(text, feature))
     }
 }
