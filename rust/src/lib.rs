@@ -34,7 +34,7 @@ pub fn answer<'w>(
     if words.iter().any(|word| word.contains('\0')) {
         return Err(Error::Refused("a word has a NUL".to_owned()));
     }
-    sys::answer(json.as_ref(), &words).map_err(Error::Refused)
+    sys::answer(json.as_ref(), &words).map_err(|refusal| Error::Refused(refusal.text))
 }
 
 /// The ID that Cargo gives a package.

@@ -226,31 +226,50 @@ fn room_of(bytes: usize) -> Vec<u8> {
     out
 }
 
+/// Why there is no text.
+#[derive(Clone, Debug, PartialEq, Eq)]
+pub(crate) struct Refusal {
+    pub(crate) kind: RefusalKind,
+    pub(crate) text: String,
+}
+
+/// What kind of a fault the JSON has, where records are asked for; else `Other`.
+#[derive(Clone, Copy, Debug, PartialEq, Eq)]
+pub(crate) enum RefusalKind {
+    /// It is no JSON.
+    NoJson,
+    /// It says of no dependencies what they are resolved to.
+    NotResolved,
+    /// Any other.
+    Other,
+}
+
 // The text that a call writes, or why it refuses, told once more where the first room is too small.
-fn text_of(room: usize, call: impl Fn(&mut [u8]) -> Answer) -> Result<String, String> {
+fn text_of(room: usize, call: impl Fn(&mut [u8]) -> Answer) -> Result<String, Refusal> {
     let mut out = room_of(room);
-    loop {
+    let (status, len) = loop {
         let answer = call(&mut out);
         match answer.status {
-            0 | 1 => {
-                out.truncate(answer.len);
-                out.shrink_to_fit();
-                let text = String::from_utf8(out).expect("texts are UTF-8");
-                return if answer.status == 0 {
-                    Ok(text)
-                } else {
-                    Err(text)
-                };
-            }
             2 => out = room_of(answer.len),
-            _ => out_of_memory(room),
+            3 => out_of_memory(room),
+            status => break (status, answer.len),
         }
-    }
+    };
+    out.truncate(len);
+    out.shrink_to_fit();
+    let text = String::from_utf8(out).expect("texts are UTF-8");
+    let kind = match status {
+        0 => return Ok(text),
+        4 => RefusalKind::NoJson,
+        5 => RefusalKind::NotResolved,
+        _ => RefusalKind::Other,
+    };
+    Err(Refusal { kind, text })
 }
 
 /// What `guppy-cargo` prints for these arguments of the workspace that the JSON describes, or the line that says why
 /// it refuses. None of the arguments has a NUL.
-pub(crate) fn answer(json: &str, args: &[&str]) -> Result<String, String> {
+pub(crate) fn answer(json: &str, args: &[&str]) -> Result<String, Refusal> {
     expect_own_interface();
     let args = args.join("\0");
     let _region = region::for_text(json.len());
@@ -267,13 +286,20 @@ pub(crate) fn answer(json: &str, args: &[&str]) -> Result<String, String> {
     })
 }
 
-/// The packages, links and workspace that the JSON describes as one text, or the line that says why there are none.
-pub(crate) fn records(json: &str) -> Result<String, String> {
+/// The packages, links and workspace that the JSON describes as one text, with details or without, or why there are
+/// none.
+pub(crate) fn records(json: &str, details: bool) -> Result<String, Refusal> {
     expect_own_interface();
     let _region = region::for_text(json.len());
     // SAFETY: as above, and no slice overlaps `out`.
     text_of(json.len(), |out| unsafe {
-        guppy_records(json.as_ptr(), json.len(), out.as_mut_ptr(), out.len())
+        guppy_records(
+            json.as_ptr(),
+            json.len(),
+            details,
+            out.as_mut_ptr(),
+            out.len(),
+        )
     })
 }
 
@@ -856,6 +882,8 @@ mod tests {
 
     const JSON: &str = include_str!("../../examples/metadata.json");
 
+    const NO_PACKAGES: &str = r#"{"resolve": {"nodes": []}}"#;
+
     // Both calls that write a text with so much room: status, length, and what was written.
     fn written(json: &str, args: &str, room: usize) -> [(u32, usize, Vec<u8>); 2] {
         let (p, n) = (json.as_ptr(), json.len());
@@ -864,7 +892,7 @@ mod tests {
         // SAFETY: as above.
         let answer = unsafe { guppy_answer(p, n, args.as_ptr(), args.len(), o, room) };
         // SAFETY: as above.
-        let told = unsafe { guppy_records(p, n, r, room) };
+        let told = unsafe { guppy_records(p, n, true, r, room) };
         assert_eq!(BLOCKS.get(), 0, "all memory is given back");
         [
             (answer.status, answer.len, out),
@@ -879,8 +907,10 @@ mod tests {
             (JSON, "affected\0--ids", [0, 0]),
             (JSON, "reach\0forward\0nobody", [1, 0]),
             (JSON, "", [1, 0]),
-            ("[", "order", [1, 1]),
-            ("", "order", [1, 1]),
+            ("[", "order", [1, 4]),
+            ("", "order", [1, 4]),
+            ("{}", "order", [1, 5]),
+            (NO_PACKAGES, "order", [1, 1]),
         ] {
             let none = written(json, args, 0);
             for (call, status) in statuses.into_iter().enumerate() {
@@ -909,9 +939,9 @@ mod tests {
         let text = text_of(0, |out| {
             calls.set(calls.get() + 1);
             // SAFETY: as above.
-            unsafe { guppy_records(p, n, out.as_mut_ptr(), out.len()) }
+            unsafe { guppy_records(p, n, true, out.as_mut_ptr(), out.len()) }
         });
-        assert_eq!((calls.get(), text), (2, records(JSON)));
+        assert_eq!((calls.get(), text), (2, records(JSON, true)));
     }
 
     #[test]
@@ -981,10 +1011,18 @@ mod tests {
     #[test]
     fn a_region_makes_no_difference_to_a_text() {
         assert!(region::for_text(region::LARGE_TEXT - 1).is_none());
-        let without = (records(JSON), answer(JSON, &["order"]), answer("[", &[]));
+        let without = (
+            records(JSON, true),
+            answer(JSON, &["order"]),
+            answer("[", &[]),
+        );
         let region = region::for_text(region::LARGE_TEXT);
         assert!(region.is_some() && region::for_text(region::LARGE_TEXT).is_none());
-        let within = (records(JSON), answer(JSON, &["order"]), answer("[", &[]));
+        let within = (
+            records(JSON, true),
+            answer(JSON, &["order"]),
+            answer("[", &[]),
+        );
         assert_eq!(within, without);
         drop(region);
         assert!(region::take(16).is_none());

@@ -2,27 +2,25 @@
 //! kept, and what stands in it is told by places.
 
 use super::package::{Link, Package, Section, Source, Status};
+use super::parts::{Parts, Span};
 use crate::sys::{self, Ends, LinkFault};
 use crate::{Error, PackageId};
 use std::collections::HashMap;
 
-/// A part of the text: where it begins, and how many bytes it has.
-#[derive(Clone, Copy)]
-pub(super) struct Span {
-    start: usize,
-    len: usize,
-}
-
-impl Span {
-    fn of(self, text: &str) -> &str {
-        &text[self.start..][..self.len]
-    }
+/// What is kept of the workspace.
+pub(super) struct Workspace {
+    pub(super) root: Span,
+    pub(super) target_directory: Span,
+    pub(super) build_directory: Option<Span>,
+    pub(super) default_members: Vec<Span>,
+    // The free table, as JSON.
+    pub(super) table: Span,
 }
 
 /// Packages by position, and links by number.
 pub(super) struct Decoded {
     text: String,
-    root: Span,
+    pub(super) workspace: Workspace,
     pub(super) packages: Vec<Package>,
     positions: Positions,
     pub(super) ends: Vec<Ends>,
@@ -31,111 +29,58 @@ pub(super) struct Decoded {
     pub(super) firm: Vec<bool>,
     specs: Vec<Vec<String>>,
     pub(super) members: Vec<usize>,
+    // The free table of each package, as JSON.
+    pub(super) tables: Vec<Span>,
 }
 
 // The positions of packages by their IDs.
 type Positions = HashMap<String, u32>;
 
-// Reads a text in which each part tells how long it is, from its front. The library is proved to write it so.
-struct Parts<'t> {
-    text: &'t str,
-    place: usize,
-    // The platforms of each status that has some, as they come.
+// Reads packages and links, and keeps the platforms of each status that has some, as they come.
+struct Reader<'t> {
+    parts: Parts<'t>,
     specs: Vec<Vec<String>>,
 }
 
-impl<'t> Parts<'t> {
-    fn of(text: &'t str) -> Self {
-        Parts {
-            text,
-            place: 0,
-            specs: Vec::new(),
-        }
-    }
-
-    fn next(&self) -> u8 {
-        self.text.as_bytes()[self.place]
-    }
-
-    fn take(&mut self) -> u8 {
-        let byte = self.next();
-        self.place += 1;
-        byte
-    }
-
-    // The number in front of the mark.
-    fn number(&mut self, mark: u8) -> usize {
-        let mut number = 0;
-        loop {
-            match self.take() {
-                digit @ b'0'..=b'9' => number = 10 * number + usize::from(digit - b'0'),
-                byte => {
-                    assert_eq!(byte, mark, "a mark behind each number");
-                    return number;
-                }
-            }
-        }
-    }
-
-    fn field(&mut self) -> Span {
-        let len = self.number(b':');
-        let start = self.place;
-        self.place += len;
-        Span { start, len }
-    }
-
-    fn text(&mut self) -> &'t str {
-        self.field().of(self.text)
-    }
-
-    fn optional(&mut self) -> Option<Span> {
-        if self.next() == b'-' {
-            self.take();
-            None
-        } else {
-            Some(self.field())
-        }
-    }
-
+impl<'t> Reader<'t> {
     fn source(&mut self) -> Source {
-        match self.take() {
-            b'w' => Source::Workspace(self.field()),
-            b'p' => Source::Path(self.field()),
-            _ => Source::External(self.field()),
+        match self.parts.take() {
+            b'w' => Source::Workspace(self.parts.field()),
+            b'p' => Source::Path(self.parts.field()),
+            _ => Source::External(self.parts.field()),
         }
     }
 
     fn package(&mut self) -> Package {
         Package {
-            id: PackageId::new(self.text()),
-            name: self.field(),
-            version: self.field(),
+            id: PackageId::new(self.parts.text()),
+            name: self.parts.field(),
+            version: self.parts.field(),
             source: self.source(),
-            manifest_path: self.field(),
-            edition: self.field(),
-            description: self.optional(),
-            license: self.optional(),
-            repository: self.optional(),
+            manifest_path: self.parts.field(),
+            edition: self.parts.field(),
+            description: self.parts.optional(Parts::field),
+            license: self.parts.optional(Parts::field),
+            repository: self.parts.optional(Parts::field),
+            details: self.parts.field(),
         }
     }
 
     fn packages(&mut self) -> Vec<Package> {
-        let count = self.number(b';');
+        let count = self.parts.count();
         (0..count).map(|_| self.package()).collect()
     }
 
     fn status(&mut self) -> Status {
-        if self.next() == b'*' {
-            self.take();
-            return Status::Always;
+        match self.parts.all_or_listed() {
+            None => Status::Always,
+            Some(specs) if specs.is_empty() => Status::Never,
+            Some(specs) => {
+                self.specs
+                    .push(specs.into_iter().map(str::to_owned).collect());
+                Status::Specs(self.specs.len() - 1)
+            }
         }
-        let count = self.number(b';');
-        if count == 0 {
-            return Status::Never;
-        }
-        let specs = (0..count).map(|_| self.text().to_owned()).collect();
-        self.specs.push(specs);
-        Status::Specs(self.specs.len() - 1)
     }
 
     fn section(&mut self) -> Section {
@@ -147,27 +92,28 @@ impl<'t> Parts<'t> {
 
     fn link(&mut self) -> Link {
         Link {
-            dep_name: self.field(),
-            resolved_name: self.field(),
+            dep_name: self.parts.field(),
+            resolved_name: self.parts.field(),
             normal: self.section(),
             build: self.section(),
             dev: self.section(),
+            details: self.parts.field(),
         }
     }
 
     // The links with their ends. Those that leave one package stand together, so its position is looked up once.
     fn links(&mut self, positions: &Positions) -> Result<(Vec<Ends>, Vec<Link>), Error> {
-        let count = self.number(b';');
+        let count = self.parts.count();
         let (mut ends, mut links) = (Vec::with_capacity(count), Vec::with_capacity(count));
         let mut last = None;
         for _ in 0..count {
-            let id = self.text();
+            let id = self.parts.text();
             let from = match last {
                 Some((last, from)) if last == id => from,
                 _ => position(positions, id)?,
             };
             last = Some((id, from));
-            let to = position(positions, self.text())?;
+            let to = position(positions, self.parts.text())?;
             ends.push(Ends { from, to });
             links.push(self.link());
         }
@@ -199,23 +145,36 @@ fn positions(packages: &[Package]) -> Result<Positions, Error> {
 impl Decoded {
     /// What the JSON says.
     pub(super) fn of(json: &str) -> Result<Self, Error> {
-        let text = sys::records(json).map_err(Error::Metadata)?;
-        let mut parts = Parts::of(&text);
-        let root = parts.field();
-        let _target_directory = parts.field();
-        let packages = parts.packages();
+        let text = sys::records(json, true).map_err(|refusal| Error::Metadata(refusal.text))?;
+        let mut reader = Reader {
+            parts: Parts::of(&text),
+            specs: Vec::new(),
+        };
+        let (root, target_directory) = (reader.parts.field(), reader.parts.field());
+        let build_directory = reader.parts.optional(Parts::field);
+        let default_members = reader.parts.list(Parts::field);
+        let packages = reader.packages();
         let positions = positions(&packages)?;
-        let (ends, links) = parts.links(&positions)?;
+        let (ends, links) = reader.links(&positions)?;
+        let (table, tables) = (reader.parts.field(), reader.parts.list(Parts::field));
+        assert!(reader.parts.is_at_end(), "the text ends with the tables");
         let members = (0..packages.len()).filter(|it| packages[*it].is_member());
         Ok(Decoded {
-            root,
+            workspace: Workspace {
+                root,
+                target_directory,
+                build_directory,
+                default_members,
+                table,
+            },
             members: members.collect(),
             firm: links.iter().map(|link| !link.is_dev_only()).collect(),
-            specs: parts.specs,
+            specs: reader.specs,
             packages,
             positions,
             ends,
             links,
+            tables,
             text,
         })
     }
@@ -232,7 +191,7 @@ impl Decoded {
 
     /// The folder of the workspace.
     pub(super) fn root(&self) -> &str {
-        self.part(self.root)
+        self.part(self.workspace.root)
     }
 
     /// The position of the package with the ID.

@@ -1,11 +1,17 @@
 //! The graph of packages, sets of them, and what is asked of both.
 
 mod decode;
+mod details;
 mod links_at;
 mod package;
+mod parts;
 mod query;
 mod set;
 
+pub use details::{
+    BuildTarget, BuildTargetId, BuildTargetKind, FeatureStatus, LinkDetails, NamedFeatureDep,
+    PackageDetails, PackagePublish, SectionDetails, Statuses,
+};
 pub use package::{
     DependencyKind, DependencyReq, EnabledStatus, PackageLink, PackageMetadata, PackageSource,
     PlatformStatus,
@@ -336,6 +342,34 @@ impl<'g> Workspace<'g> {
     /// The folder of the workspace.
     pub fn root(&self) -> &'g str {
         self.graph.decoded.root()
+    }
+
+    /// The folder that Cargo builds into.
+    pub fn target_directory(&self) -> &'g str {
+        let decoded = &self.graph.decoded;
+        decoded.part(decoded.workspace.target_directory)
+    }
+
+    /// The folder of what Cargo makes on its way, where the JSON tells one.
+    pub fn build_directory(&self) -> Option<&'g str> {
+        let decoded = &self.graph.decoded;
+        decoded
+            .workspace
+            .build_directory
+            .map(|span| decoded.part(span))
+    }
+
+    /// The IDs of the packages that Cargo's commands act on where none is named.
+    pub fn default_member_ids(&self) -> impl ExactSizeIterator<Item = &'g str> {
+        let decoded = &self.graph.decoded;
+        let members = &decoded.workspace.default_members;
+        members.iter().map(|span| decoded.part(*span))
+    }
+
+    /// The free table `workspace.metadata`, as JSON.
+    pub fn metadata_table(&self) -> &'g str {
+        let decoded = &self.graph.decoded;
+        decoded.part(decoded.workspace.table)
     }
 
     /// How many members there are.

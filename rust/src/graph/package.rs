@@ -1,4 +1,4 @@
-use super::decode::Span;
+use super::parts::Span;
 use super::{DependencyDirection, PackageGraph};
 use crate::PackageId;
 use std::fmt;
@@ -14,6 +14,7 @@ pub(super) struct Package {
     pub(super) description: Option<Span>,
     pub(super) license: Option<Span>,
     pub(super) repository: Option<Span>,
+    pub(super) details: Span,
 }
 
 impl Package {
@@ -37,6 +38,7 @@ pub(super) struct Link {
     pub(super) normal: Section,
     pub(super) build: Section,
     pub(super) dev: Section,
+    pub(super) details: Span,
 }
 
 impl Link {
