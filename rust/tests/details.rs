@@ -23,7 +23,7 @@ fn a_package_has_all_that_its_manifest_says() {
     assert_eq!(app.description(), Some("An app."));
     assert_eq!(app.license(), Some("MIT"));
     assert_eq!(app.repository(), Some("https://example.org/r"));
-    let details = app.details();
+    let details = app.details().expect("details");
     assert_eq!(details.authors, ["Ann <a@example.org>", "Bo"]);
     assert_eq!(details.license_file, Some("LICENSE.txt"));
     assert_eq!(details.categories, ["c1"]);
@@ -51,7 +51,7 @@ fn a_package_has_all_that_its_manifest_says() {
 fn a_package_of_which_nothing_is_said_has_no_details() {
     let graph = graph();
     let dep = graph.metadata(&PackageId::new("dep 1.2.5")).expect("dep");
-    let details = dep.details();
+    let details = dep.details().expect("details");
     assert!(details.authors.is_empty() && details.categories.is_empty());
     assert!(details.keywords.is_empty() && details.optional_deps.is_empty());
     for text in [
@@ -80,7 +80,7 @@ fn a_named_feature_has_what_it_switches_on() {
         weak,
     };
     assert_eq!(
-        app.details().named_features,
+        app.details().expect("details").named_features,
         [
             ("default", vec![NamedFeatureDep::NamedFeature("std")]),
             ("std", vec![of_dep("std", false), of_dep("a", true)]),
@@ -93,7 +93,7 @@ fn a_named_feature_has_what_it_switches_on() {
 fn a_build_target_has_all_that_is_said_of_it() {
     let graph = graph();
     let app = graph.metadata(&PackageId::new("app 0.1.0")).expect("app");
-    let targets = app.details().build_targets;
+    let targets = app.details().expect("details").build_targets;
     let ids: Vec<_> = targets.iter().map(|target| target.id).collect();
     let expected = [
         BuildTargetId::Library,
@@ -134,7 +134,7 @@ fn a_build_target_has_all_that_is_said_of_it() {
     );
     let dep = graph.metadata(&PackageId::new("dep 1.2.5")).expect("dep");
     assert_eq!(
-        dep.details().build_targets[0].kind,
+        dep.details().expect("details").build_targets[0].kind,
         BuildTargetKind::ProcMacro
     );
 }
@@ -147,7 +147,7 @@ fn a_link_has_all_that_its_dependencies_ask_for() {
         .links(DependencyDirection::Forward)
         .next()
         .expect("a link");
-    let details = link.details();
+    let details = link.details().expect("details");
     assert_eq!(details.registry, Some("https://example.org/index"));
     assert_eq!(details.path, Some("/w/dep"));
     assert_eq!(details.version_req, ">=1.2, <2");

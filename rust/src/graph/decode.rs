@@ -29,8 +29,6 @@ pub(super) struct Decoded {
     pub(super) firm: Vec<bool>,
     specs: Vec<Vec<String>>,
     pub(super) members: Vec<usize>,
-    // The free table of each package, as JSON.
-    pub(super) tables: Vec<Span>,
 }
 
 // The positions of packages by their IDs.
@@ -43,6 +41,24 @@ struct Reader<'t> {
 }
 
 impl<'t> Reader<'t> {
+    fn of(text: &'t str) -> Self {
+        Reader {
+            parts: Parts::of(text),
+            specs: Vec::new(),
+        }
+    }
+
+    // The workspace, whose table stands at another place.
+    fn workspace(&mut self) -> Workspace {
+        Workspace {
+            root: self.parts.field(),
+            target_directory: self.parts.field(),
+            build_directory: self.parts.optional(Parts::field),
+            default_members: self.parts.list(Parts::field),
+            table: Span::default(),
+        }
+    }
+
     fn source(&mut self) -> Source {
         match self.parts.take() {
             b'w' => Source::Workspace(self.parts.field()),
@@ -101,6 +117,13 @@ impl<'t> Reader<'t> {
         }
     }
 
+    // A link whose ends are passed over.
+    fn next_link(&mut self) -> Link {
+        self.parts.field();
+        self.parts.field();
+        self.link()
+    }
+
     // The links with their ends. Those that leave one package stand together, so its position is looked up once.
     fn links(&mut self, positions: &Positions) -> Result<(Vec<Ends>, Vec<Link>), Error> {
         let count = self.parts.count();
@@ -142,31 +165,64 @@ fn positions(packages: &[Package]) -> Result<Positions, Error> {
     Ok(positions)
 }
 
+// The text of what the JSON says, with details or without.
+fn records(json: &str, details: bool) -> Result<String, Error> {
+    sys::records(json, details).map_err(|refusal| Error::Metadata(refusal.text))
+}
+
+/// Where the details of each package and link stand in a text that has them.
+pub(super) struct Details {
+    text: String,
+    packages: Vec<Span>,
+    links: Vec<Span>,
+    // The free tables of the packages.
+    tables: Vec<Span>,
+}
+
+impl Details {
+    /// Those that the JSON says, of the packages and links in the same order as [`Decoded`] has them.
+    pub(super) fn of(json: &str) -> Result<Self, Error> {
+        let text = records(json, true)?;
+        let mut reader = Reader::of(&text);
+        reader.workspace();
+        let packages = reader.packages().iter().map(|it| it.details).collect();
+        let links = (0..reader.parts.count()).map(|_| reader.next_link().details);
+        let links = links.collect();
+        let _workspace = reader.parts.field();
+        let tables = reader.parts.list(Parts::field);
+        Ok(Details {
+            packages,
+            links,
+            tables,
+            text,
+        })
+    }
+
+    /// The details and the free table of the package at the position.
+    pub(super) fn of_package(&self, position: usize) -> (&str, &str) {
+        let part = |spans: &[Span]| spans[position].of(&self.text);
+        (part(&self.packages), part(&self.tables))
+    }
+
+    /// The details of the link with the number.
+    pub(super) fn of_link(&self, number: usize) -> &str {
+        self.links[number].of(&self.text)
+    }
+}
+
 impl Decoded {
     /// What the JSON says.
     pub(super) fn of(json: &str) -> Result<Self, Error> {
-        let text = sys::records(json, true).map_err(|refusal| Error::Metadata(refusal.text))?;
-        let mut reader = Reader {
-            parts: Parts::of(&text),
-            specs: Vec::new(),
-        };
-        let (root, target_directory) = (reader.parts.field(), reader.parts.field());
-        let build_directory = reader.parts.optional(Parts::field);
-        let default_members = reader.parts.list(Parts::field);
+        let text = records(json, false)?;
+        let mut reader = Reader::of(&text);
+        let mut workspace = reader.workspace();
         let packages = reader.packages();
         let positions = positions(&packages)?;
         let (ends, links) = reader.links(&positions)?;
-        let (table, tables) = (reader.parts.field(), reader.parts.list(Parts::field));
-        assert!(reader.parts.is_at_end(), "the text ends with the tables");
+        workspace.table = reader.parts.field();
         let members = (0..packages.len()).filter(|it| packages[*it].is_member());
         Ok(Decoded {
-            workspace: Workspace {
-                root,
-                target_directory,
-                build_directory,
-                default_members,
-                table,
-            },
+            workspace,
             members: members.collect(),
             firm: links.iter().map(|link| !link.is_dev_only()).collect(),
             specs: reader.specs,
@@ -174,7 +230,6 @@ impl Decoded {
             positions,
             ends,
             links,
-            tables,
             text,
         })
     }

@@ -1,8 +1,9 @@
 //! What there is of a package or a link beyond what most questions need. The text has it as one part, which is read
-//! each time that it is asked for.
+//! when it is asked for.
 
 use super::package::{PackageLink, PackageMetadata};
 use super::parts::Parts;
+use crate::Error;
 
 /// What else a manifest says of a package.
 #[derive(Clone, Debug, PartialEq, Eq)]
@@ -297,20 +298,19 @@ impl<'g> Statuses<'g> {
 }
 
 impl<'g> PackageMetadata<'g> {
-    /// What else its manifest says. Reads it anew each time.
-    pub fn details(self) -> PackageDetails<'g> {
-        let decoded = &self.graph.decoded;
-        PackageDetails::of(
-            decoded.part(decoded.packages[self.position].details),
-            decoded.part(decoded.tables[self.position]),
-        )
+    /// What else its manifest says. Proved to be what the JSON has.
+    ///
+    /// The first call on a graph's packages and links reads the JSON once more, and keeps what it has of details; it is
+    /// refused where these are not such as Cargo prints. Each call makes its answer anew.
+    pub fn details(self) -> Result<PackageDetails<'g>, Error> {
+        let (text, table) = self.graph.details()?.of_package(self.position);
+        Ok(PackageDetails::of(text, table))
     }
 }
 
 impl<'g> PackageLink<'g> {
-    /// What else the manifest says of it. Reads it anew each time.
-    pub fn details(self) -> LinkDetails<'g> {
-        let decoded = &self.graph.decoded;
-        LinkDetails::of(decoded.part(decoded.links[self.number].details))
+    /// What else the manifest says of it, as [`PackageMetadata::details`] of a package.
+    pub fn details(self) -> Result<LinkDetails<'g>, Error> {
+        Ok(LinkDetails::of(self.graph.details()?.of_link(self.number)))
     }
 }

@@ -21,9 +21,10 @@ pub use set::PackageSet;
 
 use crate::sys::{self, Components};
 use crate::{Error, PackageId};
-use decode::Decoded;
+use decode::{Decoded, Details};
 use links_at::LinksAt;
 use std::fmt;
+use std::sync::OnceLock;
 
 /// The direction of a walk.
 #[derive(Clone, Copy, Debug, PartialEq, Eq, Hash)]
@@ -58,6 +59,8 @@ pub struct PackageGraph {
     // The links that leave and that enter each package.
     leaving: LinksAt,
     entering: LinksAt,
+    // Read when they are asked for first.
+    details: OnceLock<Details>,
 }
 
 impl PackageGraph {
@@ -77,8 +80,17 @@ impl PackageGraph {
             components,
             leaving: LinksAt::of(count, &decoded.ends, |link| link.from),
             entering: LinksAt::of(count, &decoded.ends, |link| link.to),
+            details: OnceLock::new(),
             decoded,
         })
+    }
+
+    fn details(&self) -> Result<&Details, Error> {
+        if let Some(details) = self.details.get() {
+            return Ok(details);
+        }
+        let details = Details::of(&self.json)?;
+        Ok(self.details.get_or_init(|| details))
     }
 
     fn package(&self, position: usize) -> PackageMetadata<'_> {

@@ -1,7 +1,7 @@
 //! A text in which each part tells how long it is. The library is proved to write it so.
 
 /// A part of the text: where it begins, and how many bytes it has.
-#[derive(Clone, Copy)]
+#[derive(Clone, Copy, Default)]
 pub(super) struct Span {
     start: usize,
     len: usize,
@@ -97,9 +97,5 @@ impl<'t> Parts<'t> {
         let rest = &self.text[self.place..];
         self.place = self.text.len();
         rest
-    }
-
-    pub(super) fn is_at_end(&self) -> bool {
-        self.place == self.text.len()
     }
 }
