@@ -179,8 +179,8 @@ struct guppy_answer guppy_records(const uint8_t *json, size_t json_len, bool det
 // leaves. There is a mark for each of the set's positions.
 struct guppy_outcome guppy_roots(const struct guppy_ends *links, size_t links_len, const bool *set, size_t set_len, bool forward, bool *marks, size_t marks_len);
 
-// The number of the archive's interface. A program that was built with another `GUPPY_C_VERSION` must make no other
-// call: the number changes with each export, parameter, struct and status.
+// The number of the archive's interface. A program that was built with another `GUPPY_C_VERSION` must make no
+// other call: the number changes with each export, parameter, struct and status.
 uint32_t guppy_version(void);
 
 #ifdef __cplusplus

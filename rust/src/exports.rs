@@ -232,7 +232,7 @@ extern "C" {
         marks: *mut bool,
         marks_len: usize,
     ) -> Outcome;
-    /// The number of the archive's interface. A program that was built with another `GUPPY_C_VERSION` must make no other
-    /// call: the number changes with each export, parameter, struct and status.
+    /// The number of the archive's interface. A program that was built with another `GUPPY_C_VERSION` must make no
+    /// other call: the number changes with each export, parameter, struct and status.
     fn guppy_version() -> u32;
 }
