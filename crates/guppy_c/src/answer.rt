@@ -1,5 +1,5 @@
 //! Answers as text, of the JSON that `cargo metadata` prints.
-ghost use Rattle.std.specs.Prelude.{◌≡◌, ◌≢◌, ◌<◌, ◌≤◌, ◌⊎◌, ℕ, List, length, take, string_bytes};
+ghost use Rattle.std.specs.Prelude.{◌≡◌, ◌≢◌, ◌<◌, ◌≤◌, ◌⊎◌, ℕ, List, length, take};
 ghost use Rattle.guppy_cargo.specs.Words.{IsJsonAnswer};
 ghost use Rattle.guppy_c.specs.Answer.{IsRefusal, Refuses};
 

@@ -49,7 +49,7 @@ fn push_tables(
 
 // How long the text is at most where IDs and paths are as long as in most workspaces.
 fn likely_len(records: &Records) -> usize {
-    let packages = records.packages.len().saturating_mul(1 << 11);
+    let packages = records.packages.len().saturating_mul(3 << 10);
     let links = records.links.len().saturating_mul(3 << 7);
     packages.saturating_add(links)
 }
@@ -57,7 +57,7 @@ fn likely_len(records: &Records) -> usize {
 /// The records as one text: all that they tell of the workspace, its packages and links, as `AreTold` has it. What of a
 /// package or link isn't among the first that a reader asks for is one field, which can be read later.
 ///
-/// Takes memory for the text, two kilobytes a package and three eighths of one a link at first, and fails only where
+/// Takes memory for the text, three kilobytes a package and three eighths of one a link at first, and fails only where
 /// there is none. Time grows with the text, and stack with how deep the tables nest.
 pub fn records_text(alloc: Global, records: &Records) -> Result<String, AllocError>
     ensures { IfOk result (λ text. AreTold records.now.packages.items records.now.links.items
