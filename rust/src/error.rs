@@ -9,7 +9,11 @@ pub enum Error {
     UnknownPackageId(PackageId),
     /// The workspace has no member with this name.
     UnknownWorkspaceName(String),
-    /// The JSON is not what `cargo metadata` prints: this says where.
+    /// The text is no JSON: this says where.
+    NoJson(String),
+    /// The JSON says of no dependencies what they are resolved to, as what Cargo prints with `--no-deps`.
+    NotResolved(String),
+    /// The JSON is not what `cargo metadata` prints, or makes no graph: this says where.
     Metadata(String),
     /// Cargo could not be run, or failed: this is what was said.
     Command(String),
@@ -27,9 +31,11 @@ impl fmt::Display for Error {
             Error::UnknownWorkspaceName(name) => {
                 write!(f, "unknown workspace package name: {name}")
             }
-            Error::Metadata(text) | Error::Command(text) | Error::Refused(text) => {
-                f.write_str(text)
-            }
+            Error::NoJson(text)
+            | Error::NotResolved(text)
+            | Error::Metadata(text)
+            | Error::Command(text)
+            | Error::Refused(text) => f.write_str(text),
             Error::Cycle(ids) => {
                 f.write_str("a cycle:")?;
                 ids.iter().try_for_each(|id| write!(f, " {id}"))

@@ -335,16 +335,31 @@ fn sets_are_combined_and_listed() {
 
 #[test]
 fn what_is_no_metadata_is_refused() {
+    for json in ["", "{"] {
+        let refused = PackageGraph::from_json(json);
+        assert!(
+            matches!(refused, Err(Error::NoJson(text)) if !text.is_empty()),
+            "{json}"
+        );
+    }
     for json in [
-        "",
-        "{",
-        "[]",
         "{}",
         r#"{"packages": []}"#,
-        r#"{"packages": [{"id": 1}]}"#,
+        r#"{"packages": [], "resolve": null}"#,
     ] {
+        let refused = PackageGraph::from_json(json);
         assert!(
-            matches!(PackageGraph::from_json(json), Err(Error::Metadata(text)) if !text.is_empty()),
+            matches!(refused, Err(Error::NotResolved(text)) if !text.is_empty()),
+            "{json}"
+        );
+    }
+    for json in [
+        r#"{"resolve": {"nodes": []}}"#,
+        r#"{"packages": [{"id": 1}], "resolve": {"nodes": []}}"#,
+    ] {
+        let refused = PackageGraph::from_json(json);
+        assert!(
+            matches!(refused, Err(Error::Metadata(text)) if !text.is_empty()),
             "{json}"
         );
     }

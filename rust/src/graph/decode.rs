@@ -3,7 +3,7 @@
 
 use super::package::{Link, Package, Section, Source, Status};
 use super::parts::{Parts, Span};
-use crate::sys::{self, Ends, LinkFault};
+use crate::sys::{self, Ends, LinkFault, RefusalKind};
 use crate::{Error, PackageId};
 use std::collections::HashMap;
 
@@ -167,7 +167,11 @@ fn positions(packages: &[Package]) -> Result<Positions, Error> {
 
 // The text of what the JSON says, with details or without.
 fn records(json: &str, details: bool) -> Result<String, Error> {
-    sys::records(json, details).map_err(|refusal| Error::Metadata(refusal.text))
+    sys::records(json, details).map_err(|refusal| match refusal.kind {
+        RefusalKind::NoJson => Error::NoJson(refusal.text),
+        RefusalKind::NotResolved => Error::NotResolved(refusal.text),
+        RefusalKind::Other => Error::Metadata(refusal.text),
+    })
 }
 
 /// Where the details of each package and link stand in a text that has them.
