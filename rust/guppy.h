@@ -20,7 +20,7 @@ extern "C" {
 #endif
 
 // The number of this interface; `guppy_version` answers that of the archive.
-#define GUPPY_C_VERSION 1
+#define GUPPY_C_VERSION 2
 
 // Three functions that the program which links the archive defines, over one allocator. A call uses them on its own
 // thread, so they must be fit for as many threads as call at once. They return: nothing is thrown or jumped out of them.
@@ -45,7 +45,8 @@ void rattle_dealloc(void *block);
 
 // How a call ended that writes a text.
 struct guppy_answer {
-    // 0: answered. 1: refused. 2: there was no room for the text. 3: there was no memory.
+    // 0: answered. 1: refused. 2: there was no room for the text. 3: there was no memory. Of `guppy_records` also 4:
+    // the bytes are no JSON. 5: no dependencies are resolved.
     uint32_t status;
     // How many bytes the text has, 0 where there was no memory.
     size_t len;
@@ -96,8 +97,8 @@ struct guppy_ends {
 };
 
 // Writes what `guppy-cargo` prints for the arguments, which zero bytes part, of the workspace that the JSON
-// describes: what `cargo metadata --format-version 1` prints. Options and commands are those of `guppy-cargo help`, but
-// no file is read. A refusal says why, with no newline at its end.
+// describes: what `cargo metadata --format-version 1` prints. Options and commands are those of `guppy-cargo
+// help`, but no file is read. A refusal says why, with no newline at its end.
 struct guppy_answer guppy_answer(const uint8_t *json, size_t json_len, const uint8_t *args, size_t args_len, uint8_t *out, size_t out_len);
 
 // Writes all positions as `guppy_order` does, and marks the places of the list at which a component
@@ -110,15 +111,16 @@ struct guppy_outcome guppy_components(const struct guppy_ends *links, size_t lin
 struct guppy_listed guppy_cycle(const struct guppy_ends *links, size_t links_len, const bool *flags, size_t flags_len, uint32_t *list, size_t list_len);
 
 // Tells what the text, as `cfg(unix)` or the name of a platform, says of the platform with this name, for which a
-// compiler prints these lines, as `rustc --print cfg --target NAME` does: names, as `unix`, and keys with a value, as
-// `target_os="linux"`. Unknown is what reads as neither a predicate nor a name.
+// compiler prints these lines, as `rustc --print cfg --target NAME` does: names, as `unix`, and keys with a value,
+// as `target_os="linux"`. Unknown is what reads as neither a predicate nor a name.
 struct guppy_evaluated guppy_eval(const uint8_t *text, size_t text_len, const uint8_t *triple, size_t triple_len, const uint8_t *cfgs, size_t cfgs_len);
 
-// Tells whether a walk from the marked starts that showed somebody links, in the order of their numbers in `shown`,
-// with their answers, and ended with the marked set, is a resolve: no link is shown twice; exactly those are shown
-// that leave a position of the set, each after this was a start or an accepted link had led to it; and the set has
-// exactly the starts and what accepted links lead to. From dependents to dependencies where `forward` says so, else
-// the other way. There is an answer for each number shown, and a mark of the set for each of the starts' positions.
+// Tells whether a walk from the marked starts that showed somebody links, in the order of their numbers in
+// `shown`, with their answers, and ended with the marked set, is a resolve: no link is shown twice; exactly those
+// are shown that leave a position of the set, each after this was a start or an accepted link had led to it; and
+// the set has exactly the starts and what accepted links lead to. From dependents to dependencies where `forward`
+// says so, else the other way. There is an answer for each number shown, and a mark of the set for each of the
+// starts' positions.
 //
 // No link is refused: it is no resolve where a number is no link's, or an accepted link leads to no position.
 struct guppy_judged guppy_judge(const struct guppy_ends *links, size_t links_len, const bool *starts, size_t starts_len, const size_t *shown, size_t shown_len, const bool *answers, size_t answers_len, const bool *set, size_t set_len, bool forward);
@@ -138,24 +140,47 @@ struct guppy_outcome guppy_order(const struct guppy_ends *links, size_t links_le
 // each link, and a mark for each of the starts' positions.
 struct guppy_outcome guppy_reach(const struct guppy_ends *links, size_t links_len, const bool *flags, size_t flags_len, const bool *starts, size_t starts_len, bool forward, bool *marks, size_t marks_len);
 
-// Writes the packages, links and workspace that the JSON describes as one text, in which each part tells how long it is:
-// a field is its length in bytes, a colon and the text, or `-` where there is none; a list its length, a semicolon and
-// its elements.
+// Writes the packages, links and workspace that the JSON describes as one text, in which each part tells how long
+// it is. The JSON is what `cargo metadata --format-version 1` prints. Without `details` it takes about half the time
+// and memory; the details and free tables of packages and the named features of links are then empty.
 //
-// The workspace's root and target directory are fields; then comes the list of packages: ID, name, version, source,
-// manifest, edition, description, license and repository, all fields, the source behind `w` where it is the path of a
-// member, `p` where it is a path, `x` where it is elsewhere; then the list of links: two IDs, the name in the manifest
-// and in code, and for the normal, the build and the dev section where it is required and where it is optional:
-// `*` for all platforms, else the list of their texts. A refusal says why, with no newline at its end.
-struct guppy_answer guppy_records(const uint8_t *json, size_t json_len, uint8_t *out, size_t out_len);
+// A field is its length in bytes, a colon and the text. A list is how many there are, a semicolon, and each. An
+// option is `-` where there is none. A flag is `y` or `n`. A status is `*` for all platforms, else the list of
+// their texts, a field each. A text, an ID or a path is a field, where nothing else is said. One after another
+// come:
+//
+// - the workspace: root, target directory, optionally the build directory, and the list of the default members;
+// - the list of packages, each as ID, name, version, source, manifest, edition, optionally description, license
+// and repository, and a field with the details; a source is `w`, `p` or `x` for a member at the path, a package
+// at the path or one from elsewhere, and the text;
+// - the list of links, each as two IDs, the names in the manifest and in code, for the normal, the build and the
+// dev section the status of where it is required and of where it is optional, and a field with the details;
+// - the free tables as JSON, a field each: the workspace's, and the list of those of the packages.
+//
+// The details of a package: the list of authors; optionally the license file; the lists of categories and
+// keywords; optionally readme, homepage, documentation and linked library; `*` where it may be published
+// everywhere, else the list of registries; optionally the default run and the Rust version; the list of named
+// features, each as its name and the list of what it switches on: `f` and a feature, `d` and an optional
+// dependency, `s`, or weak `w`, and a dependency and its feature; the list of optional dependencies; and the list
+// of build targets. A build target is `l`, `s`, or `b`, `e`, `t` or `m` and a name, for the library, the build
+// script, a binary, an example, a test or a benchmark; `c` and the list of crate types, or `p` or `b` for a
+// procedural macro or a binary; optionally the library's name; the list of required features; path; edition; and
+// flags: whether it is documented, has its documentation tested, and is tested.
+//
+// The details of a link: optionally registry and path; for each section, first where it is required and then where
+// it is optional, the status of the default features, the status of no default features, and the list of named
+// features, each with its status; and behind these, to the end, the version requirement, with no length.
+//
+// A refusal says why, with no newline at its end.
+struct guppy_answer guppy_records(const uint8_t *json, size_t json_len, bool details, uint8_t *out, size_t out_len);
 
 // Marks the roots of the marked set, and no other position: those whose component no link inside the
 // set enters from another one; a link enters what it leads to where `forward` says so, else what it
 // leaves. There is a mark for each of the set's positions.
 struct guppy_outcome guppy_roots(const struct guppy_ends *links, size_t links_len, const bool *set, size_t set_len, bool forward, bool *marks, size_t marks_len);
 
-// The number of the archive's interface. A program that was built with another `GUPPY_C_VERSION` must make no other
-// call: the number changes with each export, parameter, struct and status.
+// The number of the archive's interface. A program that was built with another `GUPPY_C_VERSION` must make no
+// other call: the number changes with each export, parameter, struct and status.
 uint32_t guppy_version(void);
 
 #ifdef __cplusplus

@@ -20,7 +20,7 @@ STRUCT = re.compile(DOCS + r"#\[repr\(C\)\]\n#\[derive\([^\n]*\)\]\npub struct (
 FIELD = re.compile(DOCS + r" *pub (\w+): (\w+),\n", re.M)
 EXPORT = re.compile(DOCS + r'#\[unsafe\(no_mangle\)\]\npub extern "C" fn (\w+)\(([^)]*)\) -> (\w+)', re.M)
 SLICE = re.compile(r"&(mut )?\[(\w+)\]")
-ANSWERED = re.compile(r"fn guppy_version\(\) -> u32\n +ensures \{ result ≡ (\d+) \}")
+ANSWERED = re.compile(r"fn guppy_version\(\) -> u32\n +ensures number \{ result ≡ (\d+) \}")
 NUMBER = re.compile(r"#define GUPPY_C_VERSION (\d+)\n")
 HEAD = """// Made by scripts/exports.py of crates/guppy_c; not to be edited.
 //
@@ -101,6 +101,8 @@ def read():
             sys.exit(f"exports: a signature in {file} has another form than the others")
         answered = ANSWERED.search(text)
         number = answered[1] if answered else number
+    if number is None:
+        sys.exit("exports: the clause that tells the number of the interface has another form")
     return structs, sorted(exports), number
 
 

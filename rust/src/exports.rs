@@ -15,7 +15,8 @@ pub(crate) const VERSION: u32 = 2;
 #[repr(C)]
 #[derive(Clone, Copy, Debug, PartialEq, Eq)]
 pub(crate) struct Answer {
-    /// 0: answered. 1: refused. 2: there was no room for the text. 3: there was no memory.
+    /// 0: answered. 1: refused. 2: there was no room for the text. 3: there was no memory. Of `guppy_records` also 4:
+    /// the bytes are no JSON. 5: no dependencies are resolved.
     pub(crate) status: u32,
     /// How many bytes the text has, 0 where there was no memory.
     pub(crate) len: usize,
@@ -78,8 +79,8 @@ pub(crate) struct Ends {
 #[allow(dead_code)]
 extern "C" {
     /// Writes what `guppy-cargo` prints for the arguments, which zero bytes part, of the workspace that the JSON
-    /// describes: what `cargo metadata --format-version 1` prints. Options and commands are those of `guppy-cargo help`, but
-    /// no file is read. A refusal says why, with no newline at its end.
+    /// describes: what `cargo metadata --format-version 1` prints. Options and commands are those of `guppy-cargo
+    /// help`, but no file is read. A refusal says why, with no newline at its end.
     fn guppy_answer(
         json: *const u8,
         json_len: usize,
@@ -112,8 +113,8 @@ extern "C" {
         list_len: usize,
     ) -> Listed;
     /// Tells what the text, as `cfg(unix)` or the name of a platform, says of the platform with this name, for which a
-    /// compiler prints these lines, as `rustc --print cfg --target NAME` does: names, as `unix`, and keys with a value, as
-    /// `target_os="linux"`. Unknown is what reads as neither a predicate nor a name.
+    /// compiler prints these lines, as `rustc --print cfg --target NAME` does: names, as `unix`, and keys with a value,
+    /// as `target_os="linux"`. Unknown is what reads as neither a predicate nor a name.
     fn guppy_eval(
         text: *const u8,
         text_len: usize,
@@ -122,11 +123,12 @@ extern "C" {
         cfgs: *const u8,
         cfgs_len: usize,
     ) -> Evaluated;
-    /// Tells whether a walk from the marked starts that showed somebody links, in the order of their numbers in `shown`,
-    /// with their answers, and ended with the marked set, is a resolve: no link is shown twice; exactly those are shown
-    /// that leave a position of the set, each after this was a start or an accepted link had led to it; and the set has
-    /// exactly the starts and what accepted links lead to. From dependents to dependencies where `forward` says so, else
-    /// the other way. There is an answer for each number shown, and a mark of the set for each of the starts' positions.
+    /// Tells whether a walk from the marked starts that showed somebody links, in the order of their numbers in
+    /// `shown`, with their answers, and ended with the marked set, is a resolve: no link is shown twice; exactly those
+    /// are shown that leave a position of the set, each after this was a start or an accepted link had led to it; and
+    /// the set has exactly the starts and what accepted links lead to. From dependents to dependencies where `forward`
+    /// says so, else the other way. There is an answer for each number shown, and a mark of the set for each of the
+    /// starts' positions.
     ///
     /// No link is refused: it is no resolve where a number is no link's, or an accepted link leads to no position.
     fn guppy_judge(
@@ -179,15 +181,38 @@ extern "C" {
         marks: *mut bool,
         marks_len: usize,
     ) -> Outcome;
-    /// Writes the packages, links and workspace that the JSON describes as one text, in which each part tells how long it is:
-    /// a field is its length in bytes, a colon and the text, or `-` where there is none; a list its length, a semicolon and
-    /// its elements.
+    /// Writes the packages, links and workspace that the JSON describes as one text, in which each part tells how long
+    /// it is. The JSON is what `cargo metadata --format-version 1` prints. Without `details` it takes about half the time
+    /// and memory; the details and free tables of packages and the named features of links are then empty.
     ///
-    /// The workspace's root and target directory are fields; then comes the list of packages: ID, name, version, source,
-    /// manifest, edition, description, license and repository, all fields, the source behind `w` where it is the path of a
-    /// member, `p` where it is a path, `x` where it is elsewhere; then the list of links: two IDs, the name in the manifest
-    /// and in code, and for the normal, the build and the dev section where it is required and where it is optional:
-    /// `*` for all platforms, else the list of their texts. A refusal says why, with no newline at its end.
+    /// A field is its length in bytes, a colon and the text. A list is how many there are, a semicolon, and each. An
+    /// option is `-` where there is none. A flag is `y` or `n`. A status is `*` for all platforms, else the list of
+    /// their texts, a field each. A text, an ID or a path is a field, where nothing else is said. One after another
+    /// come:
+    ///
+    /// - the workspace: root, target directory, optionally the build directory, and the list of the default members;
+    /// - the list of packages, each as ID, name, version, source, manifest, edition, optionally description, license
+    /// and repository, and a field with the details; a source is `w`, `p` or `x` for a member at the path, a package
+    /// at the path or one from elsewhere, and the text;
+    /// - the list of links, each as two IDs, the names in the manifest and in code, for the normal, the build and the
+    /// dev section the status of where it is required and of where it is optional, and a field with the details;
+    /// - the free tables as JSON, a field each: the workspace's, and the list of those of the packages.
+    ///
+    /// The details of a package: the list of authors; optionally the license file; the lists of categories and
+    /// keywords; optionally readme, homepage, documentation and linked library; `*` where it may be published
+    /// everywhere, else the list of registries; optionally the default run and the Rust version; the list of named
+    /// features, each as its name and the list of what it switches on: `f` and a feature, `d` and an optional
+    /// dependency, `s`, or weak `w`, and a dependency and its feature; the list of optional dependencies; and the list
+    /// of build targets. A build target is `l`, `s`, or `b`, `e`, `t` or `m` and a name, for the library, the build
+    /// script, a binary, an example, a test or a benchmark; `c` and the list of crate types, or `p` or `b` for a
+    /// procedural macro or a binary; optionally the library's name; the list of required features; path; edition; and
+    /// flags: whether it is documented, has its documentation tested, and is tested.
+    ///
+    /// The details of a link: optionally registry and path; for each section, first where it is required and then where
+    /// it is optional, the status of the default features, the status of no default features, and the list of named
+    /// features, each with its status; and behind these, to the end, the version requirement, with no length.
+    ///
+    /// A refusal says why, with no newline at its end.
     fn guppy_records(
         json: *const u8,
         json_len: usize,
@@ -207,7 +232,7 @@ extern "C" {
         marks: *mut bool,
         marks_len: usize,
     ) -> Outcome;
-    /// The number of the archive's interface. A program that was built with another `GUPPY_C_VERSION` must make no other
-    /// call: the number changes with each export, parameter, struct and status.
+    /// The number of the archive's interface. A program that was built with another `GUPPY_C_VERSION` must make no
+    /// other call: the number changes with each export, parameter, struct and status.
     fn guppy_version() -> u32;
 }

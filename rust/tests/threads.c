@@ -39,7 +39,7 @@ static void call_all(struct written *it) {
         guppy_eval(unix_text, sizeof unix_text - 1, name, sizeof name - 1, cfgs, sizeof cfgs - 1);
     struct guppy_answer answer =
         guppy_answer(json, length, command, sizeof command - 1, it->answer, sizeof it->answer);
-    struct guppy_answer records = guppy_records(json, length, it->records, sizeof it->records);
+    struct guppy_answer records = guppy_records(json, length, true, it->records, sizeof it->records);
     *status++ = cycle.outcome.status;
     *status++ = inside.outcome.status;
     *status++ = 10 * judged.outcome.status + !judged.holds;

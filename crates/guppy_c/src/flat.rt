@@ -292,11 +292,12 @@ pub struct Judged {
     pub holds: bool,
 }
 
-/// Tells whether a walk from the marked starts that showed somebody links, in the order of their numbers in `shown`,
-/// with their answers, and ended with the marked set, is a resolve: no link is shown twice; exactly those are shown
-/// that leave a position of the set, each after this was a start or an accepted link had led to it; and the set has
-/// exactly the starts and what accepted links lead to. From dependents to dependencies where `forward` says so, else
-/// the other way. There is an answer for each number shown, and a mark of the set for each of the starts' positions.
+/// Tells whether a walk from the marked starts that showed somebody links, in the order of their numbers in
+/// `shown`, with their answers, and ended with the marked set, is a resolve: no link is shown twice; exactly those
+/// are shown that leave a position of the set, each after this was a start or an accepted link had led to it; and
+/// the set has exactly the starts and what accepted links lead to. From dependents to dependencies where `forward`
+/// says so, else the other way. There is an answer for each number shown, and a mark of the set for each of the
+/// starts' positions.
 ///
 /// No link is refused: it is no resolve where a number is no link's, or an accepted link leads to no position.
 #[unsafe(no_mangle)]

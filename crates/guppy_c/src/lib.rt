@@ -6,10 +6,12 @@
 //! - `answer`: answers as text, of the JSON that `cargo metadata` prints;
 //! - `flat`: answers about a graph that the caller holds as slices;
 //! - `platform`: what a text says of a platform;
+//! - `records`: the records of that JSON, as one text;
 //! - `version`: which interface this is.
 #![tactic(auto)]
 
 pub mod answer;
 pub mod flat;
 pub mod platform;
+pub mod records;
 pub mod version;

@@ -57,8 +57,8 @@ fn said(alloc: Global, text: &str, platform: &Platform) -> Result<u32, AllocErro
 }
 
 /// Tells what the text, as `cfg(unix)` or the name of a platform, says of the platform with this name, for which a
-/// compiler prints these lines, as `rustc --print cfg --target NAME` does: names, as `unix`, and keys with a value, as
-/// `target_os="linux"`. Unknown is what reads as neither a predicate nor a name.
+/// compiler prints these lines, as `rustc --print cfg --target NAME` does: names, as `unix`, and keys with a value,
+/// as `target_os="linux"`. Unknown is what reads as neither a predicate nor a name.
 #[unsafe(no_mangle)]
 pub extern "C" fn guppy_eval(alloc: Global, text: &[u8], triple: &[u8], cfgs: &[u8]) -> Evaluated
     ensures said { result.status ≡ 0

@@ -1,11 +1,11 @@
 //! Which interface an archive has.
 ghost use Rattle.std.specs.Prelude.{◌≡◌};
 
-/// The number of the archive's interface. A program that was built with another `GUPPY_C_VERSION` must make no other
-/// call: the number changes with each export, parameter, struct and status.
+/// The number of the archive's interface. A program that was built with another `GUPPY_C_VERSION` must make no
+/// other call: the number changes with each export, parameter, struct and status.
 #[unsafe(no_mangle)]
 pub extern "C" fn guppy_version() -> u32
-    ensures { result ≡ 1 }
+    ensures number { result ≡ 2 }
 {
-    1
+    2
 }

@@ -4,7 +4,7 @@ ghost use Rattle.guppy_search.specs.Graph.{IsGraph};
 ghost use Rattle.guppy_search.specs.declared.graph_core.link.Link.{Link as AnyLink};
 ghost use Rattle.guppy_flat.specs.Flat.{flagged, link_of, AreFew, IsFlatFault, MakeGraph};
 
-use guppy_core::{Graph, GraphFault, GraphSpec, Link, PackageIx};
+use guppy_core::{Graph, GraphFault, GraphSpec, LIMIT, Link, PackageIx};
 use std::alloc::{AllocError, Global};
 
 /// A link by its ends, two positions.
@@ -29,19 +29,16 @@ impl GraphSpec for Flat {
     type Ix = PackageIx;
 }
 
-// How many positions and links a graph has at most.
-const MOST: usize = u32::MAX as usize;
-
 /// Refuses more positions or links than a graph has at most.
 pub fn expect_few(count: usize, links: usize) -> Result<(), GraphFault>
     ensures few { OnOk result ((count ≤ 4294967295) × (links ≤ 4294967295)) }
     ensures fault { (ends : List (AnyLink Bool)) → length ends ≡ links
         → IfErr result (IsFlatFault count ends) }
 {
-    if count > MOST {
+    if count > LIMIT {
         return Err(GraphFault::TooManyNodes);
     }
-    if links > MOST {
+    if links > LIMIT {
         return Err(GraphFault::TooManyLinks);
     }
     Ok(())

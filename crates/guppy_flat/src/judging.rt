@@ -1,5 +1,5 @@
 //! Whether a trace and a set are those of a resolve that somebody else walked.
-ghost use Rattle.std.specs.Prelude.{◌≡◌, ◌↔◌, ℕ, ◌<◌, All, Contains, true, length, map, IfOk, IfSome, MatchOption};
+ghost use Rattle.std.specs.Prelude.{◌≡◌, ◌↔◌, ℕ, ◌<◌, All, Contains, true, length, IfOk, IfSome, MatchOption};
 ghost use Rattle.std.specs.List.{zip};
 ghost use Rattle.guppy_search.specs.IxSet.{has, IsIn};
 ghost use Rattle.guppy_search.specs.Links.{near_end, far_end};

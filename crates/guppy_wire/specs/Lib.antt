@@ -1,1 +1,4 @@
+pub mod Parts
+pub mod Link
+pub mod Package
 pub mod Wire

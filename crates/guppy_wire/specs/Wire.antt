@@ -1,58 +1,44 @@
--- Records as one text. Each part of it tells how long it is, so any bytes may stand in a text.
-use Rattle.std.specs.Prelude.{ℕ, List, ◌++◌, ◌∷◌, [], length, codes, Option, None, Some, option_map, string_bytes}
-use Rattle.std.specs.Fmt.{decimal}
-use Rattle.std.specs.List.{flat_map}
-use Rattle.semver.specs.Identifiers.{version_text}
-use Rattle.guppy_data.specs.declared.platform.status.PlatformStatusImpl.{PlatformStatusImpl}
-use Rattle.guppy_data.specs.declared.platform.status.PlatformStatusImpl.TheVariants.{Always, Specs}
-use Rattle.guppy_data.specs.declared.records.DependencyReqImpl.{DependencyReqImpl}
+-- Records as one text.
+use Rattle.std.specs.Prelude.{◌≡◌, ◌≤◌, ℕ, false, List, ◌++◌, Some}
+use Rattle.std.specs.List.{AllZip}
+use Rattle.json.specs.Lex.{tokens}
+use Rattle.json.specs.Print.{print}
+use Rattle.serde_json.specs.Data.{Data, depth}
+use Rattle.serde_json.specs.Read.{read, max_depth}
+use Rattle.serde_json.specs.View.{view}
+use Rattle.serde_json.specs.Written.{IsInOrder, compact_text, has_float}
 use Rattle.guppy_data.specs.declared.records.LinkRecord.{LinkRecord}
 use Rattle.guppy_data.specs.declared.records.PackageRecord.{PackageRecord}
-use Rattle.guppy_data.specs.declared.records.PackageSourceRecord.{PackageSourceRecord}
-use Rattle.guppy_data.specs.declared.records.PackageSourceRecord.TheVariants.{Workspace, Path, External}
 use Rattle.guppy_data.specs.declared.records.WorkspaceRecord.{WorkspaceRecord}
+use Rattle.guppy_wire.specs.Parts.{field, optional, listed}
+use Rattle.guppy_wire.specs.Package.{package_text}
+use Rattle.guppy_wire.specs.Link.{link_text}
 
--- its length, a colon, and the text, as `4:core`
-abbrev pub field : List ℕ → List ℕ
-field text = decimal (length text) ++ codes ":" ++ text
+-- the root, the target directory, the build directory, and the default members
+abbrev pub workspace_text : WorkspaceRecord → List ℕ
+workspace_text r = field r.root ++ field r.target_directory ++ optional field r.build_directory
+    ++ listed field r.default_members.items
 
--- `-` where there is none
-abbrev pub optional : Option (List ℕ) → List ℕ
-optional None = codes "-"
-optional (Some text) = field text
+-- the text is JSON of the table with no space between its tokens, which reads back; what it has of floats is not told
+pub record IsTableText (text : List ℕ) (table : Data) : Type 0 where
+  pub exact : has_float table ≡ false → text ≡ compact_text table
+  pub compact : text ≡ print (tokens text)
+  pub in_order : IsInOrder text table
+  pub reads_back : depth table ≤ max_depth → read text ≡ Some table
 
--- how many there are, a semicolon, and each
-abbrev pub listed : {A : Type 0} → (A → List ℕ) → List A → List ℕ
-listed text_of items = decimal (length items) ++ codes ";" ++ flat_map text_of items
+-- the text is that of the package's table
+abbrev pub HasTable : PackageRecord → List ℕ → Type 0
+HasTable r text = IsTableText text (view r.metadata_table)
 
--- `w`, `p` or `x`: a member at the path, a package at the path, one from elsewhere
-abbrev pub source_text : PackageSourceRecord → List ℕ
-source_text (Workspace path) = codes "w" ++ field path
-source_text (Path path) = codes "p" ++ field path
-source_text (External source) = codes "x" ++ field (string_bytes source)
+-- the workspace, the packages, the links, and the free tables: the workspace's, and of each package its own
+abbrev pub records_text : List PackageRecord → List LinkRecord → WorkspaceRecord → List ℕ → List (List ℕ) → List ℕ
+records_text packages links workspace table tables = workspace_text workspace
+    ++ listed package_text packages ++ listed link_text links ++ field table ++ listed field tables
 
--- `*` for all platforms, else their texts
-abbrev pub status_text : PlatformStatusImpl → List ℕ
-status_text Always = codes "*"
-status_text (Specs specs) = listed field specs.items
-
--- where it is required, and where it is optional
-abbrev pub section_text : DependencyReqImpl → List ℕ
-section_text r = status_text r.required.build_if ++ status_text r.optional.build_if
-
-abbrev pub package_text : PackageRecord → List ℕ
-package_text r = field r.id ++ field (string_bytes r.name) ++ field (version_text r.version)
-    ++ source_text r.source ++ field r.manifest_path ++ field (string_bytes r.edition)
-    ++ optional (option_map string_bytes r.description)
-    ++ optional (option_map string_bytes r.license)
-    ++ optional (option_map string_bytes r.repository)
-
-abbrev pub link_text : LinkRecord → List ℕ
-link_text r = field r.from ++ field r.to ++ field (string_bytes r.dep_name)
-    ++ field (string_bytes r.resolved_name)
-    ++ section_text r.normal ++ section_text r.build ++ section_text r.dev
-
--- the workspace's root and target directory, the packages, and the links
-abbrev pub records_text : List PackageRecord → List LinkRecord → WorkspaceRecord → List ℕ
-records_text packages links workspace = field workspace.root ++ field workspace.target_directory
-    ++ listed package_text packages ++ listed link_text links
+-- the text is that of the records
+pub record AreTold (packages : List PackageRecord) (links : List LinkRecord) (workspace : WorkspaceRecord) (text : List ℕ) : Type 0 where
+  pub table : List ℕ
+  pub tables : List (List ℕ)
+  pub table_is : IsTableText table (view workspace.metadata_table)
+  pub tables_are : AllZip HasTable packages tables
+  pub text_is : text ≡ records_text packages links workspace table tables

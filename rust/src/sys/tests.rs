@@ -288,8 +288,10 @@ fn a_text_is_written_where_there_is_room() {
         (JSON, "affected\0--ids", [0, 0]),
         (JSON, "reach\0forward\0nobody", [1, 0]),
         (JSON, "", [1, 0]),
-        ("[", "order", [1, 1]),
-        ("", "order", [1, 1]),
+        ("[", "order", [1, 4]),
+        ("", "order", [1, 4]),
+        ("{}", "order", [1, 5]),
+        (r#"{"resolve": {"nodes": []}}"#, "order", [1, 1]),
     ] {
         let none = written(json, args, 0);
         for (call, status) in statuses.into_iter().enumerate() {

@@ -1,0 +1,48 @@
+-- The records that JSON says, as a text, or why it says none.
+use Rattle.std.specs.Prelude.{◌≡◌, ◌⊎◌, ℕ, Bool, List, None, IsSomeAnd, codes}
+use Rattle.std.specs.Str.{IsUtf8}
+use Rattle.json.specs.Json.{document}
+use Rattle.guppy_data.specs.declared.records.LinkRecord.{LinkRecord}
+use Rattle.guppy_data.specs.declared.records.PackageRecord.{PackageRecord}
+use Rattle.guppy_data.specs.declared.records.WorkspaceRecord.{WorkspaceRecord}
+use Rattle.guppy_metadata.specs.declared.fault.MetadataFault.{MetadataFault}
+use Rattle.guppy_metadata.specs.declared.fault.MetadataFault.TheVariants.{NotJson, NotResolved, OutOfMemory}
+use Rattle.guppy_metadata.specs.Fault.{IsNotJson, IsNotResolved, IsOutOfMemory, fault_text}
+use Rattle.guppy_metadata.specs.Members.{present}
+use Rattle.guppy_metadata.specs.Records.{AreRecordsWith, SaysNoRecordsWith}
+use Rattle.guppy_wire.specs.Wire.{AreTold}
+
+-- the text is that of records that the JSON says, with details or without
+pub record AreRecords (details : Bool) (json text : List ℕ) : Type 0 where
+  pub packages : List PackageRecord
+  pub links : List LinkRecord
+  pub workspace : WorkspaceRecord
+  pub said : IsSomeAnd (document json) (λ d. AreRecordsWith details d packages links workspace)
+  pub told : AreTold packages links workspace text
+
+-- the bytes are no UTF-8, or no JSON
+abbrev pub IsNoJson : List ℕ → Type 0
+IsNoJson json = (¬ IsUtf8 json) ⊎ (document json ≡ None)
+
+-- the JSON says of no dependencies what they are resolved to
+abbrev pub IsUnresolved : List ℕ → Type 0
+IsUnresolved json = IsSomeAnd (document json) (λ d. present (codes "resolve") d ≡ None)
+
+-- the JSON has the fault, and says no records for it, unless it is want of memory
+pub record IsMisread (details : Bool) (json : List ℕ) (fault : MetadataFault) : Type 0 where
+  pub no_json : IsNotJson fault → document json ≡ None
+  pub not_resolved : IsNotResolved fault → IsUnresolved json
+  pub no_records : ¬ IsOutOfMemory fault → SaysNoRecordsWith details json
+
+-- the status that tells what kind of a fault it is
+abbrev pub kind_of : MetadataFault → ℕ
+kind_of (NotJson line column) = 4
+kind_of NotResolved = 5
+kind_of OutOfMemory = 3
+kind_of _ = 1
+
+-- status and text tell why the JSON says no records
+abbrev pub AreRefused : Bool → List ℕ → ℕ → List ℕ → Type 0
+AreRefused details json status text =
+    ((¬ IsUtf8 json) × (status ≡ 4) × (text ≡ codes "the input is no UTF-8"))
+    ⊎ ((fault : MetadataFault) × IsMisread details json fault × (status ≡ kind_of fault) × (text ≡ fault_text fault))

@@ -1,0 +1,7 @@
+use Rattle.std.proofs.Common.{◌≡◌, ◌++◌, string_bytes}
+use Rattle.std.specs.List.{flat_map}
+use Rattle.guppy_wire.specs.Link.{feature_status_text}
+use Rattle.guppy_wire.proofs.link.push_feature_statuses.Given as goal
+
+abbrev pub invariant-loop-feature : goal.invariant-loop-feature
+invariant-loop-feature l = string_bytes l.text ++ flat_map feature_status_text l.feature-iterator ≡ string_bytes l.initial.text ++ flat_map feature_status_text l.features.entries
