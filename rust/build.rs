@@ -4,46 +4,27 @@
 //! It also notes what is set for the platform that is built for, as `rustc --print cfg` prints it.
 
 use std::path::{Path, PathBuf};
-use std::process::Command;
 use std::{env, fs};
-
-// Where the library is proved and built.
-fn own_crate() -> PathBuf {
-    Path::new(&env::var_os("CARGO_MANIFEST_DIR").expect("cargo sets it")).join("../crates/guppy_c")
-}
-
-// Proves and builds the library, where `GUPPY_C_BUILD` asks for it.
-fn is_built() -> bool {
-    println!("cargo:rerun-if-env-changed=GUPPY_C_BUILD");
-    if env::var_os("GUPPY_C_BUILD").is_none_or(|set| set.is_empty()) {
-        return false;
-    }
-    println!("cargo:warning=GUPPY_C_BUILD is set: `rt lib` proves and builds libguppy_c.a, which takes half an hour");
-    let ran = Command::new("rt")
-        .arg("lib")
-        .current_dir(own_crate())
-        .status();
-    ran.is_ok_and(|status| status.success())
-}
 
 fn link() {
     println!("cargo:rerun-if-env-changed=GUPPY_C_LIB");
+    let here = PathBuf::from(env::var_os("CARGO_MANIFEST_DIR").expect("cargo sets it"));
     let named = env::var_os("GUPPY_C_LIB").map(PathBuf::from);
-    let is_own = named.is_none();
-    let folder = named.unwrap_or_else(|| own_crate().join("out"));
+    let folder = named.unwrap_or_else(|| here.join("../crates/guppy_c/out"));
+    let folder = folder.canonicalize().unwrap_or(folder);
     let archive = folder.join("libguppy_c.a");
     println!("cargo:rerun-if-changed={}", archive.display());
-    let is_there = archive.is_file() || is_own && is_built();
-    if !is_there {
+    if !archive.is_file() {
         println!(
-            "cargo:warning=there is no {}: nothing can be linked until `rt lib` in crates/guppy_c has made it \
-             (half an hour; GUPPY_C_BUILD=1 runs it from here), or GUPPY_C_LIB names its folder",
+            "cargo:warning=there is no {}: nothing can be linked until `rt lib` in crates/guppy_c has made it, in half \
+             an hour, or GUPPY_C_LIB names its folder",
             archive.display()
         );
     }
     // For the test that calls it from C.
     println!("cargo:rustc-env=GUPPY_C_ARCHIVE={}", archive.display());
     println!("cargo:rustc-link-search=native={}", folder.display());
+    // What depends on this crate links it.
     println!("cargo:rustc-link-lib=static:-bundle=guppy_c");
 }
 

@@ -39,6 +39,7 @@ fn what_is_no_json_is_refused() {
             panic!("{json} is read")
         };
         assert_eq!((fault.line(), fault.column()), place, "{json}");
+        assert!(fault.is_eof() || fault.is_syntax(), "{json}: {fault}");
     }
 }
 

@@ -5,7 +5,7 @@ mod common;
 extern crate guppy_proved as guppy;
 
 use camino::Utf8Path;
-use common::{id, sorted, workspace};
+use common::{id, json_of, sorted, workspace};
 use guppy::graph::{DependencyDirection, ExternalSource, GitReq, PackageGraph, PackageSource};
 use guppy::{DependencyKind, Error, PackageId, Version};
 use DependencyDirection::{Forward, Reverse};
@@ -30,7 +30,7 @@ fn packages_say_what_the_json_says() {
 
 #[test]
 fn texts_are_those_of_the_json() {
-    let plain = common::json_of(2, &[(0, 1, "normal")]);
+    let plain = json_of(2, &[(0, 1, "normal")]);
     let described = r#""description":"Größe: 1 µm\n12:""#;
     let json = plain
         .replace(r#""description":null"#, described)
@@ -66,6 +66,41 @@ fn links_say_what_the_json_says() {
     let dev = to_tests.req_for_kind(DependencyKind::Development).status();
     assert!(dev.required_status().is_always() && dev.optional_status().is_never());
     assert!(to_tests.normal().status().is_never());
+}
+
+// What is no member lies at a path, or comes from elsewhere.
+#[test]
+fn packages_that_are_no_members_have_sources() {
+    let json = json_of(3, &[(0, 1, "normal"), (0, 2, "normal")]);
+    let ids = |packages: &[usize]| {
+        let ids = packages
+            .iter()
+            .map(|it| format!("\"path+file:///w/p{it}#1.0.0\""));
+        ids.collect::<Vec<_>>().join(",")
+    };
+    let members = json.replace(&ids(&[0, 1, 2]), &ids(&[0]));
+    let external = "registry+https://example.org/index";
+    let sources: Vec<&str> = members.split("\"source\":null,\"dependencies\"").collect();
+    let [first, second, third, last] = sources[..] else {
+        panic!("three packages")
+    };
+    let (null, text) = ("\"source\":null,", format!("\"source\":\"{external}\","));
+    let json = format!("{first}{null}\"dependencies\"{second}{null}\"dependencies\"{third}{text}\"dependencies\"{last}");
+    let graph = PackageGraph::from_json(json).unwrap();
+    let source = |name: &str| {
+        graph
+            .packages()
+            .find(|it| it.name() == name)
+            .unwrap()
+            .source()
+    };
+    assert_eq!(source("p0"), PackageSource::Workspace("p0".into()));
+    assert_eq!(source("p1"), PackageSource::Path("p1".into()));
+    assert_eq!(source("p2"), PackageSource::External(external));
+    assert_eq!(source("p1").local_path().unwrap(), "p1");
+    assert!(source("p1").workspace_path().is_none() && source("p2").is_external());
+    assert_eq!(graph.workspace().member_count(), 1);
+    assert_eq!(graph.resolve_workspace().len(), 1);
 }
 
 // The link between two packages is told from either of them, and an unknown ID is refused.
