@@ -141,8 +141,8 @@ struct guppy_outcome guppy_order(const struct guppy_ends *links, size_t links_le
 struct guppy_outcome guppy_reach(const struct guppy_ends *links, size_t links_len, const bool *flags, size_t flags_len, const bool *starts, size_t starts_len, bool forward, bool *marks, size_t marks_len);
 
 // Writes the packages, links and workspace that the JSON describes as one text, in which each part tells how long
-// it is. The JSON is what `cargo metadata --format-version 1` prints. Without `details` it takes about half the time
-// and memory; the details and free tables of packages and the named features of links are then empty.
+// it is. The JSON is what `cargo metadata --format-version 1` prints. Without `details` it takes about half the
+// time and memory; the details and free tables of packages and the named features of links are then empty.
 //
 // A field is its length in bytes, a colon and the text. A list is how many there are, a semicolon, and each. An
 // option is `-` where there is none. A flag is `y` or `n`. A status is `*` for all platforms, else the list of
