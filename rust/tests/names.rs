@@ -12,9 +12,10 @@ extern crate guppy_proved as guppy;
 use camino::{Utf8Path, Utf8PathBuf};
 use guppy::errors::TargetSpecError;
 use guppy::graph::{
-    Cycles, DependencyDirection, DependencyReq, DependsCache, DotWrite, EnabledStatus,
-    ExternalSource, GitReq, PackageDotVisitor, PackageGraph, PackageLink, PackageLinkContext,
-    PackageMetadata, PackageQuery, PackageSet, PackageSource, Workspace,
+    BuildTarget, BuildTargetId, BuildTargetKind, Cycles, DependencyDirection, DependencyReq,
+    DependsCache, DotWrite, EnabledStatus, ExternalSource, GitReq, PackageDotVisitor, PackageGraph,
+    PackageLink, PackageLinkContext, PackageMetadata, PackagePublish, PackageQuery, PackageSet,
+    PackageSource, Workspace,
 };
 use guppy::platform::{
     EnabledTernary, Platform, PlatformEval, PlatformSpec, PlatformStatus, TargetFeatures,
@@ -100,6 +101,15 @@ fn types_have_their_traits() {
         TargetSpec,
     )>();
     is_ordered::<(PackageId, EnabledTernary)>();
+    is_shared::<(
+        BuildTarget<'_>,
+        BuildTargetId<'_>,
+        BuildTargetKind<'_>,
+        PackagePublish<'_>,
+    )>();
+    is_copied::<(BuildTargetId<'_>, PackagePublish<'_>)>();
+    is_compared::<(BuildTargetId<'_>, BuildTargetKind<'_>, PackagePublish<'_>)>();
+    is_ordered::<(BuildTargetId<'_>, BuildTargetKind<'_>)>();
     is_displayed::<PackageId>();
     is_displayed::<DependencyKind>();
     is_displayed::<PackageSource<'_>>();
