@@ -4,6 +4,8 @@
 //! What crosses is a number, a `bool`, a struct of these, or a slice as a pointer and a length. The library keeps none
 //! of them.
 #![allow(unsafe_code)]
+// Exports are documented as the library documents them, for C too.
+#![allow(clippy::doc_lazy_continuation)]
 
 use std::mem::{align_of, offset_of, size_of};
 use std::sync::Once;
