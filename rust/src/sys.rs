@@ -7,13 +7,15 @@
 // Exports are documented as the library documents them, for C too.
 #![allow(clippy::doc_lazy_continuation)]
 
-use std::mem::{align_of, offset_of, size_of};
 use std::sync::Once;
 
 include!("exports.rs");
 
-// What is declared lies as the library has it: a mistake stops the build.
+// What is declared lies as the library has it: a mistake stops the build. (Another processor has an error of its own.)
+#[cfg(target_arch = "x86_64")]
 const _: () = {
+    use std::mem::{align_of, offset_of, size_of};
+
     assert!(size_of::<usize>() == 8 && size_of::<bool>() == 1 && align_of::<usize>() == 8);
     assert!(size_of::<Ends>() == 8 && offset_of!(Ends, from) == 0 && offset_of!(Ends, to) == 4);
     assert!(size_of::<Answer>() == 16 && offset_of!(Answer, len) == 8);

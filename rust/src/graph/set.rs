@@ -154,7 +154,6 @@ impl PackageSet<'_> {
     /// # Panics
     ///
     /// Where they are of two graphs.
-    #[must_use]
     pub fn union(&self, other: &Self) -> Self {
         self.with(other, |one, two| one || two)
     }
@@ -164,7 +163,6 @@ impl PackageSet<'_> {
     /// # Panics
     ///
     /// Where they are of two graphs.
-    #[must_use]
     pub fn intersection(&self, other: &Self) -> Self {
         self.with(other, |one, two| one && two)
     }
@@ -174,7 +172,6 @@ impl PackageSet<'_> {
     /// # Panics
     ///
     /// Where they are of two graphs.
-    #[must_use]
     pub fn difference(&self, other: &Self) -> Self {
         self.with(other, |one, two| one && !two)
     }
@@ -184,7 +181,6 @@ impl PackageSet<'_> {
     /// # Panics
     ///
     /// Where they are of two graphs.
-    #[must_use]
     pub fn symmetric_difference(&self, other: &Self) -> Self {
         self.with(other, |one, two| one != two)
     }
@@ -194,7 +190,6 @@ impl PackageSet<'_> {
 /// [`packages`](PackageSet::packages).
 impl<'g> PackageSet<'g> {
     /// The packages for which the function answers true.
-    #[must_use]
     pub fn filter(
         &self,
         direction: DependencyDirection,
