@@ -77,7 +77,7 @@ fn a_package_without_more_has_none() {
     ];
     assert_eq!(texts, [None; 4]);
     assert_eq!(dep.publish(), PackagePublish::Unrestricted);
-    assert!(dep.metadata_table().is_null() && dep.named_features().next().is_none());
+    assert!(dep.metadata_table().is_null() && dep.named_features().eq(["fast"]));
     assert!(!dep.has_default_feature() && !dep.has_build_script() && dep.is_proc_macro());
 }
 
@@ -122,7 +122,7 @@ fn a_build_target_has_a_record() {
     let binary = tool.build_target(&BuildTargetId::Binary("tool")).unwrap();
     assert_eq!((binary.name(), binary.edition()), ("tool", "2018"));
     assert_eq!(binary.required_features(), ["full"]);
-    assert!(!binary.doc_by_default() && !binary.doctest_by_default() && binary.test_by_default());
+    assert!(binary.doc_by_default() && !binary.doctest_by_default() && binary.test_by_default());
     let example = tool.build_target(&BuildTargetId::Example("show")).unwrap();
     let bin = ["bin".to_owned()];
     assert_eq!(example.kind(), BuildTargetKind::LibraryOrExample(&bin));
