@@ -11,9 +11,11 @@ use std::io::Write;
 /// What `cargo metadata --format-version 1` printed, and what was read of it.
 #[derive(Clone)]
 pub struct CargoMetadata {
-    pub(crate) json: String,
+    json: String,
+    // The same with an empty list of resolved dependencies, where none are resolved.
+    light: Option<String>,
     // The packages and links, as the library writes them.
-    pub(crate) records: String,
+    records: String,
 }
 
 impl CargoMetadata {
@@ -41,6 +43,11 @@ impl CargoMetadata {
         written.map_err(|why| Error::MetadataSerializeError(ser::Error::custom(why)))
     }
 
+    // The JSON that the library read, and what it wrote of it.
+    pub(crate) fn into_parts(self) -> (String, String) {
+        (self.light.unwrap_or(self.json), self.records)
+    }
+
     /// The graph of it, as [`PackageGraph::from_metadata`] makes it.
     ///
     /// # Errors
@@ -57,22 +64,33 @@ impl TryFrom<String> for CargoMetadata {
 
     fn try_from(json: String) -> Result<Self, Error> {
         match proved::records(&json, false) {
-            Ok(records) => Ok(CargoMetadata { json, records }),
-            Err(why) if why.kind == RefusalKind::NotResolved => read_light(&json),
+            Ok(records) => Ok(CargoMetadata {
+                json,
+                light: None,
+                records,
+            }),
+            Err(why) if why.kind == RefusalKind::NotResolved => read_light(json),
             Err(why) => Err(refused(&json, why)),
         }
     }
 }
 
-// Reads metadata in which no dependency is resolved as the same with a list of resolved ones that is empty.
-fn read_light(json: &str) -> Result<CargoMetadata, Error> {
-    let unread = Error::MetadataParseError;
-    let mut members: BTreeMap<String, &RawValue> = serde_json::from_str(json).map_err(unread)?;
-    let none = RawValue::from_string(r#"{"nodes":[],"root":null}"#.to_owned()).map_err(unread)?;
+// Reads metadata in which no dependency is resolved as the same with an empty list of resolved ones.
+fn read_light(json: String) -> Result<CargoMetadata, Error> {
+    let light = with_nothing_resolved(&json).map_err(Error::MetadataParseError)?;
+    let records = proved::records(&light, false).map_err(|why| refused(&light, why))?;
+    Ok(CargoMetadata {
+        json,
+        light: Some(light),
+        records,
+    })
+}
+
+fn with_nothing_resolved(json: &str) -> Result<String, serde_json::Error> {
+    let mut members: BTreeMap<String, &RawValue> = serde_json::from_str(json)?;
+    let none = RawValue::from_string(r#"{"nodes":[],"root":null}"#.to_owned())?;
     members.insert("resolve".to_owned(), &none);
-    let json = serde_json::to_string(&members).map_err(unread)?;
-    let records = proved::records(&json, false).map_err(|why| refused(&json, why))?;
-    Ok(CargoMetadata { json, records })
+    serde_json::to_string(&members)
 }
 
 // Why the JSON is refused. Where it is none, serde says so, as it does in guppy.

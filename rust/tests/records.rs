@@ -37,6 +37,24 @@ fn the_workspace_has_a_record() {
 }
 
 #[test]
+fn default_members_stand_as_the_json_has_them() {
+    let json = common::json_of(3, &[]);
+    let id = |package: usize| format!("\"path+file:///w/p{package}#1.0.0\"");
+    let all = format!(
+        "\"workspace_default_members\":[{},{},{}]",
+        id(0),
+        id(1),
+        id(2)
+    );
+    let some = format!("\"workspace_default_members\":[{},{}]", id(2), id(0));
+    assert!(json.contains(&all));
+    let graph = PackageGraph::from_json(json.replace(&all, &some)).unwrap();
+    let defaults = graph.workspace().default_members();
+    assert_eq!(common::named(defaults), ["p2", "p0"]);
+    assert!(graph.workspace().build_directory().is_none());
+}
+
+#[test]
 fn a_package_has_a_record() {
     let graph = graph();
     let tool = tool(&graph);

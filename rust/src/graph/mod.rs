@@ -100,7 +100,8 @@ impl PackageGraph {
     ///
     /// [`Error::PackageGraphConstructError`] where two packages have one ID, or an ordered pair of them two links.
     pub fn from_metadata(metadata: CargoMetadata) -> Result<Self, Error> {
-        let decoded = Decoded::of(metadata.records)?;
+        let (json, records) = metadata.into_parts();
+        let decoded = Decoded::of(records)?;
         let (packages, ends) = (&decoded.packages, &decoded.ends);
         let count = packages.len();
         let components =
@@ -111,7 +112,7 @@ impl PackageGraph {
         members_by_path.sort_by_key(|at| decoded.path(*at));
         members_by_name.sort_by_key(|at| decoded.part(packages[*at].name));
         Ok(PackageGraph {
-            json: metadata.json,
+            json,
             all: vec![true; ends.len()],
             components,
             leaving: LinksAt::of(count, ends, |link| link.from),
