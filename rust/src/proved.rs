@@ -48,16 +48,39 @@ pub(crate) struct Components {
     order: Vec<u32>,
     // Where each component begins, and the length of the order.
     begins: Vec<usize>,
+    // The number of the component of each position.
+    numbers: Vec<u32>,
 }
 
 impl Components {
     fn of(order: Vec<u32>, firsts: &[bool]) -> Self {
         let marked = firsts.iter().enumerate().filter(|(_, first)| **first);
-        let begins = marked
-            .map(|(place, _)| place)
-            .chain([order.len()])
-            .collect();
-        Components { order, begins }
+        let ends = marked.skip(1).map(|(place, _)| place);
+        let begins = [0].into_iter().chain(ends).chain([order.len()]).collect();
+        // The first position begins the component with number 0.
+        let begun = firsts.iter().skip(1).scan(0, |number, first| {
+            *number += u32::from(*first);
+            Some(*number)
+        });
+        let mut numbers = vec![0; order.len()];
+        let numbered = order.iter().skip(1).zip(begun);
+        numbered.for_each(|(position, number)| numbers[*position as usize] = number);
+        Components {
+            order,
+            begins,
+            numbers,
+        }
+    }
+
+    /// Whether both positions are in one component.
+    pub(crate) fn are_together(&self, one: usize, other: usize) -> bool {
+        self.numbers[one] == self.numbers[other]
+    }
+
+    /// The component of the position.
+    pub(crate) fn around(&self, position: usize) -> &[u32] {
+        let number = self.numbers[position] as usize;
+        &self.order[self.begins[number]..self.begins[number + 1]]
     }
 
     /// All positions, dependents first.
@@ -269,7 +292,10 @@ mod tests {
         let components = Components::of(vec![3, 0, 2, 1], &[true, true, false, true]);
         let listed: Vec<&[u32]> = components.iter().collect();
         assert_eq!(listed, [&[3][..], &[0, 2], &[1]]);
+        let around = [0, 1, 2, 3].map(|position| components.around(position));
+        assert_eq!(around, [&[0, 2][..], &[1], &[0, 2], &[3]]);
+        assert!(components.are_together(0, 2) && !components.are_together(0, 3));
         let none = Components::of(Vec::new(), &[]);
-        assert_eq!(none.iter().count(), 0);
+        assert!(none.iter().all(<[u32]>::is_empty) && none.order().is_empty());
     }
 }

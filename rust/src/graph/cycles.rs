@@ -16,24 +16,20 @@ impl<'g> Cycles<'g> {
     /// [`Error::UnknownPackageId`] with the first ID that no package has.
     pub fn is_cyclic(&self, a: &PackageId, b: &PackageId) -> Result<bool, Error> {
         let (first, second) = (self.graph.position(a)?, self.graph.position(b)?);
-        let mut together = self
-            .cyclic()
-            .filter(|cycle| cycle.contains(&(first as u32)));
-        Ok(together.any(|cycle| cycle.contains(&(second as u32))))
+        let components = &self.graph.components;
+        Ok(components.are_together(first, second) && self.is_cycle(components.around(first)))
     }
 
-    // The components of two packages or more, and those of one with a link to itself.
-    fn cyclic(&self) -> impl DoubleEndedIterator<Item = &'g [u32]> {
-        let graph = self.graph;
-        graph
-            .components
-            .iter()
-            .filter(move |component| match component {
-                [alone] => graph
-                    .link_from_to(*alone as usize, *alone as usize)
-                    .is_some(),
-                _ => true,
-            })
+    // Whether a component has two packages or more, or one with a link to itself.
+    fn is_cycle(&self, component: &[u32]) -> bool {
+        match component {
+            [] => false,
+            [alone] => {
+                let alone = *alone as usize;
+                self.graph.link_from_to(alone, alone).is_some()
+            }
+            _ => true,
+        }
     }
 
     /// The packages of each cycle, or of cycles with common packages: those of two or more, and those with a link to
@@ -45,6 +41,8 @@ impl<'g> Cycles<'g> {
             let packages = cycle.iter().map(|at| graph.package(*at as usize));
             packages.map(|package| package.id()).collect()
         };
-        self.cyclic().map(ids)
+        let cycles = *self;
+        let components = graph.components.iter();
+        components.filter(move |it| cycles.is_cycle(it)).map(ids)
     }
 }
