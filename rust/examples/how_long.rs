@@ -3,6 +3,7 @@
 //! `how_long metadata.json`.
 
 use guppy_proved::graph::{DependencyDirection, PackageGraph};
+use guppy_proved::CargoMetadata;
 use std::error::Error;
 use std::time::Instant;
 use std::{env, fs};
@@ -27,7 +28,7 @@ fn main() -> Result<(), Box<dyn Error>> {
     let read = least(
         || json.clone(),
         |json| {
-            let graph = PackageGraph::from_json(json)?;
+            let graph = CargoMetadata::try_from(json)?.build_graph()?;
             Ok::<_, guppy_proved::Error>(
                 graph
                     .resolve_all()

@@ -197,6 +197,8 @@ fn features_are_known_or_not() {
             "{text}: all"
         );
     }
+    let odd = TargetFeatures::new(["a\"b", "a\nb", "avx"]);
+    assert_eq!(on("cfg(target_feature = \"avx\")", odd), Some(true));
     assert_eq!(features().matches("avx"), Some(true));
     assert_eq!(TargetFeatures::none().matches("avx"), Some(false));
     assert_eq!(TargetFeatures::Unknown.matches("avx"), None);

@@ -91,15 +91,17 @@ impl Platform {
         text: &str,
         features: impl IntoIterator<Item = &'f str>,
     ) -> Option<bool> {
-        let set = features
+        // No text asks for a feature with another name.
+        let features = features
             .into_iter()
-            .map(|feature| format!("{FEATURE}{feature}\"\n"));
+            .filter(|it| !it.contains(['"', '\n', '\r']));
+        let set = features.map(|feature| format!("{FEATURE}{feature}\"\n"));
         let cfgs: String = iter::once(self.cfgs.clone()).chain(set).collect();
         match proved::said(text, &self.triple, &cfgs) {
             Ok(Said::No) => Some(false),
             Ok(Said::Yes) => Some(true),
-            // A feature whose name can't stand in a line is none that a text asks for.
-            Ok(Said::Nothing) | Err(_) => None,
+            Ok(Said::Nothing) => None,
+            Err(line) => unreachable!("line {line} was accepted"),
         }
     }
 
