@@ -144,3 +144,23 @@ fn json_of(printed: String) -> Option<String> {
     }
     Some(printed)
 }
+
+#[cfg(test)]
+mod tests {
+    use super::json_of;
+
+    #[test]
+    fn the_json_is_the_line_that_begins_an_object() {
+        let json = |printed: &str| json_of(printed.to_owned());
+        for (printed, wanted) in [
+            ("{1}\n", "{1}\n"),
+            ("{1}", "{1}"),
+            ("wrapped\n{1}\n", "{1}"),
+            ("{1}\nmore\n", "{1}"),
+        ] {
+            assert_eq!(json(printed).as_deref(), Some(wanted));
+        }
+        assert_eq!(json("wrapped\n"), None);
+        assert_eq!(json(""), None);
+    }
+}

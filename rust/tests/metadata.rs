@@ -215,21 +215,3 @@ fn where_cargo_fails_that_is_told() {
     assert!(!said(command.cargo_path("/no/cargo")).is_empty());
     assert!(said(command.cargo_path("true")).contains("no JSON"));
 }
-
-// What stands before the JSON, as a wrapper around cargo may print it, is passed over.
-#[test]
-fn the_json_is_the_line_that_begins_an_object() {
-    let workspace = Workspace::new("wrapped");
-    let cargo = workspace.0.join("cargo.sh");
-    let script = "#!/bin/sh\necho wrapped\nexec \"${CARGO:-cargo}\" \"$@\"\n";
-    fs::write(&cargo, script).unwrap();
-    let mut command = MetadataCommand::new();
-    command.cargo_path("sh").current_dir(&workspace.0);
-    assert!(command.exec().is_err());
-    fs::set_permissions(&cargo, std::os::unix::fs::PermissionsExt::from_mode(0o755)).unwrap();
-    let graph = command
-        .cargo_path(&cargo)
-        .other_options(["--offline"])
-        .build_graph();
-    assert_eq!(graph.unwrap().package_count(), 2);
-}
