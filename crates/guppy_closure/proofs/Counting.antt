@@ -1,5 +1,5 @@
 -- How often clauses are looked at, and are still to be.
-use Rattle.std.proofs.Common.{◌≡◌, ◌⊎◌, ⊎_elim, ℕ, suc, zero, ◌+◌, ◌*◌, ◌<◌, ◌≤◌, Bool, true, false, List, [], ◌∷◌, ◌++◌, length, get_or, drop, Option, Some, None, inl, inr, refl, sym, ap, ◌∙◌, arith, replicate, add-one, drop-cons}
+use Rattle.std.proofs.Common.{◌≡◌, ◌⊎◌, ⊎_elim, ℕ, suc, zero, ◌+◌, ◌*◌, ◌<◌, ◌≤◌, Bool, true, false, List, [], ◌∷◌, ◌++◌, length, get_or, drop, Option, Some, None, inl, inr, refl, ap, arith, replicate, add-one, drop-cons}
 use Rattle.std.specs.Prelude.{◌&&◌, slice_get, sum_by}
 use Rattle.std.specs.Option.{is_none}
 use Rattle.std.proofs.Math.ListN.{set}

@@ -1,12 +1,11 @@
 -- Lists of clauses, each after those that it needs.
-use Rattle.std.proofs.Common.{◌≡◌, ◌⊎◌, ℕ, suc, zero, ◌+◌, ◌<◌, List, [], ◌∷◌, ◌++◌, length, get_or, Option, Some, None, inl, inr, refl, sym, ap, ◌∙◌, subst, append_assoc, arith}
+use Rattle.std.proofs.Common.{◌≡◌, ◌⊎◌, ℕ, ◌<◌, List, [], ◌∷◌, ◌++◌, length, Some, inl, inr, refl, sym, ap, ◌∙◌, subst, append_assoc}
 use Rattle.std.specs.Prelude.{slice_get, Contains}
 use Rattle.std.proofs.lemmas.List.Elements.{Contains-push, Contains-append_left, Contains-append_right, Contains-push_cases}
 use Rattle.std.proofs.lemmas.Option.{slice_get_within}
-use Rattle.guppy_search.specs.Resolve.{EachAfter}
-use Rattle.guppy_search.proofs.Lists.{nothing_in, Contains-first, Contains-later, Contains-cons_cases, EachAfter-along}
+use Rattle.guppy_search.proofs.Lists.{nothing_in, Contains-cons_cases, EachAfter-along}
 use Rattle.guppy_closure.specs.declared.clause.Clause.{Clause}
-use Rattle.guppy_closure.specs.Clauses.{InBody, Holds, by}
+use Rattle.guppy_closure.specs.Clauses.{Holds, by}
 use Rattle.guppy_closure.specs.Derived.{HasClause, IsDerived, Follows, IsDerivation}
 use Rattle.guppy_closure.proofs.MetBodies.{same_clause}
 
@@ -47,7 +46,7 @@ module _ (clauses : List Clause) where
       ])
       ns each (λ f d. absurd (nothing_in d.0 d.2))
 
-  member_split : (ns : List ℕ) (m : ℕ) → Contains ns m → (front : List ℕ) × (back : List ℕ) × (ns ≡ front ++ m ∷ back)
+  pub member_split : (ns : List ℕ) (m : ℕ) → Contains ns m → (front : List ℕ) × (back : List ℕ) × (ns ≡ front ++ m ∷ back)
   member_split [] m h = absurd (nothing_in m h)
   member_split (n ∷ ns) m h = elim (Contains-cons_cases n m ns h) as (λ _. (front : List ℕ) × (back : List ℕ) × (n ∷ ns ≡ front ++ m ∷ back)) [
     | inl e ↦ ([], ns, ap (λ (k : ℕ). k ∷ ns) e)

@@ -3,3 +3,4 @@ pub mod Linked
 pub mod Derivations
 pub mod Counting
 pub mod Steps
+pub mod NeededSteps

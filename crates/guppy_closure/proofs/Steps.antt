@@ -1,18 +1,17 @@
 -- Each step of closing a set under clauses.
-use Rattle.std.proofs.Common.{◌≡◌, ◌⊎◌, ⊎_elim, ℕ, suc, zero, ◌+◌, ◌-◌, ◌*◌, ◌/◌, ◌<◌, ◌≤◌, ◌^◌, Bool, true, false, List, [], ◌∷◌, ◌++◌, length, get_or, drop, Some, inl, inr, refl, sym, ap, ◌∙◌, subst, arith, length-append, replicate}
+use Rattle.std.proofs.Common.{◌≡◌, ◌⊎◌, ⊎_elim, ℕ, ◌+◌, ◌-◌, ◌*◌, ◌/◌, ◌<◌, ◌≤◌, ◌^◌, Bool, true, false, List, [], ◌∷◌, ◌++◌, length, get_or, drop, Some, inl, inr, refl, sym, ap, ◌∙◌, subst, arith, length-append, replicate}
 use Rattle.std.specs.Prelude.{◌↔◌, slice_get, Contains}
 use Rattle.std.proofs.Math.ListN.{set, length-set}
 use Rattle.std.proofs.lemmas.Bool.{false_from_ne_true, cases_eq}
 use Rattle.std.proofs.lemmas.List.{get_or-set_same, drop-append-le, drop_more, drop_all}
-use Rattle.std.proofs.lemmas.Option.{slice_get_within}
-use Rattle.guppy_search.specs.IxSet.{has, IsIn, member_count}
+use Rattle.guppy_search.specs.IxSet.{has, IsIn}
 use Rattle.guppy_search.proofs.Lists.{nothing_in, Contains-cons_cases, EachAfter-nil, EachAfter-push}
 use Rattle.guppy_search.proofs.Members.{has-replicate, IsIn-below, member-set_cases, member-set_keeps, member_count-set, member_count-replicate, member_count-le-length, member_count-lt-length}
 use Rattle.guppy_closure.specs.declared.clause.Clause.{Clause}
 use Rattle.guppy_closure.specs.Clauses.{InBody, Holds, IsMet}
 use Rattle.guppy_closure.specs.Derived.{IsDerived, Follows, IsFound}
 use Rattle.guppy_closure.specs.Places.{slots, Leads, IsRow}
-use Rattle.guppy_closure.specs.Counts.{fact_count, given_count, held_count, head_of, owed}
+use Rattle.guppy_closure.specs.Counts.{given_count, held_count}
 use Rattle.guppy_closure.specs.Closing.{LooksAt, Closing, IsNone, HasPlace, Following}
 use Rattle.guppy_closure.proofs.MetBodies.{Holds-least, body_cases, same_clause}
 use Rattle.guppy_closure.proofs.Derivations.{HasClause-left, HasClause-push, HasClause-push_cases, HasClause-cons_cases, derived_holds}

@@ -15,11 +15,11 @@
 mod bodies;
 pub mod clause;
 pub mod closing;
-pub mod reasons;
 pub mod fact;
 pub mod laws;
+pub mod reasons;
 
 pub use clause::{Clause, are_within};
 pub use closing::{Closed, closure};
-pub use reasons::derivation;
 pub use fact::{FactIx, Facts};
+pub use reasons::derivation;

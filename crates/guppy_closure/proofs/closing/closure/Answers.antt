@@ -1,5 +1,5 @@
-use Rattle.std.proofs.Common.{◌+◌, ◌<◌, ◌≤◌, length, sym, ◌∙◌, arith}
-use Rattle.guppy_closure.proofs.Steps.{found_few, closing_end, spent_end, spent_few, closing_found}
+use Rattle.std.proofs.Common.{sym, ◌∙◌, arith}
+use Rattle.guppy_closure.proofs.Steps.{found_few, closing_end, spent_end, spent_few}
 use Rattle.guppy_closure.proofs.Counting.{looks_are}
 use Rattle.guppy_closure.proofs.closing.closure.Goals as goal
 

@@ -1,6 +1,6 @@
-use Rattle.std.proofs.Common.{◌≡◌, None, inl, inr, get_or, ◌∙◌, arith}
+use Rattle.std.proofs.Common.{None, inl, inr, ◌∙◌, arith}
 use Rattle.guppy_closure.specs.declared.clause.Clause.{Clause}
-use Rattle.guppy_closure.proofs.Linked.{linked_none, slots-push}
+use Rattle.guppy_closure.proofs.Linked.{slots-push}
 use Rattle.std.proofs.lemmas.List.{take_more}
 use Rattle.guppy_closure.proofs.bodies.Bodies.new.Goals as goal
 

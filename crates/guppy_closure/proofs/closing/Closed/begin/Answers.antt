@@ -1,10 +1,9 @@
-use Rattle.std.proofs.Common.{◌≡◌, ℕ, ◌+◌, ◌<◌, ◌≤◌, Bool, false, List, [], sym, None, get_or, length, replicate, drop, vec_capacity, ◌∙◌, ap, arith}
+use Rattle.std.proofs.Common.{◌≡◌, ◌+◌, ◌<◌, ◌≤◌, Bool, false, List, [], sym, None, get_or, length, drop, vec_capacity, ◌∙◌, ap, arith}
 use Rattle.std.proofs.Math.ListN.{length-replicate}
 use Rattle.std.proofs.lemmas.List.{drop_all}
 use Rattle.std.proofs.lemmas.Option.{slice_get-get_or, slice_get_within}
 use Rattle.guppy_closure.specs.declared.clause.Clause.{Clause}
 use Rattle.guppy_closure.specs.Clauses.{is_given}
-use Rattle.guppy_closure.specs.Counts.{given_count}
 use Rattle.guppy_closure.proofs.Steps.{looks_size, closing_none, closing_room, spent_few, closing_done, closing_skipped, closing_looked, next_in_order}
 use Rattle.guppy_closure.proofs.Counting.{given_next, not_given_next, not_given}
 use Rattle.guppy_closure.proofs.closing.Closed.begin.Goals as goal
