@@ -1,4 +1,6 @@
-//! A judge of a system of clauses, which knows nothing of how a closure is found. It has no contract.
+//! A judge of a system of clauses, which knows nothing of how a closure is found. No contract of it cites a definition.
+ghost use Rattle.std.specs.Prelude.{◌≤◌};
+
 use guppy_closure::{Clause, Closed, are_within, closure, derivation};
 use guppy_search::IndexType;
 use std::alloc::Global;
@@ -54,7 +56,9 @@ fn mark_heads(clauses: &[Clause], marks: &mut [bool]) {
     }
 }
 
-fn one_if(fact: Option<usize>, marks: &[bool]) -> usize {
+fn one_if(fact: Option<usize>, marks: &[bool]) -> usize
+    ensures { result ≤ 1 }
+{
     match fact {
         Some(fact) if is_marked(marks, fact) => 1,
         _ => 0,
