@@ -4,6 +4,7 @@ use Rattle.std.specs.Prelude.{◌↔◌, IfOk, slice_get, Contains}
 use Rattle.std.proofs.Math.ListN.{set}
 use Rattle.std.proofs.lemmas.List.{take-append-drop, take_more, drop_more, drop_all}
 use Rattle.std.proofs.lemmas.List.Elements.{Contains-get_or, Contains-push, Contains-append_left, Contains-push_cases}
+use Rattle.std.proofs.lemmas.Option.{slice_get-get_or}
 use Rattle.guppy_search.specs.IxSet.{IsIn}
 use Rattle.guppy_search.proofs.Lists.{nothing_in, Contains-first, Contains-later, Contains-cons_cases, EachAfter-push}
 use Rattle.guppy_search.proofs.Members.{IsIn-below, only_member, one_member}
@@ -11,45 +12,62 @@ use Rattle.guppy_closure.specs.declared.clause.Clause.{Clause}
 use Rattle.guppy_closure.specs.Clauses.{InBody, IsMet}
 use Rattle.guppy_closure.specs.Derived.{HasClause, IsDerived, Follows, IsDerivation, EndsWith, AreNeeded, IsFound}
 use Rattle.guppy_closure.specs.Needs.{HasBodies, Needs, AreSteps}
-use Rattle.guppy_closure.proofs.MetBodies.{same_clause}
-use Rattle.guppy_closure.proofs.Derivations.{HasClause-left, member_split, not_before}
+use Rattle.guppy_closure.proofs.MetBodies.{spare, same_clause}
+use Rattle.guppy_closure.proofs.Derivations.{HasClause-left, member_split, not_before, numbered}
 
 -- what follows from two clauses on one answer
 pub ok_both : {T E : Type 0} (r : Result T E) (P Q R : T → Type 0) → ((x : T) → P x → Q x → R x) → IfOk r P → IfOk r Q → IfOk r R
 ok_both (Ok x) P Q R follows p q = follows x p q
 ok_both (Err e) P Q R follows p q = tt
 
+-- the clause n, which is c, was found at the place p
+pub record FoundAt (clauses : List Clause) (found : List ℕ) (p n : ℕ) (c : Clause) : Type 0 where
+  pub inside : p < length found
+  pub number : n ≡ get_or found p 0
+  pub clause : slice_get clauses n ≡ Some c
+
 module _ (clauses : List Clause) (facts : List Bool) (found : List ℕ) (all : IsFound clauses facts found) where
+  -- what was found at a place is a clause
+  pub number_low : (p n : ℕ) → p < length found → n ≡ get_or found p 0 → n < length clauses
+  number_low p n inside number = numbered clauses found all.order n (subst (Contains found) (sym number) (Contains-get_or found p 0 inside))
+
+  pub found_at : (p n : ℕ) → p < length found → n ≡ get_or found p 0 → FoundAt clauses found p n (get_or clauses n spare)
+  found_at p n inside number = record {
+    inside = inside;
+    number = number;
+    clause = slice_get-get_or clauses n spare (number_low p n inside number);
+  }
+
   -- the clause at the place follows from those before it
-  follows_at : (p n : ℕ) (c : Clause) → p < length found → n ≡ get_or found p 0 → slice_get clauses n ≡ Some c → Follows clauses (take p found) n
-  follows_at p n c inside at found_at =
-      let whole : found ≡ take p found ++ get_or found p 0 ∷ drop (p + 1) found = sym (take-append-drop p found) ∙ ap (λ ns. take p found ++ ns) (drop_more found p 0 inside) in
-      subst (Follows clauses (take p found)) (sym at) (all.order (take p found) (get_or found p 0) (drop (p + 1) found) whole)
+  follows_at : (p n : ℕ) (c : Clause) → FoundAt clauses found p n c → Follows clauses (take p found) n
+  follows_at p n c at =
+      let whole : found ≡ take p found ++ get_or found p 0 ∷ drop (p + 1) found = sym (take-append-drop p found) ∙ ap (λ ns. take p found ++ ns) (drop_more found p 0 at.inside) in
+      subst (Follows clauses (take p found)) (sym at.number) (all.order (take p found) (get_or found p 0) (drop (p + 1) found) whole)
 
   -- its body is derived before
-  body_before : (p n : ℕ) (c : Clause) → p < length found → n ≡ get_or found p 0 → slice_get clauses n ≡ Some c → (b : ℕ) → InBody c b → IsDerived clauses (take p found) b
-  body_before p n c inside at found_at b i =
-      let follows = follows_at p n c inside at found_at in
-      let same : c ≡ follows.clause = same_clause clauses n n follows.clause c follows.found found_at refl in
+  body_before : (p n : ℕ) (c : Clause) → FoundAt clauses found p n c → (b : ℕ) → InBody c b → IsDerived clauses (take p found) b
+  body_before p n c at b i =
+      let follows = follows_at p n c at in
+      let same : c ≡ follows.clause = same_clause clauses n n follows.clause c follows.found at.clause refl in
       follows.body b (subst (λ (z : Clause). InBody z b) same i)
 
   -- so that it is among the facts
-  pub body_in : (p n : ℕ) (c : Clause) → p < length found → n ≡ get_or found p 0 → slice_get clauses n ≡ Some c → (b : ℕ) → InBody c b → IsIn facts b
-  body_in p n c inside at found_at b i =
-      (all.derived b).1 (subst (λ ns. IsDerived clauses ns b) (take-append-drop p found) (HasClause-left clauses (λ d. d.head ≡ b) (take p found) (drop p found) (body_before p n c inside at found_at b i)))
+  pub body_in : (p n : ℕ) (c : Clause) → FoundAt clauses found p n c → (b : ℕ) → InBody c b → IsIn facts b
+  body_in p n c at b i =
+      (all.derived b).1 (subst (λ ns. IsDerived clauses ns b) (take-append-drop p found) (HasClause-left clauses (λ d. d.head ≡ b) (take p found) (drop p found) (body_before p n c at b i)))
 
   -- and below the count
-  pub body_low : (count p n : ℕ) (c : Clause) → count ≡ length facts → p < length found → n ≡ get_or found p 0 → slice_get clauses n ≡ Some c → (b : ℕ) → InBody c b → (b < count) × (b < 2 ^ 32)
-  body_low count p n c same inside at found_at b i =
-      let there = body_in p n c inside at found_at b i in
+  pub body_low : (count p n : ℕ) (c : Clause) → count ≡ length facts → FoundAt clauses found p n c → (b : ℕ) → InBody c b → (b < count) × (b < 2 ^ 32)
+  body_low count p n c same at b i =
+      let there = body_in p n c at b i in
       let low = IsIn-below facts b there in
       (omega arith, all.small b there)
 
   -- the head of a clause that was found is among the facts
-  pub head_low : (count p n : ℕ) (c : Clause) → count ≡ length facts → p < length found → n ≡ get_or found p 0 → slice_get clauses n ≡ Some c → c.head < count
-  head_low count p n c same inside at found_at =
-      let member : Contains found n = subst (Contains found) (sym at) (Contains-get_or found p 0 inside) in
-      let low = IsIn-below facts c.head ((all.derived c.head).1 (n, c, member, found_at, refl)) in
+  pub head_low : (count p n : ℕ) (c : Clause) → count ≡ length facts → FoundAt clauses found p n c → c.head < count
+  head_low count p n c same at =
+      let member : Contains found n = subst (Contains found) (sym at.number) (Contains-get_or found p 0 at.inside) in
+      let low = IsIn-below facts c.head ((all.derived c.head).1 (n, c, member, at.clause, refl)) in
       omega arith
 
   module _ (f : ℕ) where
@@ -61,13 +79,13 @@ module _ (clauses : List Clause) (facts : List Bool) (found : List ℕ) (all : I
         rw none (record {
           fact = one_member (length facts) f low;
           within = λ h i. subst (IsIn facts) (only_member (length facts) f h i) there;
-          bodies = λ n c member found_at i. absurd (nothing_in n member);
+          bodies = λ n c member found' i. absurd (nothing_in n member);
           needed = λ h i. inl (sym (only_member (length facts) f h i));
         })
 
-    module _ (p q n : ℕ) (c : Clause) (s : List Bool) (inside : p < length found) (at : n ≡ get_or found p 0) (found_at : slice_get clauses n ≡ Some c) (next : q ≡ p + 1) (before : Needs clauses (drop q found) f facts s) where
+    module _ (p q n : ℕ) (c : Clause) (s : List Bool) (at : FoundAt clauses found p n c) (next : q ≡ p + 1) (before : Needs clauses (drop q found) f facts s) where
       rest_is : drop p found ≡ n ∷ drop q found
-      rest_is = rw (next, at) (drop_more found p 0 inside)
+      rest_is = rw (next, at.number) (drop_more found p 0 at.inside)
 
       -- the clause at the place p is not needed
       pub needs_same : ¬ IsIn s c.head → Needs clauses (drop p found) f facts s
@@ -75,7 +93,7 @@ module _ (clauses : List Clause) (facts : List Bool) (found : List ℕ) (all : I
         fact = before.fact;
         within = before.within;
         bodies = λ m d member found' i. elim (Contains-cons_cases n m (drop q found) member) as (λ _. IsMet d s) [
-          | inl e ↦ absurd (out (subst (λ (z : Clause). IsIn s z.head) (same_clause clauses n m c d found_at found' (sym e)) i))
+          | inl e ↦ absurd (out (subst (λ (z : Clause). IsIn s z.head) (same_clause clauses n m c d at.clause found' (sym e)) i))
           | inr later ↦ before.bodies m d later found' i
         ];
         needed = λ h i. elim (before.needed h i) [
@@ -90,41 +108,41 @@ module _ (clauses : List Clause) (facts : List Bool) (found : List ℕ) (all : I
         fact = (members f).1 (inl before.fact);
         within = λ h i. elim ((members h).0 i) [
           | inl was ↦ before.within h was
-          | inr new ↦ body_in p n c inside at found_at h new
+          | inr new ↦ body_in p n c at h new
         ];
         bodies = λ m d member found' i. elim ((members d.head).0 i) as (λ _. IsMet d s') [
           | inl was ↦ elim (Contains-cons_cases n m (drop q found) member) as (λ _. IsMet d s') [
-            | inl e ↦ λ b in_body. (members b).1 (inr (subst (λ (z : Clause). InBody z b) (same_clause clauses n m c d found_at found' (sym e)) in_body))
+            | inl e ↦ λ b in_body. (members b).1 (inr (subst (λ (z : Clause). InBody z b) (same_clause clauses n m c d at.clause found' (sym e)) in_body))
             | inr later ↦ λ b in_body. (members b).1 (inl (before.bodies m d later found' was b in_body))
           ]
-          | inr new ↦ absurd (not_before clauses (take p found) (drop p found) m d (rw take-append-drop all.order) (rw rest_is member) found' (body_before p n c inside at found_at d.head new))
+          | inr new ↦ absurd (not_before clauses (take p found) (drop p found) m d (rw take-append-drop all.order) (rw rest_is member) found' (body_before p n c at d.head new))
         ];
         needed = λ h i. elim ((members h).0 i) [
           | inl was ↦ elim (before.needed h was) [
             | inl e ↦ inl e
             | inr w ↦ inr (w.0, w.1, Contains-later n w.0 (drop q found) w.2, w.3, ((members w.1.head).1 (inl w.4.0), w.4.1))
           ]
-          | inr new ↦ inr (n, c, Contains-first n (drop q found), found_at, ((members c.head).1 (inl in_now), new))
+          | inr new ↦ inr (n, c, Contains-first n (drop q found), at.clause, ((members c.head).1 (inl in_now), new))
         ];
       })
 
   -- the clause at place i, of which the steps of those before it are there
-  module _ (s : List Bool) (bodies : HasBodies clauses found s) (steps : List ℕ) (i n : ℕ) (c : Clause) (inside : i < length found) (at : n ≡ get_or found i 0) (found_at : slice_get clauses n ≡ Some c) (order : IsDerivation clauses steps) (are : AreSteps clauses (take i found) s steps) where
+  module _ (s : List Bool) (bodies : HasBodies clauses found s) (steps : List ℕ) (i n : ℕ) (c : Clause) (at : FoundAt clauses found i n c) (order : IsDerivation clauses steps) (are : AreSteps clauses (take i found) s steps) where
     take_is : take (i + 1) found ≡ take i found ++ n ∷ []
-    take_is = rw at (take_more found i 0 inside)
+    take_is = rw at.number (take_more found i 0 at.inside)
 
     -- is a step
     pub step_more : IsIn s c.head → IsDerivation clauses (steps ++ n ∷ []) × AreSteps clauses (take (i + 1) found) s (steps ++ n ∷ [])
     step_more in_now =
-        let follows = follows_at i n c inside at found_at in
-        let same : follows.clause ≡ c = same_clause clauses n n c follows.clause found_at follows.found refl in
-        let member : Contains found n = subst (Contains found) (sym at) (Contains-get_or found i 0 inside) in (
+        let follows = follows_at i n c at in
+        let same : follows.clause ≡ c = same_clause clauses n n c follows.clause at.clause follows.found refl in
+        let member : Contains found n = subst (Contains found) (sym at.number) (Contains-get_or found i 0 at.inside) in (
           EachAfter-push (Follows clauses) steps n order (record {
             clause = c;
-            found = found_at;
+            found = at.clause;
             body = λ b in_body.
-                let d = body_before i n c inside at found_at b in_body in
-                let there = bodies n c member found_at in_now b in_body in
+                let d = body_before i n c at b in_body in
+                let there = bodies n c member at.clause in_now b in_body in
                 (d.0, d.1, (are d.0 d.1 d.3).1 (d.2, subst (IsIn s) (sym d.4) there), d.3, d.4);
             new = λ d. follows.new (subst (λ (z : Clause). IsDerived clauses (take i found) z.head) (sym same) (d.0, d.1, ((are d.0 d.1 d.3).0 d.2).0, d.3, d.4));
           }),
@@ -133,7 +151,7 @@ module _ (clauses : List Clause) (facts : List Bool) (found : List ℕ) (all : I
               | inl before ↦ let was = (are m d found').0 before in (rw take_is (Contains-append_left (take i found) (n ∷ []) m was.0), was.1)
               | inr e ↦ (
                 rw take_is (subst (Contains (take i found ++ n ∷ [])) e (Contains-push (take i found) n)),
-                subst (λ (z : Clause). IsIn s z.head) (same_clause clauses m n d c found' found_at e) in_now,
+                subst (λ (z : Clause). IsIn s z.head) (same_clause clauses m n d c found' at.clause e) in_now,
               )
             ],
             λ both. elim (Contains-push_cases (take i found) n m (rw take_is at both.0)) [
@@ -149,7 +167,7 @@ module _ (clauses : List Clause) (facts : List Bool) (found : List ℕ) (all : I
       λ there. let was = (are m d found').0 there in (rw take_is (Contains-append_left (take i found) (n ∷ []) m was.0), was.1),
       λ both. elim (Contains-push_cases (take i found) n m (rw take_is at both.0)) as (λ _. Contains steps m) [
         | inl before ↦ (are m d found').1 (before, both.1)
-        | inr e ↦ absurd (out (subst (λ (z : Clause). IsIn s z.head) (same_clause clauses n m c d found_at found' (sym e)) both.1))
+        | inr e ↦ absurd (out (subst (λ (z : Clause). IsIn s z.head) (same_clause clauses n m c d at.clause found' (sym e)) both.1))
       ],
     )
 

@@ -15,7 +15,7 @@ use std::alloc::{AllocError, Global};
 ///
 /// What is closed is what [`closure`](crate::closure) answered for these clauses, and the fact is in it.
 ///
-/// Time grows with the facts that hold. Takes memory for a bit a fact and for the list, and fails only where there is
+/// Time grows with the facts that hold. Takes memory for a bit a fact and a number a step, and fails only where there is
 /// none.
 pub fn derivation(
     alloc: Global,
@@ -92,7 +92,7 @@ fn steps_of(
     ensures steps { IfOk result (λ steps.
         AreSteps clauses.now closed.now.found.items needed.now steps.items) }
 {
-    let mut steps = Vec::new(alloc);
+    let mut steps = Vec::with_capacity(alloc, needed.len())?;
     'found: for number in &closed.found {
         let number = *number as usize;
         if needed.has_position(clauses[number].head) {

@@ -1,19 +1,17 @@
-use Rattle.std.proofs.Common.{None, inl, inr, ◌∙◌, arith}
-use Rattle.guppy_closure.specs.declared.clause.Clause.{Clause}
+use Rattle.std.proofs.Common.{inl, inr, ◌∙◌, arith}
+use Rattle.guppy_closure.proofs.MetBodies.{spare}
 use Rattle.guppy_closure.proofs.Linked.{slots-push}
 use Rattle.std.proofs.lemmas.List.{take_more}
 use Rattle.guppy_closure.proofs.bodies.Bodies.new.Goals as goal
 
 pub add-requires-clause-within : goal.add-requires-clause-within
 add-requires-clause-within c = λ f e.
-    let spare : Clause = record { first = None; second = None; head = 0 } in
     let low = (c.requires.within c.clauses.clause-index spare c.clauses-test.true).body f (inl e) in
     let size = c.clauses.invariant.count in
     omega arith
 
 pub add-requires-in-clauses-clause-within : goal.add-requires-in-clauses-clause-within
 add-requires-in-clauses-clause-within c = λ f e.
-    let spare : Clause = record { first = None; second = None; head = 0 } in
     let low = (c.requires.within c.clauses.clause-index spare c.clauses-test.true).body f (inr e) in
     let size = c.clauses.invariant.count in
     let same = c.add.ensures.count in
@@ -21,7 +19,6 @@ add-requires-in-clauses-clause-within c = λ f e.
 
 pub clauses-preserved : goal.clauses-preserved
 clauses-preserved c =
-    let spare : Clause = record { first = None; second = None; head = 0 } in
     let k = c.clauses.clause-index in
     let s = c.clauses.invariant in
     record {

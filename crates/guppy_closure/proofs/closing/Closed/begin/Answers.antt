@@ -1,8 +1,8 @@
-use Rattle.std.proofs.Common.{◌≡◌, ◌+◌, ◌<◌, ◌≤◌, Bool, false, List, [], sym, None, get_or, length, drop, vec_capacity, ◌∙◌, ap, arith}
+use Rattle.std.proofs.Common.{◌≡◌, ◌+◌, ◌<◌, ◌≤◌, Bool, false, List, [], sym, get_or, length, drop, vec_capacity, ◌∙◌, ap, arith}
 use Rattle.std.proofs.Math.ListN.{length-replicate}
 use Rattle.std.proofs.lemmas.List.{drop_all}
 use Rattle.std.proofs.lemmas.Option.{slice_get-get_or, slice_get_within}
-use Rattle.guppy_closure.specs.declared.clause.Clause.{Clause}
+use Rattle.guppy_closure.proofs.MetBodies.{spare}
 use Rattle.guppy_closure.specs.Clauses.{is_given}
 use Rattle.guppy_closure.proofs.Steps.{looks_size, closing_none, closing_room, spent_few, closing_done, closing_skipped, closing_looked, next_in_order}
 use Rattle.guppy_closure.proofs.Counting.{given_next, not_given_next, not_given}
@@ -18,7 +18,6 @@ clauses-init c =
 
 pub clauses-preserved-then-not-is_given : goal.clauses-preserved-then-not-is_given
 clauses-preserved-then-not-is_given c =
-    let spare : Clause = record { first = None; second = None; head = 0 } in
     let s = c.clauses.invariant in
     let k = c.clauses.number in
     let d = get_or c.args.clauses.now k spare in
@@ -33,7 +32,6 @@ clauses-preserved-then-not-is_given c =
 
 pub look-requires-clause-room : goal.look-requires-clause-room
 look-requires-clause-room c = λ new.
-    let spare : Clause = record { first = None; second = None; head = 0 } in
     let s = c.clauses.invariant in
     let d = get_or c.args.clauses.now c.clauses.number spare in
     let within = c.requires.within c.clauses.number spare c.clauses-test.true in
@@ -47,7 +45,6 @@ look-requires-clause-looks c =
 
 pub clauses-preserved : goal.clauses-preserved
 clauses-preserved c =
-    let spare : Clause = record { first = None; second = None; head = 0 } in
     let s = c.clauses.invariant in
     let k = c.clauses.number in
     let d = get_or c.args.clauses.now k spare in

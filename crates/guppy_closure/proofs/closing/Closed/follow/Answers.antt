@@ -1,9 +1,9 @@
-use Rattle.std.proofs.Common.{◌≡◌, ◌+◌, ◌-◌, ◌/◌, ◌<◌, Some, None, get_or, length, vec_capacity, refl, ◌∙◌, subst, arith}
+use Rattle.std.proofs.Common.{◌≡◌, ◌+◌, ◌-◌, ◌/◌, ◌<◌, Some, get_or, length, vec_capacity, refl, ◌∙◌, subst, arith}
 use Rattle.std.specs.Prelude.{slice_get}
 use Rattle.std.proofs.lemmas.List.{get_or_read}
 use Rattle.std.proofs.lemmas.List.Elements.{Contains-get_or}
 use Rattle.std.proofs.lemmas.Option.{slice_get-get_or}
-use Rattle.guppy_closure.specs.declared.clause.Clause.{Clause}
+use Rattle.guppy_closure.proofs.MetBodies.{spare}
 use Rattle.guppy_closure.specs.Places.{slots, IsRow}
 use Rattle.guppy_closure.proofs.Derivations.{numbered}
 use Rattle.guppy_closure.proofs.Steps.{looks_size, closing_room, closing_followed, leads_on, following_looked, following_few, following_inside, following_end}
@@ -18,7 +18,6 @@ bounds-clauses-index c =
 
 pub places-init : goal.places-init
 places-init c =
-    let spare : Clause = record { first = None; second = None; head = 0 } in
     let found = c.args.self.now.found.items in
     let cs = c.args.clauses.now in
     let n = c.index.result.now in
@@ -50,7 +49,6 @@ offset_bounds-clauses-number c =
 
 pub look-requires-clause-within : goal.look-requires-clause-within
 look-requires-clause-within c =
-    let spare : Clause = record { first = None; second = None; head = 0 } in
     rw c.places.invariant.count (c.requires.within ((c.places.mark - 1) / 2) spare (following_inside c.args.clauses.now c.places.self.facts c.places.self.found.items c.args.bodies.now.earlier.items (c.args.place + 1) c.places.self.looks c.places.mark c.places.invariant.following (omega arith) c.requires.linked.size))
 
 pub look-requires-clause-number : goal.look-requires-clause-number
@@ -61,7 +59,6 @@ look-requires-clause-number c =
 
 pub look-requires-clause-room : goal.look-requires-clause-room
 look-requires-clause-room c = λ new.
-    let spare : Clause = record { first = None; second = None; head = 0 } in
     let s = c.places.invariant in
     let n = (c.places.mark - 1) / 2 in
     let d = get_or c.args.clauses.now n spare in
@@ -92,7 +89,6 @@ places-smaller c =
 
 pub places-preserved : goal.places-preserved
 places-preserved c =
-    let spare : Clause = record { first = None; second = None; head = 0 } in
     let s = c.places.invariant in
     let f = s.following in
     let n = (c.places.mark - 1) / 2 in
