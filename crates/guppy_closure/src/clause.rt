@@ -4,7 +4,7 @@ ghost use Rattle.guppy_closure.specs.Clauses.{IsWithin, is_given, is_met, is_the
 use crate::fact::Facts;
 use guppy_search::IxSet;
 
-/// The head holds where the whole body does, which has at most two facts. A clause with none gives its head.
+/// The head holds where the whole body does, which has at most two facts. With an empty body it always does.
 #[derive(Clone, Copy, Debug, PartialEq, Eq)]
 pub struct Clause {
     /// A fact of the body.

@@ -29,10 +29,10 @@ pub struct Closed {
 /// Each fact that a clause names is below the count, as [`are_within`](crate::are_within) tells; there are fewer than
 /// 2^32 facts and 2^31 clauses.
 ///
-/// A clause with no body is looked at once, any other once for each fact of its body that holds, so none more than
-/// twice. Time grows with the facts and the clauses. All memory is taken before the first look: a bit and two numbers
-/// of four bytes a fact, and two a clause, of which what is answered keeps a bit and a number a fact. Fails only where
-/// there is none.
+/// A clause with an empty body is looked at once, any other once for each fact of its body that holds, so none more than
+/// twice; beside these looks, each is read for the places of its facts, and for whether its body is empty. Time grows
+/// with the facts and the clauses. All memory is taken before the first look: a bit and two numbers of four bytes a
+/// fact, and two a clause, of which what is answered keeps a bit and a number a fact. Fails only where there is none.
 pub fn closure(alloc: Global, clauses: &[Clause], count: usize) -> Result<Closed, AllocError>
     requires within { All (IsWithin count) clauses.now }
     requires few_facts { count < 2 ^ 32 }
@@ -62,7 +62,7 @@ impl Closed {
         self.facts.has_position(fact)
     }
 
-    // What the clauses with no body give, of which none is followed yet.
+    // What the clauses with an empty body give, of which nothing is followed yet.
     fn begin(alloc: Global, clauses: &[Clause], count: usize) -> Result<Self, AllocError>
         requires within { All (IsWithin count) clauses.now }
         requires few_facts { count < 2 ^ 32 }

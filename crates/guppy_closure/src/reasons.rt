@@ -15,8 +15,8 @@ use std::alloc::{AllocError, Global};
 ///
 /// What is closed is what [`closure`](crate::closure) answered for these clauses, and the fact is in it.
 ///
-/// Time grows with the facts that hold. Takes memory for a bit a fact and a number a step, and fails only where there is
-/// none.
+/// Time grows with the facts that hold. Takes memory for a bit a fact and a number a step, and fails only where there
+/// is none.
 pub fn derivation(
     alloc: Global,
     clauses: &[Clause],
