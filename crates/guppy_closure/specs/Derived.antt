@@ -13,7 +13,7 @@ HasClause clauses ns P = (n : ℕ) × (c : Clause) × Contains ns n × (slice_ge
 abbrev pub IsDerived : List Clause → List ℕ → ℕ → Type 0
 IsDerived clauses ns f = HasClause clauses ns (λ c. c.head ≡ f)
 
--- each fact of the body is the head of a clause before, and the head of none is its own
+-- each fact of the body is the head of a clause before, and its own head is that of none
 pub record Follows (clauses : List Clause) (before : List ℕ) (n : ℕ) : Type 0 where
   pub clause : Clause
   pub found : slice_get clauses n ≡ Some clause

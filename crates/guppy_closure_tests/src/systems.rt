@@ -6,28 +6,28 @@ use guppy_closure::{Clause, are_within};
 use std::alloc::Global;
 use std::process::Abort;
 
-// The clauses over three facts: four ways for each fact of the body, three for the head.
-const CLAUSES: usize = 48;
+const FACTS: usize = 3;
+
+// Each place of a body has one of the facts, or none.
+const WAYS: usize = FACTS + 1;
+
+const CLAUSES: usize = WAYS * WAYS * FACTS;
 
 // No fact for 0, else the one before it.
 fn fact_before(number: usize) -> Option<usize> {
     number.checked_sub(1)
 }
 
-// The clause of this number over so many facts. Different numbers give different clauses, as far as there are some.
-fn clause_of(number: usize, count: usize) -> Clause
-    requires some { 0 < count }
-    requires few { count < 1000 }
-{
-    let ways = count + 1;
-    let first = fact_before(number % ways);
-    let second = fact_before(number / ways % ways);
-    clause(first, second, number / (ways * ways) % count)
+// The clause of this number. Numbers below that of clauses give different ones.
+fn clause_of(number: usize) -> Clause {
+    let first = fact_before(number % WAYS);
+    let second = fact_before(number / WAYS % WAYS);
+    clause(first, second, number / WAYS / WAYS % FACTS)
 }
 
 fn judge(rt: &impl Abort, alloc: Global, clauses: &[Clause], system: usize) {
     assert!(rt;
-        is_right(rt, alloc, clauses, 3),
+        is_right(rt, alloc, clauses, FACTS),
         "system {system}, of {clauses:?}"
     );
 }
@@ -37,9 +37,9 @@ fn all_small_systems(rt: HostRuntime) {
     judge(&rt, rt.alloc(), &[], 0);
     for system in 0..CLAUSES * CLAUSES * CLAUSES {
         let clauses = [
-            clause_of(system % CLAUSES, 3),
-            clause_of(system / CLAUSES % CLAUSES, 3),
-            clause_of(system / CLAUSES / CLAUSES, 3),
+            clause_of(system % CLAUSES),
+            clause_of(system / CLAUSES % CLAUSES),
+            clause_of(system / CLAUSES / CLAUSES),
         ];
         judge(&rt, rt.alloc(), &clauses, system);
         if system < CLAUSES * CLAUSES {
