@@ -1,0 +1,6 @@
+pub mod MetBodies
+pub mod Linked
+pub mod Derivations
+pub mod Counting
+pub mod Steps
+pub mod NeededSteps

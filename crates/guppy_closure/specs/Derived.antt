@@ -1,0 +1,41 @@
+-- Lists of clauses, by number, each after those that it needs.
+use Rattle.std.specs.Prelude.{◌≡◌, ◌⊎◌, ◌↔◌, ℕ, ◌<◌, ◌^◌, Bool, Some, List, [], ◌∷◌, ◌++◌, slice_get, Contains}
+use Rattle.guppy_search.specs.IxSet.{IsIn}
+use Rattle.guppy_search.specs.Resolve.{EachAfter}
+use Rattle.guppy_closure.specs.declared.clause.Clause.{Clause}
+use Rattle.guppy_closure.specs.Clauses.{InBody}
+
+-- one of the numbers is that of a clause of which P holds
+abbrev pub HasClause : List Clause → List ℕ → (Clause → Type 0) → Type 0
+HasClause clauses ns P = (n : ℕ) × (c : Clause) × Contains ns n × (slice_get clauses n ≡ Some c) × P c
+
+-- the fact is the head of one of the clauses
+abbrev pub IsDerived : List Clause → List ℕ → ℕ → Type 0
+IsDerived clauses ns f = HasClause clauses ns (λ c. c.head ≡ f)
+
+-- each fact of the body is the head of a clause before, and its own head is that of none
+pub record Follows (clauses : List Clause) (before : List ℕ) (n : ℕ) : Type 0 where
+  pub clause : Clause
+  pub found : slice_get clauses n ≡ Some clause
+  pub body : (b : ℕ) → InBody clause b → IsDerived clauses before b
+  pub new : ¬ IsDerived clauses before clause.head
+
+-- each clause follows from those before it
+abbrev pub IsDerivation : List Clause → List ℕ → Type 0
+IsDerivation clauses = EachAfter (Follows clauses)
+
+-- the last clause has the fact as its head
+abbrev pub EndsWith : List Clause → List ℕ → ℕ → Type 0
+EndsWith clauses ns f = (before : List ℕ) × (n : ℕ) × (c : Clause) × (ns ≡ before ++ n ∷ [])
+    × (slice_get clauses n ≡ Some c) × (c.head ≡ f)
+
+-- each head is the fact, or in the body of one of the clauses
+abbrev pub AreNeeded : List Clause → List ℕ → ℕ → Type 0
+AreNeeded clauses ns f =
+    (h : ℕ) → IsDerived clauses ns h → (h ≡ f) ⊎ HasClause clauses ns (λ c. InBody c h)
+
+-- the set has the heads of the clauses, each of which follows from those before it
+pub record IsFound (clauses : List Clause) (set : List Bool) (found : List ℕ) : Type 0 where
+  pub order : IsDerivation clauses found
+  pub derived : (f : ℕ) → IsIn set f ↔ IsDerived clauses found f
+  pub small : (f : ℕ) → IsIn set f → f < 2 ^ 32

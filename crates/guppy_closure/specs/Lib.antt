@@ -1,0 +1,6 @@
+pub mod Clauses
+pub mod Derived
+pub mod Places
+pub mod Counts
+pub mod Closing
+pub mod Needs

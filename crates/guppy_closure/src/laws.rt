@@ -1,0 +1,21 @@
+//! Laws on what holds, each stated by the contract of a function.
+ghost use Rattle.std.specs.Prelude.{◌≡◌, ℕ, Bool, true, List};
+ghost use Rattle.guppy_closure.specs.declared.clause.Clause.{Clause};
+ghost use Rattle.guppy_closure.specs.Clauses.{Holds, IsClosed, AreAmong};
+
+/// What holds is closed under the clauses.
+pub fn holds_is_closed()
+    ensures { (clauses : List Clause) → IsClosed clauses (Holds clauses) }
+{}
+
+/// What holds is in whatever is closed under the clauses.
+pub fn holds_is_least()
+    ensures { (clauses : List Clause) (S : ℕ → Bool) → IsClosed clauses (λ f. S f ≡ true)
+        → (f : ℕ) → Holds clauses f → S f ≡ true }
+{}
+
+/// Where more clauses are, what held still holds.
+pub fn holds_is_monotone()
+    ensures { (fewer more : List Clause) → AreAmong fewer more
+        → (f : ℕ) → Holds fewer f → Holds more f }
+{}

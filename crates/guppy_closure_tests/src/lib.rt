@@ -1,0 +1,10 @@
+//! Tests of `guppy_closure` through its public calls alone: all small systems and drawn ones, judged by going through
+//! the clauses again and again, and long chains.
+#![tactic(auto)]
+
+#[cfg(test)]
+mod chains;
+#[cfg(test)]
+mod judge;
+#[cfg(test)]
+mod systems;
