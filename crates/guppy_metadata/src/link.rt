@@ -152,8 +152,8 @@ fn are_together(one: &Declared<'_>, other: &Declared<'_>) -> bool
 fn is_alone(declared: &Declared<'_>, wanted: &Wanted<'_, '_, '_>) -> bool
     ensures { result ≡ is_alone wanted.now.asking.now wanted.now.resolved.now wanted.now.needed.now declared.now }
 {
-    let rivals = wanted.asking.declared.iter().filter(|other| are_together(other, declared)
-        && suits(other, wanted));
+    let all = &wanted.asking.declared;
+    let rivals = all.iter().filter(|other| are_together(other, declared) && suits(other, wanted));
     rivals.count() == 1
 }
 
