@@ -418,7 +418,8 @@ fn add_fitting(
         → Joins one other name link.old → Joins one other name link.new }
     ensures named { (first : Declared) → IsNamedAs first link.old → IsNamedAs first link.new }
     ensures gathered { OnOk result (IsGathered [] link.old
-        → IsGathered (filter (fits wanted.now.asking.now wanted.now.resolved.now wanted.now.needed.now) declared.now) link.new) }
+        → IsGathered (filter (fits wanted.now.asking.now wanted.now.resolved.now wanted.now.needed.now) declared.now)
+        link.new) }
 {
     for (index, dependency) in declared.iter().enumerate() {
         if index == 0 || fits(dependency, wanted) {
@@ -442,7 +443,8 @@ fn add_named_as(
         (λ first. fits wanted.now.asking.now wanted.now.resolved.now wanted.now.needed.now first ≡ true) }
     ensures { OnOk result ((link : LinkRecord) × (links.new.items ≡ links.old.items ++ link ∷ [])
         × Joins wanted.now.from.now wanted.now.resolved.now.id.now wanted.now.resolved.now.name.now link
-        × IsLinkOf (filter (fits wanted.now.asking.now wanted.now.resolved.now wanted.now.needed.now) declared.now) link) }
+        × IsLinkOf (filter (fits wanted.now.asking.now wanted.now.resolved.now wanted.now.needed.now) declared.now)
+        link) }
 {
     let requirement = copied_requirement(&first.requirement)?;
     let texts = link_texts(alloc, wanted.from, wanted.resolved, first.dep_name())?;
@@ -466,7 +468,8 @@ fn add_link_between(
         asking.now.declared.items resolved.now.usages.items ≡ true) }
     ensures refused { IfErr result (NoneIs (λ (link : LinkRecord).
         IsLinkOf (filter (fits asking.now resolved.now needed.now) asking.now.declared.items) link
-        × (are_matched asking.now resolved.now needed.now asking.now.declared.items resolved.now.usages.items ≡ true))) }
+        × (are_matched asking.now resolved.now needed.now asking.now.declared.items resolved.now.usages.items
+        ≡ true))) }
 {
     let wanted = Wanted {
         from,

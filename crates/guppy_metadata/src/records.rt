@@ -15,10 +15,10 @@ use std::alloc::Global;
 
 /// The records that the JSON says which `cargo metadata --format-version 1` prints.
 ///
-/// Given memory, `NotJson` comes exactly where the text is no JSON, and `NotResolved` exactly where it is an object whose
-/// member `resolve` is absent or null. Any other fault tells the first place in the JSON, in the order in which it is
-/// read, where something is missing, of another kind or no such text. What the rules of a package graph refuse, as a
-/// link's end that is no package, is left to `IntoGraph::into_graph`.
+/// Given memory, `NotJson` comes exactly where the text is no JSON, and `NotResolved` exactly where it is an object
+/// whose member `resolve` is absent or null. Any other fault tells the first place in the JSON, in the order in which
+/// it is read, where something is missing, of another kind or no such text. What the rules of a package graph refuse,
+/// as a link's end that is no package, is left to `IntoGraph::into_graph`.
 ///
 /// Any error but `OutOfMemory` means that the text says no records: it is no JSON, or no packages, links and
 /// workspace are what the JSON says.
@@ -39,7 +39,8 @@ pub fn records_of(alloc: Global, json: &str) -> Result<Records, MetadataFault>
     ensures no_json { IfErr result (λ fault. IsNotJson fault → document json.now ≡ None) }
     ensures not_resolved { IfErr result (λ fault. IsNotResolved fault
         → IsSomeAnd (document json.now) (λ d. present (codes "resolve") d ≡ None)) }
-    ensures tells_no_json { IfErr result (λ fault. ¬ IsOutOfMemory fault → IsNotJson fault ↔ (document json.now ≡ None)) }
+    ensures tells_no_json { IfErr result (λ fault. ¬ IsOutOfMemory fault
+        → IsNotJson fault ↔ (document json.now ≡ None)) }
     ensures tells_unresolved { IfErr result (λ fault. ¬ IsOutOfMemory fault
         → IsNotResolved fault ↔ IsUnresolved json.now) }
     ensures refused { IfErr result (λ fault. ¬ IsOutOfMemory fault → SaysNoRecords json.now) }
@@ -64,7 +65,8 @@ pub fn plain_records_of(alloc: Global, json: &str) -> Result<Records, MetadataFa
     ensures no_json { IfErr result (λ fault. IsNotJson fault → document json.now ≡ None) }
     ensures not_resolved { IfErr result (λ fault. IsNotResolved fault
         → IsSomeAnd (document json.now) (λ d. present (codes "resolve") d ≡ None)) }
-    ensures tells_no_json { IfErr result (λ fault. ¬ IsOutOfMemory fault → IsNotJson fault ↔ (document json.now ≡ None)) }
+    ensures tells_no_json { IfErr result (λ fault. ¬ IsOutOfMemory fault
+        → IsNotJson fault ↔ (document json.now ≡ None)) }
     ensures tells_unresolved { IfErr result (λ fault. ¬ IsOutOfMemory fault
         → IsNotResolved fault ↔ IsUnresolved json.now) }
     ensures refused { IfErr result (λ fault. ¬ IsOutOfMemory fault → SaysNoRecordsWith false json.now) }

@@ -116,7 +116,8 @@ pub(crate) fn records_from(
     ensures no_json { IfErr result (λ fault. IsNotJson fault → document json.now ≡ None) }
     ensures not_resolved { IfErr result (λ fault. IsNotResolved fault
         → IsSomeAnd (document json.now) (λ d. present (codes "resolve") d ≡ None)) }
-    ensures tells_no_json { IfErr result (λ fault. ¬ IsOutOfMemory fault → IsNotJson fault ↔ (document json.now ≡ None)) }
+    ensures tells_no_json { IfErr result (λ fault. ¬ IsOutOfMemory fault
+        → IsNotJson fault ↔ (document json.now ≡ None)) }
     ensures tells_unresolved { IfErr result (λ fault. ¬ IsOutOfMemory fault
         → IsNotResolved fault ↔ IsUnresolved json.now) }
     ensures refused { IfErr result (λ fault. ¬ IsOutOfMemory fault → SaysNoRecordsWith details json.now) }

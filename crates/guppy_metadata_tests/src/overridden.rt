@@ -6,8 +6,8 @@ use guppy_metadata::{Records, plain_records_of, records_of};
 use std::alloc::Global;
 use std::process::Abort;
 
-// What Cargo 1.95 prints, without what nothing here reads, of a workspace with `paths = ["../override"]`: `dep` 2.0.0 lies
-// there, and all dependencies want 1.
+// What Cargo 1.95 prints, without what nothing here reads, of a workspace with `paths = ["../override"]`: `dep` 2.0.0
+// lies there, and all dependencies want 1.
 const METADATA: &str = r#"{"packages": [
  {"name": "app", "version": "0.1.0", "id": "path+file:///w/app#0.1.0", "source": null,
   "dependencies": [
@@ -34,8 +34,8 @@ const METADATA: &str = r#"{"packages": [
 "target_directory": "/w/target", "build_directory": "/w/target", "version": 1, "workspace_root": "/w",
 "metadata": null}"#;
 
-// Two dependencies on a package without a library, of which the version alone tells one: what stands before the version,
-// and what stands behind it.
+// Two dependencies on a package without a library, of which the version alone tells one: what stands before the
+// version, and what stands behind it.
 const FRONT: &str = r#"{"packages": [
  {"name": "a", "version": "0.1.0", "id": "a", "source": null, "manifest_path": "/a/Cargo.toml", "edition": "2021",
   "targets": [], "features": {}, "dependencies": [
