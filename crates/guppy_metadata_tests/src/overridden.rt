@@ -2,6 +2,7 @@
 
 use crate::reading::is_told;
 use guppy::IntoGraph;
+use guppy_data::LinkRecord;
 use guppy_metadata::{Records, plain_records_of, records_of};
 use std::alloc::Global;
 use std::process::Abort;
@@ -72,26 +73,29 @@ fn overridden_packages_are_read(rt: HostRuntime) {
     tells_the_version(&rt, alloc, records);
 }
 
+// Versions of the package, and the name in the manifest of the dependency that takes each.
+const TAKEN: &[(&str, &str)] = &[("1.5.0", "one"), ("2.0.0", "two")];
+
 fn alike(rt: &impl Abort, alloc: Global, version: &str) -> String {
     format!(in alloc; "{FRONT}{version}{BACK}").expect(rt, "metadata")
+}
+
+fn are_named(rt: &impl Abort, links: &[LinkRecord], name: &str) {
+    assert!(rt; links.len() == 1);
+    for link in links {
+        assert!(rt; link.dep_name.as_str() == name);
+    }
 }
 
 #[test]
 fn versions_tell_dependencies_apart(rt: HostRuntime) {
     let alloc = rt.alloc();
-    for (version, wanted) in &[("1.5.0", "one"), ("2.0.0", "two")] {
+    for (version, name) in TAKEN {
         let json = alike(&rt, alloc, version);
         let records = records_of(alloc, json.as_str()).expect(&rt, "records");
-        assert!(rt; records.links.len() == 1);
-        for link in records.links.as_slice() {
-            assert!(rt; link.dep_name.as_str() == *wanted);
-        }
+        are_named(&rt, records.links.as_slice(), name);
     }
     let json = alike(&rt, alloc, "3.0.0");
-    is_told(
-        &rt,
-        alloc,
-        json.as_str(),
-        "resolve.nodes[0].deps[0].pkg: no declared dependency fits",
-    );
+    let wanted = "resolve.nodes[0].deps[0].pkg: no declared dependency fits";
+    is_told(&rt, alloc, json.as_str(), wanted);
 }
