@@ -28,7 +28,7 @@ pub struct SectionsOn {
 /// Which sections of the link are on on one of the platforms of `spec`, as far as `eval` can tell: of each section the
 /// status's [`enabled_on`](guppy::platform::EnabledStatus::enabled_on).
 ///
-/// Takes no memory. Asks `eval` at most once for each text of the sections and platform.
+/// Takes no memory, and time for asking `eval` about each text of the sections on each platform of `spec`.
 pub fn sections_on<E: TargetEval>(
     link: PackageLink<'_>,
     spec: &PlatformSpec<E::Platform>,

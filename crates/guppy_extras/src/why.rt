@@ -43,8 +43,7 @@ fn walk_from<'g>(
 /// second ID, and no walk has fewer links. It is empty where both are one package, and there is none where the
 /// first package does not depend on the second. Links of every kind count.
 ///
-/// Of several shortest walks it is the one that a breadth-first search finds first that follows the links of
-/// each package ascending by number.
+/// Which of several shortest walks it is, is left open.
 ///
 /// `UnknownPackageId` tells the first of the two IDs that is no package's. `OutOfMemory` comes where a growth
 /// was refused. Time grows with the packages, and with the links that leave those no further from the first

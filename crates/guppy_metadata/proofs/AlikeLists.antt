@@ -1,5 +1,5 @@
 -- Lists whose items are alike, place by place.
-use Rattle.std.proofs.Common.{◌≡◌, ◌∙◌, Bool, true, false, ◌&&◌, ◌||◌, List, [], ◌∷◌, ◌++◌, Option, Some, None, IsSomeAnd, filter, map, refl, sym, ap, subst}
+use Rattle.std.proofs.Common.{◌≡◌, ◌∙◌, suc, Bool, true, false, ◌&&◌, ◌||◌, List, [], ◌∷◌, ◌++◌, Option, Some, None, IsSomeAnd, filter, map, length, refl, sym, ap, subst}
 use Rattle.std.specs.List.{AllZip, flat_map, last_or, list_any, list_all}
 use Rattle.json.specs.Json.{Json}
 use Rattle.guppy_metadata.specs.Members.{IsListOf}
@@ -57,6 +57,12 @@ module _ {A B : Type 0} (R : A → B → Type 0) where
     flat_alike (x ∷ xs) [] all = absurd all
     flat_alike (x ∷ xs) (y ∷ ys) all = ap (λ cs. cs ++ flat_map f xs) (same x y all.0) ∙ ap (λ cs. g y ++ cs) (flat_alike xs ys all.1)
 
+  as_long : (xs : List A) (ys : List B) → AllZip R xs ys → length xs ≡ length ys
+  as_long [] [] all = refl
+  as_long [] (y ∷ ys) all = absurd all
+  as_long (x ∷ xs) [] all = absurd all
+  as_long (x ∷ xs) (y ∷ ys) all = ap suc (as_long xs ys all.1)
+
   -- tests that answer the same of those that are alike
   module _ (p : A → Bool) (q : B → Bool) (same : (x : A) (y : B) → R x y → p x ≡ q y) where
     pub picked_alike : (xs : List A) (ys : List B) → AllZip R xs ys → AllZip R (filter p xs) (filter q ys)
@@ -68,6 +74,9 @@ module _ {A B : Type 0} (R : A → B → Type 0) where
         by : (picks : Bool) → p x ≡ picks → q y ≡ p x → AllZip R (filter p xs) (filter q ys) → AllZip R (filter p (x ∷ xs)) (filter q (y ∷ ys))
         by true picks other behind = rw (other, picks) (all.0, behind)
         by false picks other behind = rw (other, picks) behind
+
+    pub counted_alike : (xs : List A) (ys : List B) → AllZip R xs ys → length (filter p xs) ≡ length (filter q ys)
+    counted_alike xs ys all = as_long (filter p xs) (filter q ys) (picked_alike xs ys all)
 
     pub any_passes_alike : (xs : List A) (ys : List B) → AllZip R xs ys → list_any p xs ≡ list_any q ys
     any_passes_alike [] [] all = refl

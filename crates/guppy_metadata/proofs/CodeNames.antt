@@ -7,7 +7,7 @@ use Rattle.semver.proofs.Segments.{and-left, and-right}
 use Rattle.guppy_metadata.specs.declared.types.Declared.{Declared}
 use Rattle.guppy_metadata.specs.declared.types.Resolved.{Resolved}
 use Rattle.guppy_metadata.specs.declared.types.Package.{Package}
-use Rattle.guppy_metadata.specs.Fits.{stands_for, is_named, letter_in_code, in_code, used_name, has_name, takes, is_used, fits}
+use Rattle.guppy_metadata.specs.Fits.{stands_for, is_named, letter_in_code, in_code, used_name, has_name, is_used, suits, fits}
 
 letter_once : (letter code : ℕ) → stands_for letter code ≡ true → letter_in_code letter ≡ letter_in_code code
 letter_once letter code stands = by (or_cases (letter == code) ((letter == 45) && (code == 95)) stands)
@@ -32,10 +32,10 @@ no_letters [] none = refl
 no_letters (l ∷ text) none = absurd (omega arith)
 
 -- what was resolved under a name is used by it
-pub fitting_name : (from : List ℕ) (resolved : Resolved) (needed : Package) (x : Declared) → from ≢ resolved.id.now → resolved.name.now ≢ [] → fits from resolved needed x ≡ true
+pub fitting_name : (asking : Package) (resolved : Resolved) (needed : Package) (x : Declared) → asking.id.now ≢ resolved.id.now → resolved.name.now ≢ [] → fits asking resolved needed x ≡ true
     → in_code (used_name x needed) ≡ in_code resolved.name.now
-fitting_name from resolved needed x other some fit =
-    by (or_cases itself (has_name x needed name) (and-right called (itself || has_name x needed name) (and-left _ (takes x.requirement needed.record.version) (and-left _ (is_used x resolved.usages.items) fit))))
+fitting_name asking resolved needed x other some fit =
+    by (or_cases itself (has_name x needed name) (and-right called (itself || has_name x needed name) (and-left _ (is_used x resolved.usages.items) (and-left (suits asking resolved needed x) _ fit))))
   where
     name : List ℕ
     name = resolved.name.now
@@ -44,12 +44,12 @@ fitting_name from resolved needed x other some fit =
     called = bytes_eq x.name.now (string_bytes needed.record.name)
 
     itself : Bool
-    itself = bytes_eq from resolved.id.now
+    itself = bytes_eq asking.id.now resolved.id.now
 
     named : (((length name == 0) ≡ true) ⊎ (is_named (used_name x needed) name ≡ true)) → in_code (used_name x needed) ≡ in_code name
     named (inl empty) = absurd (some (no_letters name (eqb-true (length name) 0 empty)))
     named (inr is) = named_once (used_name x needed) name is
 
     by : ((itself ≡ true) ⊎ (has_name x needed name ≡ true)) → in_code (used_name x needed) ≡ in_code name
-    by (inl same) = absurd (other ((bytes_eq-Decides from resolved.id.now).0 same))
+    by (inl same) = absurd (other ((bytes_eq-Decides asking.id.now resolved.id.now).0 same))
     by (inr has) = named (or_cases (length name == 0) (is_named (used_name x needed) name) has)

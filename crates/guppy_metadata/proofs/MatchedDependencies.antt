@@ -1,5 +1,5 @@
 -- The declared dependencies that were resolved to one, from the first of them on, and its usages.
-use Rattle.std.proofs.Common.{◌≡◌, ◌∙◌, ℕ, Bool, true, false, ◌&&◌, cond, List, [], ◌∷◌, filter, None, Some, IfSome, slice_get, refl, sym, ap, subst}
+use Rattle.std.proofs.Common.{◌≡◌, ◌∙◌, Bool, true, false, ◌&&◌, cond, List, [], ◌∷◌, filter, None, Some, IfSome, slice_get, refl, sym, ap, subst}
 use Rattle.std.specs.List.{list_any}
 use Rattle.std.proofs.lemmas.Option.{none-some}
 use Rattle.std.specs.Prelude.{unwrap_or}
@@ -35,19 +35,19 @@ module _ {A : Type 0} (p : A → Bool) where
     any_alike xs ys same = any_picked xs ∙ (ap (list_any q) same ∙ sym (any_picked ys))
 
 -- usages are matched alike where the same dependencies were resolved so
-matched_alike : (from : List ℕ) (resolved : Resolved) (needed : Package) (xs ys : List Declared) → filter (fits from resolved needed) xs ≡ filter (fits from resolved needed) ys
-    → (usages : List Usage) → are_matched from resolved needed xs usages ≡ are_matched from resolved needed ys usages
-matched_alike from resolved needed xs ys same [] = refl
-matched_alike from resolved needed xs ys same (usage ∷ usages) =
-    ap (λ b. b && are_matched from resolved needed xs usages) (any_alike (fits from resolved needed) (λ x. same_usage x usage) xs ys same)
-    ∙ ap (λ b. is_matched from resolved needed ys usage && b) (matched_alike from resolved needed xs ys same usages)
+matched_alike : (asking : Package) (resolved : Resolved) (needed : Package) (xs ys : List Declared) → filter (fits asking resolved needed) xs ≡ filter (fits asking resolved needed) ys
+    → (usages : List Usage) → are_matched asking resolved needed xs usages ≡ are_matched asking resolved needed ys usages
+matched_alike asking resolved needed xs ys same [] = refl
+matched_alike asking resolved needed xs ys same (usage ∷ usages) =
+    ap (λ b. b && are_matched asking resolved needed xs usages) (any_alike (fits asking resolved needed) (λ x. same_usage x usage) xs ys same)
+    ∙ ap (λ b. is_matched asking resolved needed ys usage && b) (matched_alike asking resolved needed xs ys same usages)
 
 -- the dependencies from the first on that was resolved so
-module _ (from : List ℕ) (resolved : Resolved) (needed : Package) (rest given all : List Declared)
-    (picked : filter (fits from resolved needed) rest ≡ filter (fits from resolved needed) given) (are : given ≡ all) where
-  pub whole : filter (fits from resolved needed) rest ≡ filter (fits from resolved needed) all
-  whole = picked ∙ ap (filter (fits from resolved needed)) are
+module _ (asking : Package) (resolved : Resolved) (needed : Package) (rest given all : List Declared)
+    (picked : filter (fits asking resolved needed) rest ≡ filter (fits asking resolved needed) given) (are : given ≡ all) where
+  pub whole : filter (fits asking resolved needed) rest ≡ filter (fits asking resolved needed) all
+  whole = picked ∙ ap (filter (fits asking resolved needed)) are
 
   -- match the usages that all match
-  pub matched_whole : (usages own : List Usage) → usages ≡ own → are_matched from resolved needed rest usages ≡ are_matched from resolved needed all own
-  matched_whole usages own same = matched_alike from resolved needed rest all whole usages ∙ ap (are_matched from resolved needed all) same
+  pub matched_whole : (usages own : List Usage) → usages ≡ own → are_matched asking resolved needed rest usages ≡ are_matched asking resolved needed all own
+  matched_whole usages own same = matched_alike asking resolved needed rest all whole usages ∙ ap (are_matched asking resolved needed all) same

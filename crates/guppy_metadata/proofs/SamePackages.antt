@@ -18,12 +18,12 @@ use Rattle.guppy_metadata.specs.declared.types.Resolved.{Resolved}
 use Rattle.guppy_metadata.specs.declared.types.Usage.{Usage}
 use Rattle.guppy_metadata.specs.declared.types.Package.{Package}
 use Rattle.guppy_metadata.specs.Dependency.{IsDeclared}
-use Rattle.guppy_metadata.specs.Fits.{used_name, takes, same_usage, is_used, fits, is_matched, are_matched}
+use Rattle.guppy_metadata.specs.Fits.{used_name, takes, same_usage, is_used, suits, are_together, is_alone, fits, is_matched, are_matched}
 use Rattle.guppy_metadata.specs.Gathered.{IsLinkOf}
 use Rattle.guppy_metadata.specs.Links.{IsResolved, IsUnasked, IsAsked, IsLink, AreLinksOf, AreLinksOfList}
 use Rattle.guppy_metadata.specs.Package.{IsTold, AreTold, with_id}
 use Rattle.guppy_metadata.proofs.AlikeDependencies.{IsSame, same_itself, declared_once, link_same}
-use Rattle.guppy_metadata.proofs.AlikeLists.{OptionsFit, each_itself, lists_fit, fits_too, picked_alike, any_passes_alike, all_pass_alike, last_alike}
+use Rattle.guppy_metadata.proofs.AlikeLists.{OptionsFit, each_itself, lists_fit, fits_too, picked_alike, counted_alike, any_passes_alike, all_pass_alike, last_alike}
 use Rattle.guppy_metadata.proofs.Libraries.{library_once}
 use Rattle.guppy_metadata.proofs.OnceTold.{text_once}
 use Rattle.guppy_metadata.proofs.Options.{some_and}
@@ -79,31 +79,39 @@ takes_same req other version same comparators parts =
 usage_same : (x y : Declared) → IsSame x y → (u v : Usage) → UsedAlike u v → same_usage x u ≡ same_usage y v
 usage_same x y same u v alike = rw (same.section, same.target, alike.section, alike.target) refl
 
+together_same : (v w : Declared) → IsSame v w → (x y : Declared) → IsSame x y → are_together v x ≡ are_together w y
+together_same v w one x y other = rw (one.section, one.target, other.section, other.target) refl
+
 -- the same dependencies were resolved so, and have the usages
-module _ (from : List ℕ) (a b : Resolved) (resolved : ResolvedAlike a b) (needed other : Package) (alike : IsAlike needed other) where
+module _ (asking asking_too : Package) (asked : IsAlike asking asking_too) (declared : AllZip IsSame asking.declared.items asking_too.declared.items)
+    (a b : Resolved) (resolved : ResolvedAlike a b) (needed other : Package) (alike : IsAlike needed other) where
   used_name_same : (x y : Declared) → IsSame x y → used_name x needed ≡ used_name y other
   used_name_same x y same = rw (same.rename, same.name, alike.library) refl
 
   used_same : (x y : Declared) → IsSame x y → is_used x a.usages.items ≡ is_used y b.usages.items
   used_same x y same = any_passes_alike UsedAlike (same_usage x) (same_usage y) (usage_same x y same) a.usages.items b.usages.items resolved.usages
 
-  fits_same : (x y : Declared) → IsSame x y → fits from a needed x ≡ fits from b other y
-  fits_same x y same =
-      rw (
-        used_name_same x y same,
-        takes_same x.requirement y.requirement needed.record.version other.record.version same.requirement alike.version,
-        used_same x y same,
-        same.name,
-        alike.name,
-        resolved.id,
-        resolved.name,
-      ) refl
+  suits_same : (x y : Declared) → IsSame x y → suits asking a needed x ≡ suits asking_too b other y
+  suits_same x y same =
+      rw (used_name_same x y same, used_same x y same, same.name, alike.name, asked.id, resolved.id, resolved.name) refl
 
-  matched_same : (xs ys : List Declared) → AllZip IsSame xs ys → are_matched from a needed xs a.usages.items ≡ are_matched from b other ys b.usages.items
-  matched_same xs ys all =
-      all_pass_alike UsedAlike (is_matched from a needed xs) (is_matched from b other ys)
-      (λ u v used. any_passes_alike IsSame (λ x. same_usage x u && fits from a needed x) (λ y. same_usage y v && fits from b other y)
-      (λ x y same. ap (λ p. p && fits from a needed x) (usage_same x y same u v used) ∙ ap (λ p. same_usage y v && p) (fits_same x y same)) xs ys all)
+  alone_same : (x y : Declared) → IsSame x y → is_alone asking a needed x ≡ is_alone asking_too b other y
+  alone_same x y same =
+      ap (λ n. n == 1) (counted_alike IsSame (λ v. are_together v x && suits asking a needed v) (λ w. are_together w y && suits asking_too b other w)
+      (λ v w too. ap (λ t. t && suits asking a needed v) (together_same v w too x y same) ∙ ap (λ s. are_together w y && s) (suits_same v w too))
+      asking.declared.items asking_too.declared.items declared)
+
+  fits_same : (x y : Declared) → IsSame x y → fits asking a needed x ≡ fits asking_too b other y
+  fits_same x y same =
+      ap (λ s. s && (takes x.requirement needed.record.version || is_alone asking a needed x)) (suits_same x y same)
+      ∙ (ap (λ t. suits asking_too b other y && (t || is_alone asking a needed x)) (takes_same x.requirement y.requirement needed.record.version other.record.version same.requirement alike.version)
+      ∙ ap (λ o. suits asking_too b other y && (takes y.requirement other.record.version || o)) (alone_same x y same))
+
+  matched_same : are_matched asking a needed asking.declared.items a.usages.items ≡ are_matched asking_too b other asking_too.declared.items b.usages.items
+  matched_same =
+      all_pass_alike UsedAlike (is_matched asking a needed asking.declared.items) (is_matched asking_too b other asking_too.declared.items)
+      (λ u v used. any_passes_alike IsSame (λ x. same_usage x u && fits asking a needed x) (λ y. same_usage y v && fits asking_too b other y)
+      (λ x y same. ap (λ p. p && fits asking a needed x) (usage_same x y same u v used) ∙ ap (λ p. same_usage y v && p) (fits_same x y same)) asking.declared.items asking_too.declared.items declared)
       a.usages.items b.usages.items resolved.usages
 
 -- no link is asked for by no dependency
@@ -112,33 +120,33 @@ asked_of_none xs r none is = let same : [] ≡ is.first ∷ is.others = sym none
 
 -- a link that the ones ask for is asked for by the others
 asked_same : (asking asking_too needed needed_too : Option Package) → OptionsFit IsAlike asking asking_too → OptionsFit IsAlike needed needed_too
-    → (from : List ℕ) (a b : Resolved) → ResolvedAlike a b → (r : LinkRecord) → IsAsked asking needed from a r → IsAsked asking_too needed_too from b r
-asked_same None None needed needed_too one two from a b alike r asked = subst (λ name. IsUnasked name r) alike.name asked
-asked_same None (Some q) needed needed_too one two from a b alike r asked = absurd one
-asked_same (Some p) None needed needed_too one two from a b alike r asked = absurd one
-asked_same (Some p) (Some q) None None one two from a b alike r asked = subst (λ name. IsUnasked name r) alike.name asked
-asked_same (Some p) (Some q) None (Some m) one two from a b alike r asked = absurd two
-asked_same (Some p) (Some q) (Some n) None one two from a b alike r asked = absurd two
-asked_same (Some p) (Some q) (Some n) (Some m) one two from a b alike r asked = by one.declared
+    → (a b : Resolved) → ResolvedAlike a b → (r : LinkRecord) → IsAsked asking needed a r → IsAsked asking_too needed_too b r
+asked_same None None needed needed_too one two a b alike r asked = subst (λ name. IsUnasked name r) alike.name asked
+asked_same None (Some q) needed needed_too one two a b alike r asked = absurd one
+asked_same (Some p) None needed needed_too one two a b alike r asked = absurd one
+asked_same (Some p) (Some q) None None one two a b alike r asked = subst (λ name. IsUnasked name r) alike.name asked
+asked_same (Some p) (Some q) None (Some m) one two a b alike r asked = absurd two
+asked_same (Some p) (Some q) (Some n) None one two a b alike r asked = absurd two
+asked_same (Some p) (Some q) (Some n) (Some m) one two a b alike r asked = by one.declared
   where
-    by : (AllZip IsSame p.declared.items q.declared.items ⊎ (p.declared.items ≡ [])) → IsAsked (Some q) (Some m) from b r
+    by : (AllZip IsSame p.declared.items q.declared.items ⊎ (p.declared.items ≡ [])) → IsAsked (Some q) (Some m) b r
     by (inl all) = (
-      link_same _ _ r (picked_alike IsSame (fits from a n) (fits from b m) (fits_same from a b alike n m two) p.declared.items q.declared.items all) asked.0,
-      sym (matched_same from a b alike n m two p.declared.items q.declared.items all) ∙ asked.1,
+      link_same _ _ r (picked_alike IsSame (fits p a n) (fits q b m) (fits_same p q one all a b alike n m two) p.declared.items q.declared.items all) asked.0,
+      sym (matched_same p q one all a b alike n m two) ∙ asked.1,
     )
-    by (inr none) = absurd (asked_of_none (filter (fits from a n) p.declared.items) r (ap (filter (fits from a n)) none) asked.0)
+    by (inr none) = absurd (asked_of_none (filter (fits p a n) p.declared.items) r (ap (filter (fits p a n)) none) asked.0)
 
 -- lists of alike packages, place by place
 module _ (packages others : List Package) (all : AllZip IsAlike packages others) where
   -- a link between the ones is asked for by the others, whatever the dependency is read to
   asked_between : (from : List ℕ) (d : Json) (r : LinkRecord) (is : IsLink packages from d r) (resolved : Resolved) → IsResolved d resolved
-      → IsAsked (with_id from others) (with_id resolved.id.now others) from resolved r
+      → IsAsked (with_id from others) (with_id resolved.id.now others) resolved r
   asked_between from d r is resolved resolved_is =
       let alike = resolved_once d is.resolved resolved is.resolved_is resolved_is in
       let needed : OptionsFit IsAlike (with_id is.resolved.id.now packages) (with_id resolved.id.now others) =
       subst (λ id. OptionsFit IsAlike (with_id is.resolved.id.now packages) (with_id id others)) alike.id (with_id_same is.resolved.id.now packages others all) in
       asked_same (with_id from packages) (with_id from others) (with_id is.resolved.id.now packages) (with_id resolved.id.now others)
-      (with_id_same from packages others all) needed from is.resolved resolved alike r is.asked
+      (with_id_same from packages others all) needed is.resolved resolved alike r is.asked
 
   -- it is one between them
   link_between : (from : List ℕ) (d : Json) (r : LinkRecord) → IsLink packages from d r → IsLink others from d r
@@ -167,7 +175,7 @@ module _ (packages others : List Package) (all : AllZip IsAlike packages others)
 
 -- a link is asked for alike whatever its dependency is read to
 pub asked_once : (packages : List Package) (from : List ℕ) (d : Json) (r : LinkRecord) → IsLink packages from d r → (resolved : Resolved) → IsResolved d resolved
-    → IsAsked (with_id from packages) (with_id resolved.id.now packages) from resolved r
+    → IsAsked (with_id from packages) (with_id resolved.id.now packages) resolved r
 asked_once packages from d r is resolved resolved_is = asked_between packages packages (each_itself IsAlike alike_itself packages) from d r is resolved resolved_is
 
 -- what is told of links between packages is told of those between the packages that the same JSON tells

@@ -1,5 +1,5 @@
 -- Which of the declared dependencies were resolved to one.
-use Rattle.std.specs.Prelude.{◌==◌, ◌&&◌, ◌||◌, ℕ, Bool, if◌then◌else◌, List, length, map, option_map, unwrap_or, string_bytes}
+use Rattle.std.specs.Prelude.{◌==◌, ◌&&◌, ◌||◌, ℕ, Bool, if◌then◌else◌, List, filter, length, map, option_map, unwrap_or, string_bytes}
 use Rattle.std.specs.Cmp.Lexicographic.{pointwise}
 use Rattle.std.specs.List.{list_any, list_all}
 use Rattle.std.specs.Option.{option_copied, option_eq}
@@ -48,21 +48,35 @@ same_usage x usage = same_section usage.section x.section && option_eq bytes_eq 
 abbrev pub is_used : Declared → List Usage → Bool
 is_used x usages = list_any (same_usage x) usages
 
--- whether what the package `from` declares was resolved to the package: a dependency of its name, in the code too
--- where it isn't `from` itself, that takes its version and is used
-abbrev pub fits : List ℕ → Resolved → Package → Declared → Bool
-fits from resolved needed x =
+-- whether a dependency that the package `asking` declares is one on the needed package, but for the version: it has its
+-- name, in the code too where it isn't on `asking` itself, and is used
+abbrev pub suits : Package → Resolved → Package → Declared → Bool
+suits asking resolved needed x =
     bytes_eq x.name.now (string_bytes needed.record.name)
-    && (bytes_eq from resolved.id.now || has_name x needed resolved.name.now)
-    && takes x.requirement needed.record.version
+    && (bytes_eq asking.id.now resolved.id.now || has_name x needed resolved.name.now)
     && is_used x resolved.usages.items
 
+-- whether two dependencies are of one section and for the same platforms
+abbrev pub are_together : Declared → Declared → Bool
+are_together x y = same_section x.section y.section && option_eq bytes_eq (option_copied x.target) (option_copied y.target)
+
+-- whether of its section and platforms it alone suits
+abbrev pub is_alone : Package → Resolved → Package → Declared → Bool
+is_alone asking resolved needed x =
+    length (filter (λ y. are_together y x && suits asking resolved needed y) asking.declared.items) == 1
+
+-- whether what the package `asking` declares was resolved to the needed package: it suits, and takes its version or
+-- suits alone
+abbrev pub fits : Package → Resolved → Package → Declared → Bool
+fits asking resolved needed x =
+    suits asking resolved needed x && (takes x.requirement needed.record.version || is_alone asking resolved needed x)
+
 -- whether the usage is that of one of the dependencies that were resolved so
-abbrev pub is_matched : List ℕ → Resolved → Package → List Declared → Usage → Bool
-is_matched from resolved needed declared usage =
-    list_any (λ x. same_usage x usage && fits from resolved needed x) declared
+abbrev pub is_matched : Package → Resolved → Package → List Declared → Usage → Bool
+is_matched asking resolved needed declared usage =
+    list_any (λ x. same_usage x usage && fits asking resolved needed x) declared
 
 -- whether each of these usages is
-abbrev pub are_matched : List ℕ → Resolved → Package → List Declared → List Usage → Bool
-are_matched from resolved needed declared usages =
-    list_all (is_matched from resolved needed declared) usages
+abbrev pub are_matched : Package → Resolved → Package → List Declared → List Usage → Bool
+are_matched asking resolved needed declared usages =
+    list_all (is_matched asking resolved needed declared) usages

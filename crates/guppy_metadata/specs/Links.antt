@@ -53,19 +53,19 @@ pub record IsUnasked (name : List ℕ) (r : LinkRecord) : Type 0 where
 
 -- what asks for the link: of the dependencies that its package declares, those that were resolved to the needed one,
 -- of which each usage has one; none where one of the two is no package
-abbrev pub IsAsked : Option Package → Option Package → List ℕ → Resolved → LinkRecord → Type 0
-IsAsked (Some asking) (Some needed) from resolved r =
-    IsLinkOf (filter (fits from resolved needed) asking.declared.items) r
-    × (are_matched from resolved needed asking.declared.items resolved.usages.items ≡ true)
-IsAsked (Some asking) None from resolved r = IsUnasked resolved.name.now r
-IsAsked None needed from resolved r = IsUnasked resolved.name.now r
+abbrev pub IsAsked : Option Package → Option Package → Resolved → LinkRecord → Type 0
+IsAsked (Some asking) (Some needed) resolved r =
+    IsLinkOf (filter (fits asking resolved needed) asking.declared.items) r
+    × (are_matched asking resolved needed asking.declared.items resolved.usages.items ≡ true)
+IsAsked (Some asking) None resolved r = IsUnasked resolved.name.now r
+IsAsked None needed resolved r = IsUnasked resolved.name.now r
 
 -- the link from this ID that the dependency is
 pub record IsLink (packages : List Package) (from : List ℕ) (d : Json) (r : LinkRecord) : Type 0 where
   pub resolved : Resolved
   pub resolved_is : IsResolved d resolved
   pub joins : Joins from resolved.id.now resolved.name.now r
-  pub asked : IsAsked (with_id from packages) (with_id resolved.id.now packages) from resolved r
+  pub asked : IsAsked (with_id from packages) (with_id resolved.id.now packages) resolved r
 
 -- the links from this ID: one for each dependency of a node, in their order
 abbrev pub AreLinksFrom : List Package → List ℕ → Json → List LinkRecord → Type 0

@@ -1,10 +1,11 @@
 -- What the JSON says of all records.
-use Rattle.std.specs.Prelude.{◌≡◌, ℕ, Bool, true, List, Some}
+use Rattle.std.specs.Prelude.{◌≡◌, ℕ, Bool, true, List, None, Some, IsSomeAnd, codes}
 use Rattle.json.specs.Json.{Json, document}
 use Rattle.guppy_data.specs.declared.records.LinkRecord.{LinkRecord}
 use Rattle.guppy_data.specs.declared.records.PackageRecord.{PackageRecord}
 use Rattle.guppy_data.specs.declared.records.WorkspaceRecord.{WorkspaceRecord}
 use Rattle.guppy_metadata.specs.Links.{AreLinksWith}
+use Rattle.guppy_metadata.specs.Members.{IsObject, present}
 use Rattle.guppy_metadata.specs.Package.{ArePackagesWith}
 use Rattle.guppy_metadata.specs.Workspace.{IsWorkspace}
 
@@ -26,3 +27,7 @@ SaysNoRecordsWith details text = (d : Json) → document text ≡ Some d
 -- the text is no JSON, or says no records
 abbrev pub SaysNoRecords : List ℕ → Type 0
 SaysNoRecords text = SaysNoRecordsWith true text
+
+-- the text is an object that tells nothing of what is resolved
+abbrev pub IsUnresolved : List ℕ → Type 0
+IsUnresolved text = IsSomeAnd (document text) (λ d. IsObject d × (present (codes "resolve") d ≡ None))

@@ -10,7 +10,7 @@ ghost use Rattle.json.specs.Json.{Json, value};
 ghost use Rattle.json.specs.Value.{value_view};
 ghost use Rattle.guppy_metadata.specs.declared.types.Declared.{Declared};
 ghost use Rattle.guppy_metadata.specs.Fault.{LacksMemory, NoneIs};
-ghost use Rattle.guppy_metadata.specs.Fits.{stands_for, is_named, has_name, same_usage, is_used, fits, is_matched, are_matched};
+ghost use Rattle.guppy_metadata.specs.Fits.{stands_for, is_named, has_name, same_usage, is_used, suits, are_together, is_alone, fits, is_matched, are_matched};
 ghost use Rattle.guppy_metadata.specs.Key.{name_key};
 ghost use Rattle.guppy_metadata.specs.Gathered.{status_at, asked_too, asks_for, IsSection, IsGathered, IsNamedAs, IsLinkOf};
 ghost use Rattle.guppy_metadata.specs.Links.{HasTexts, Joins, IsResolved, IsUnasked, IsLink, AreLinksFrom, AreLinksOf, AreLinksOfAll};
@@ -33,11 +33,12 @@ use semver::VersionReq;
 use std::alloc::{AllocError, Global};
 use std::collections::BTreeMap;
 
-// What declared dependencies are held against: a dependency of the package with the ID `from` that was resolved to the
-// needed package.
+// What declared dependencies are held against: a dependency of the package `asking`, which has the ID `from`, that was
+// resolved to the needed package.
 #[derive(Drop)]
 struct Wanted<'w, 'r, 'p> {
     from: &'w str,
+    asking: &'w Package<'p>,
     resolved: &'w Resolved<'r>,
     needed: &'w Package<'p>,
     // the key of the needed package's name
@@ -128,25 +129,50 @@ fn asks_for_name(declared: &Declared<'_>, wanted: &Wanted<'_, '_, '_>) -> bool
     declared.key == wanted.key && declared.name == wanted.needed.record.name.as_str()
 }
 
-// Whether what a package declares is among the dependencies that were resolved to this one. One on itself
-// is resolved with the name of its library, whatever its own is.
+// Whether the dependency is one on the needed package, but for the version. One on the asking package itself is
+// resolved with the name of its library, whatever its own is.
 #[inline(always)]
-fn fits(declared: &Declared<'_>, wanted: &Wanted<'_, '_, '_>) -> bool
-    ensures { result ≡ fits wanted.now.from.now wanted.now.resolved.now wanted.now.needed.now declared.now }
+fn suits(declared: &Declared<'_>, wanted: &Wanted<'_, '_, '_>) -> bool
+    ensures { result ≡ suits wanted.now.asking.now wanted.now.resolved.now wanted.now.needed.now declared.now }
 {
     asks_for_name(declared, wanted)
         && (has_name(declared, wanted.needed, wanted.resolved.name)
-            || wanted.from == wanted.resolved.id)
-        && declared.takes(&wanted.needed.record.version)
+            || wanted.asking.id == wanted.resolved.id)
         && is_used(declared, wanted.resolved.usages.as_slice())
+}
+
+// Whether two dependencies are of one section and for the same platforms.
+fn are_together(one: &Declared<'_>, other: &Declared<'_>) -> bool
+    ensures { result ≡ are_together one.now other.now }
+{
+    one.section == other.section && one.target == other.target
+}
+
+// Whether of its section and platforms the dependency alone suits.
+fn is_alone(declared: &Declared<'_>, wanted: &Wanted<'_, '_, '_>) -> bool
+    ensures { result ≡ is_alone wanted.now.asking.now wanted.now.resolved.now wanted.now.needed.now declared.now }
+{
+    let all = &wanted.asking.declared;
+    let rivals = all.iter().filter(|other| are_together(other, declared) && suits(other, wanted));
+    rivals.count() == 1
+}
+
+// Whether what a package declares is among the dependencies that were resolved to this one. A version that its
+// requirement doesn't take comes from an override of paths or from a registry that says otherwise.
+#[inline(always)]
+fn fits(declared: &Declared<'_>, wanted: &Wanted<'_, '_, '_>) -> bool
+    ensures { result ≡ fits wanted.now.asking.now wanted.now.resolved.now wanted.now.needed.now declared.now }
+{
+    suits(declared, wanted)
+        && (declared.takes(&wanted.needed.record.version) || is_alone(declared, wanted))
 }
 
 // Whether the usage is that of one of the declared dependencies that were resolved so, as the first one was.
 fn is_matched(usage: &Usage<'_>, declared: &[Declared<'_>], wanted: &Wanted<'_, '_, '_>) -> bool
     requires { IfSome (slice_get declared.now 0)
-        (λ first. fits wanted.now.from.now wanted.now.resolved.now wanted.now.needed.now first ≡ true) }
+        (λ first. fits wanted.now.asking.now wanted.now.resolved.now wanted.now.needed.now first ≡ true) }
     ensures { result
-        ≡ is_matched wanted.now.from.now wanted.now.resolved.now wanted.now.needed.now declared.now usage.now }
+        ≡ is_matched wanted.now.asking.now wanted.now.resolved.now wanted.now.needed.now declared.now usage.now }
 {
     for (index, dependency) in declared.iter().enumerate() {
         if is_same_usage(dependency, usage) && (index == 0 || fits(dependency, wanted)) {
@@ -159,9 +185,9 @@ fn is_matched(usage: &Usage<'_>, declared: &[Declared<'_>], wanted: &Wanted<'_, 
 // Whether each usage is.
 fn are_matched(usages: &[Usage<'_>], declared: &[Declared<'_>], wanted: &Wanted<'_, '_, '_>) -> bool
     requires { IfSome (slice_get declared.now 0)
-        (λ first. fits wanted.now.from.now wanted.now.resolved.now wanted.now.needed.now first ≡ true) }
+        (λ first. fits wanted.now.asking.now wanted.now.resolved.now wanted.now.needed.now first ≡ true) }
     ensures { result
-        ≡ are_matched wanted.now.from.now wanted.now.resolved.now wanted.now.needed.now declared.now usages.now }
+        ≡ are_matched wanted.now.asking.now wanted.now.resolved.now wanted.now.needed.now declared.now usages.now }
 {
     for usage in usages {
         if !is_matched(usage, declared, wanted) {
@@ -366,10 +392,10 @@ fn from_first_fitting<'d, 'a>(
     declared: &'d [Declared<'a>],
     wanted: &Wanted<'_, '_, '_>,
 ) -> &'d [Declared<'a>]
-    ensures all { filter (fits wanted.now.from.now wanted.now.resolved.now wanted.now.needed.now) result.now
-        ≡ filter (fits wanted.now.from.now wanted.now.resolved.now wanted.now.needed.now) declared.now }
+    ensures all { filter (fits wanted.now.asking.now wanted.now.resolved.now wanted.now.needed.now) result.now
+        ≡ filter (fits wanted.now.asking.now wanted.now.resolved.now wanted.now.needed.now) declared.now }
     ensures first { IfSome (slice_get result.now 0)
-        (λ first. fits wanted.now.from.now wanted.now.resolved.now wanted.now.needed.now first ≡ true) }
+        (λ first. fits wanted.now.asking.now wanted.now.resolved.now wanted.now.needed.now first ≡ true) }
 {
     for (index, dependency) in declared.iter().enumerate() {
         if fits(dependency, wanted) {
@@ -387,12 +413,13 @@ fn add_fitting(
     wanted: &Wanted<'_, '_, '_>,
 ) -> Result<(), AllocError>
     requires { IfSome (slice_get declared.now 0)
-        (λ first. fits wanted.now.from.now wanted.now.resolved.now wanted.now.needed.now first ≡ true) }
+        (λ first. fits wanted.now.asking.now wanted.now.resolved.now wanted.now.needed.now first ≡ true) }
     ensures joins { (one other name : List ℕ)
         → Joins one other name link.old → Joins one other name link.new }
     ensures named { (first : Declared) → IsNamedAs first link.old → IsNamedAs first link.new }
     ensures gathered { OnOk result (IsGathered [] link.old
-        → IsGathered (filter (fits wanted.now.from.now wanted.now.resolved.now wanted.now.needed.now) declared.now) link.new) }
+        → IsGathered (filter (fits wanted.now.asking.now wanted.now.resolved.now wanted.now.needed.now) declared.now)
+        link.new) }
 {
     for (index, dependency) in declared.iter().enumerate() {
         if index == 0 || fits(dependency, wanted) {
@@ -413,10 +440,11 @@ fn add_named_as(
 ) -> Result<(), AllocError>
     requires first { slice_get declared.now 0 ≡ Some first.now }
     requires fitting { IfSome (slice_get declared.now 0)
-        (λ first. fits wanted.now.from.now wanted.now.resolved.now wanted.now.needed.now first ≡ true) }
+        (λ first. fits wanted.now.asking.now wanted.now.resolved.now wanted.now.needed.now first ≡ true) }
     ensures { OnOk result ((link : LinkRecord) × (links.new.items ≡ links.old.items ++ link ∷ [])
         × Joins wanted.now.from.now wanted.now.resolved.now.id.now wanted.now.resolved.now.name.now link
-        × IsLinkOf (filter (fits wanted.now.from.now wanted.now.resolved.now wanted.now.needed.now) declared.now) link) }
+        × IsLinkOf (filter (fits wanted.now.asking.now wanted.now.resolved.now wanted.now.needed.now) declared.now)
+        link) }
 {
     let requirement = copied_requirement(&first.requirement)?;
     let texts = link_texts(alloc, wanted.from, wanted.resolved, first.dep_name())?;
@@ -435,15 +463,17 @@ fn add_link_between(
 ) -> Result<(), Misfit>
     ensures added { OnOk result ((link : LinkRecord) × (links.new.items ≡ links.old.items ++ link ∷ [])
         × Joins from.now resolved.now.id.now resolved.now.name.now link
-        × IsLinkOf (filter (fits from.now resolved.now needed.now) asking.now.declared.items) link) }
-    ensures matched { OnOk result (are_matched from.now resolved.now needed.now
+        × IsLinkOf (filter (fits asking.now resolved.now needed.now) asking.now.declared.items) link) }
+    ensures matched { OnOk result (are_matched asking.now resolved.now needed.now
         asking.now.declared.items resolved.now.usages.items ≡ true) }
     ensures refused { IfErr result (NoneIs (λ (link : LinkRecord).
-        IsLinkOf (filter (fits from.now resolved.now needed.now) asking.now.declared.items) link
-        × (are_matched from.now resolved.now needed.now asking.now.declared.items resolved.now.usages.items ≡ true))) }
+        IsLinkOf (filter (fits asking.now resolved.now needed.now) asking.now.declared.items) link
+        × (are_matched asking.now resolved.now needed.now asking.now.declared.items resolved.now.usages.items
+        ≡ true))) }
 {
     let wanted = Wanted {
         from,
+        asking,
         resolved,
         needed,
         key: name_key(needed.record.name.as_str()),

@@ -142,12 +142,14 @@ impl<'v, 'a> Object<'v, 'a> {
     ghost use Rattle.serde_json.specs.View.{view};
     ghost use Rattle.guppy_metadata.specs.Fault.{NoneIs, IsRead};
     ghost use Rattle.guppy_metadata.specs.Table.{IsTable};
-    ghost use Rattle.guppy_metadata.specs.Members.{data_of, present, HasNoMembers, IsText, IsTruth, AreTexts};
+    ghost use Rattle.guppy_metadata.specs.Members.{data_of, present, IsObject, HasNoMembers, IsText, IsTruth, AreTexts};
 
     /// The object that a value is.
     pub(crate) fn new(alloc: Global, value: &'v Value<'a>) -> Result<Self, Misfit>
-        ensures { MatchResult result (λ object. data_of object ≡ value_view value.now)
+        ensures told { MatchResult result (λ object. data_of object ≡ value_view value.now)
             (λ _. HasNoMembers (value_view value.now)) }
+        ensures object { MatchResult result (λ _. IsObject (value_view value.now))
+            (λ _. ¬ IsObject (value_view value.now)) }
     {
         match value {
             Value::Object(_) => Ok(Object { alloc, value }),

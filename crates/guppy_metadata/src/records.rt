@@ -1,11 +1,11 @@
 //! All records.
-ghost use Rattle.std.specs.Prelude.{◌≡◌, false, IsSome, IsSomeAnd, IfOk, OnOk, IfErr, None, codes};
+ghost use Rattle.std.specs.Prelude.{◌≡◌, ◌↔◌, false, IsSome, IsSomeAnd, IfOk, OnOk, IfErr, None, codes};
 ghost use Rattle.json.specs.Json.{document};
 ghost use Rattle.guppy_metadata.specs.Fault.{IsNotJson, IsNotResolved, IsOutOfMemory};
 ghost use Rattle.guppy_metadata.specs.Links.{AreLinks, AreLinksWith};
 ghost use Rattle.guppy_metadata.specs.Members.{present};
 ghost use Rattle.guppy_metadata.specs.Package.{ArePackages, ArePackagesWith};
-ghost use Rattle.guppy_metadata.specs.Records.{SaysNoRecords, SaysNoRecordsWith};
+ghost use Rattle.guppy_metadata.specs.Records.{SaysNoRecords, SaysNoRecordsWith, IsUnresolved};
 ghost use Rattle.guppy_metadata.specs.Workspace.{IsWorkspace};
 
 use crate::fault::MetadataFault;
@@ -15,10 +15,10 @@ use std::alloc::Global;
 
 /// The records that the JSON says which `cargo metadata --format-version 1` prints.
 ///
-/// `NotJson` comes where the text is no JSON, and `NotResolved` where the JSON's member `resolve` is absent or null. Any
-/// other fault tells the first place in the JSON, in the order in which it is read, where something is missing,
-/// of another kind or no such text. What the rules of a package graph refuse, as a link's end that is no
-/// package, is left to `IntoGraph::into_graph`.
+/// Given memory, `NotJson` comes exactly where the text is no JSON, and `NotResolved` exactly where it is an object
+/// whose member `resolve` is absent or null. Any other fault tells the first place in the JSON, in the order in which
+/// it is read, where something is missing, of another kind or no such text. What the rules of a package graph refuse,
+/// as a link's end that is no package, is left to `IntoGraph::into_graph`.
 ///
 /// Any error but `OutOfMemory` means that the text says no records: it is no JSON, or no packages, links and
 /// workspace are what the JSON says.
@@ -39,6 +39,10 @@ pub fn records_of(alloc: Global, json: &str) -> Result<Records, MetadataFault>
     ensures no_json { IfErr result (λ fault. IsNotJson fault → document json.now ≡ None) }
     ensures not_resolved { IfErr result (λ fault. IsNotResolved fault
         → IsSomeAnd (document json.now) (λ d. present (codes "resolve") d ≡ None)) }
+    ensures tells_no_json { IfErr result (λ fault. ¬ IsOutOfMemory fault
+        → IsNotJson fault ↔ (document json.now ≡ None)) }
+    ensures tells_unresolved { IfErr result (λ fault. ¬ IsOutOfMemory fault
+        → IsNotResolved fault ↔ IsUnresolved json.now) }
     ensures refused { IfErr result (λ fault. ¬ IsOutOfMemory fault → SaysNoRecords json.now) }
 {
     records_from(alloc, json, true)
@@ -47,8 +51,9 @@ pub fn records_of(alloc: Global, json: &str) -> Result<Records, MetadataFault>
 /// The records without details, in less time and memory: as [`records_of`], but no features, and of a package neither
 /// build targets, authors, license file, categories, keywords, readme, homepage, documentation, metadata, links,
 /// default run, Rust version nor optional dependencies. These are left empty as by `PackageRecord::new`, and not looked
-/// at, but for the targets up to the library, whose name decides which declared dependencies fit. No links, sets, lists,
-/// cycles or platform answers of a graph depend on what is left out, and `verify` accepts each target that JSON tells.
+/// at, but for the targets up to the library, whose name decides which declared dependencies fit. No links, sets, lists
+/// or cycles of a graph depend on what is left out, no platform answer but a feature's (`feature_status`), and `verify`
+/// accepts each target that JSON tells.
 pub fn plain_records_of(alloc: Global, json: &str) -> Result<Records, MetadataFault>
     ensures json { OnOk result (IsSome (document json.now)) }
     ensures packages { IfOk result
@@ -60,6 +65,10 @@ pub fn plain_records_of(alloc: Global, json: &str) -> Result<Records, MetadataFa
     ensures no_json { IfErr result (λ fault. IsNotJson fault → document json.now ≡ None) }
     ensures not_resolved { IfErr result (λ fault. IsNotResolved fault
         → IsSomeAnd (document json.now) (λ d. present (codes "resolve") d ≡ None)) }
+    ensures tells_no_json { IfErr result (λ fault. ¬ IsOutOfMemory fault
+        → IsNotJson fault ↔ (document json.now ≡ None)) }
+    ensures tells_unresolved { IfErr result (λ fault. ¬ IsOutOfMemory fault
+        → IsNotResolved fault ↔ IsUnresolved json.now) }
     ensures refused { IfErr result (λ fault. ¬ IsOutOfMemory fault → SaysNoRecordsWith false json.now) }
 {
     records_from(alloc, json, false)

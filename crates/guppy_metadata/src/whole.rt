@@ -1,5 +1,5 @@
 //! All records, of JSON that is read item by item, or where that gives none, as a whole.
-ghost use Rattle.std.specs.Prelude.{◌≡◌, List, true, Some, IsSome, IsSomeAnd, IfOk, OnOk, IfErr, MatchResult, None, map, codes};
+ghost use Rattle.std.specs.Prelude.{◌≡◌, ◌↔◌, List, true, Some, IsSome, IsSomeAnd, IfOk, OnOk, IfErr, MatchResult, None, map, codes};
 ghost use Rattle.json.specs.Json.{document, array};
 ghost use Rattle.json.specs.Value.{items_of, value_view};
 ghost use Rattle.guppy_data.specs.declared.records.LinkRecord.{LinkRecord};
@@ -9,7 +9,7 @@ ghost use Rattle.guppy_metadata.specs.Fault.{IsNotJson, IsNotResolved, IsOutOfMe
 ghost use Rattle.guppy_metadata.specs.Links.{AreLinksOfAll, nodes_in};
 ghost use Rattle.guppy_metadata.specs.Members.{data_of, present};
 ghost use Rattle.guppy_metadata.specs.Package.{are_known};
-ghost use Rattle.guppy_metadata.specs.Records.{AreRecordsWith, SaysNoRecordsWith};
+ghost use Rattle.guppy_metadata.specs.Records.{AreRecordsWith, SaysNoRecordsWith, IsUnresolved};
 
 use crate::by_item::records_by_item;
 use crate::fault::{MetadataFault, Misfit};
@@ -31,6 +31,7 @@ fn value_of<'a>(
     ensures json { IfOk result (λ value. document json.now ≡ Some (value_view value)) }
     ensures no_json { IfErr result (λ fault. IsNotJson fault → document json.now ≡ None) }
     ensures resolved { IfErr result (λ fault. ¬ IsNotResolved fault) }
+    ensures blamed { IfErr result (λ fault. ¬ IsOutOfMemory fault → IsNotJson fault) }
     ensures refused { IfErr result (λ fault. ¬ IsOutOfMemory fault → document json.now ≡ None) }
 {
     let mut reader = Reader::new(json, scratch)?;
@@ -115,6 +116,10 @@ pub(crate) fn records_from(
     ensures no_json { IfErr result (λ fault. IsNotJson fault → document json.now ≡ None) }
     ensures not_resolved { IfErr result (λ fault. IsNotResolved fault
         → IsSomeAnd (document json.now) (λ d. present (codes "resolve") d ≡ None)) }
+    ensures tells_no_json { IfErr result (λ fault. ¬ IsOutOfMemory fault
+        → IsNotJson fault ↔ (document json.now ≡ None)) }
+    ensures tells_unresolved { IfErr result (λ fault. ¬ IsOutOfMemory fault
+        → IsNotResolved fault ↔ IsUnresolved json.now) }
     ensures refused { IfErr result (λ fault. ¬ IsOutOfMemory fault → SaysNoRecordsWith details json.now) }
 {
     let mut scratch = Scratch::new(alloc);

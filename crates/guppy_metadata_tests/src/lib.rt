@@ -5,6 +5,8 @@
 #[cfg(test)]
 mod callers;
 #[cfg(test)]
+mod overridden;
+#[cfg(test)]
 mod platforms;
 #[cfg(test)]
 mod reading;

@@ -286,7 +286,7 @@ fn tells(rt: &impl Abort, alloc: Global, fault: &MetadataFault, wanted: &str) {
     assert!(rt; told == wanted, "{told} is not {wanted}");
 }
 
-fn is_told(rt: &impl Abort, alloc: Global, json: &str, wanted: &str) {
+pub(super) fn is_told(rt: &impl Abort, alloc: Global, json: &str, wanted: &str) {
     match records_of(alloc, json) {
         Ok(_) => assert!(rt; false, "{wanted} is not told"),
         Err(fault) => tells(rt, alloc, &fault, wanted),

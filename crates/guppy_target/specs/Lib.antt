@@ -4,3 +4,4 @@ pub mod Reading
 pub mod Platform
 pub mod Answer
 pub mod Sections
+pub mod Fault

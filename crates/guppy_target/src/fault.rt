@@ -15,6 +15,11 @@ pub enum PlatformFault {
 }
 
 impl fmt::Display for PlatformFault {
+    ghost use Rattle.std.specs.Prelude.{Some};
+    ghost use Rattle.guppy_target.specs.Fault.{fault_text};
+
+    ghost output = { λ fault. Some (fault_text fault) };
+
     fn fmt<W: fmt::Write>(&self, f: &mut fmt::Formatter<W>) -> fmt::Result {
         match self {
             PlatformFault::NotASetting(before) => {
@@ -24,7 +29,7 @@ impl fmt::Display for PlatformFault {
                     "line {number} is neither a name nor key=\"value\": give the lines that `rustc --print cfg` prints"
                 )
             }
-            PlatformFault::OutOfMemory => write!(f, "out of memory"),
+            PlatformFault::OutOfMemory => f.write_str("out of memory"),
         }
     }
 }

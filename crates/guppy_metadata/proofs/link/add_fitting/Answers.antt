@@ -6,7 +6,7 @@ use Rattle.guppy_metadata.proofs.link.add_fitting.Goals as goal
 
 pub loop-index-preserved : goal.loop-index-preserved
 loop-index-preserved c =
-    let p = fits c.args.wanted.now.from.now c.args.wanted.now.resolved.now c.args.wanted.now.needed.now in
+    let p = fits c.args.wanted.now.asking.now c.args.wanted.now.resolved.now c.args.wanted.now.needed.now in
     let declared = c.args.declared.now in
     let k = c.loop-index.index in
     let item = c.index-declared-index.result in

@@ -8,4 +8,4 @@ use Rattle.guppy_metadata.proofs.link.add_fitting.Given as goal
 abbrev pub invariant-loop-index : goal.invariant-loop-index
 invariant-loop-index l = ((one other name : List ℕ) → Joins one other name l.fn.link → Joins one other name l.link)
     × ((first : Declared) → IsNamedAs first l.fn.link → IsNamedAs first l.link)
-    × (IsGathered [] l.fn.link → IsGathered (filter (fits l.wanted.from.now l.wanted.resolved.now l.wanted.needed.now) (take l.index l.declared)) l.link)
+    × (IsGathered [] l.fn.link → IsGathered (filter (fits l.wanted.asking.now l.wanted.resolved.now l.wanted.needed.now) (take l.index l.declared)) l.link)

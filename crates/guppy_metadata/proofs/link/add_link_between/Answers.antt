@@ -18,10 +18,10 @@ add_named_as-requires-clause-fitting c = c.from_first_fitting-declared.ensures.f
 
 pub returns-in_default-clause-refused : goal.returns-in_default-clause-refused
 returns-in_default-clause-refused c other link asked =
-    let p = fits c.args.from.now c.args.resolved.now c.args.needed.now in
+    let p = fits c.args.asking.now c.args.resolved.now c.args.needed.now in
     let rest = c.from_first_fitting-declared.result.now in
     let same : filter p rest ≡ filter p c.args.asking.now.declared.items =
-    whole c.args.from.now c.args.resolved.now c.args.needed.now rest _ _ c.from_first_fitting-declared.ensures.all c.as_slice.ensures.value in
+    whole c.args.asking.now c.args.resolved.now c.args.needed.now rest _ _ c.from_first_fitting-declared.ensures.all c.as_slice.ensures.value in
     let both : [] ≡ asked.0.first ∷ asked.0.others = sym (none_picked p rest c.in_default.ensures.value) ∙ (same ∙ asked.0.parts) in
     cc
 
@@ -36,11 +36,11 @@ returns-in_err-add_named_as-clause-refused c = failed _ _ _ _ c.from_residual.en
 
 pub returns-clause-added : goal.returns-clause-added
 returns-clause-added c =
-    let p = fits c.args.from.now c.args.resolved.now c.args.needed.now in
+    let p = fits c.args.asking.now c.args.resolved.now c.args.needed.now in
     let rest = c.from_first_fitting-declared.result.now in
     let added = c.in_ok-add_named_as.ensures in
     let same : filter p rest ≡ filter p c.args.asking.now.declared.items =
-    whole c.args.from.now c.args.resolved.now c.args.needed.now rest _ _ c.from_first_fitting-declared.ensures.all c.as_slice.ensures.value in (
+    whole c.args.asking.now c.args.resolved.now c.args.needed.now rest _ _ c.from_first_fitting-declared.ensures.all c.as_slice.ensures.value in (
       added.0,
       added.1,
       added.2,
@@ -49,11 +49,11 @@ returns-clause-added c =
 
 pub returns-clause-matched : goal.returns-clause-matched
 returns-clause-matched c =
-    sym (matched_whole c.args.from.now c.args.resolved.now c.args.needed.now c.from_first_fitting-declared.result.now _ _ c.from_first_fitting-declared.ensures.all c.as_slice.ensures.value
+    sym (matched_whole c.args.asking.now c.args.resolved.now c.args.needed.now c.from_first_fitting-declared.result.now _ _ c.from_first_fitting-declared.ensures.all c.as_slice.ensures.value
     c.as_slice-usages.result.now _ c.as_slice-usages.ensures.value) ∙ sym c.if-not-are_matched.ensures
 
 pub returns-then-not-are_matched-clause-refused : goal.returns-then-not-are_matched-clause-refused
 returns-then-not-are_matched-clause-refused c other link asked =
     false≢true (c.if-not-are_matched.ensures
-    ∙ (matched_whole c.args.from.now c.args.resolved.now c.args.needed.now c.from_first_fitting-declared.result.now _ _ c.from_first_fitting-declared.ensures.all c.as_slice.ensures.value
+    ∙ (matched_whole c.args.asking.now c.args.resolved.now c.args.needed.now c.from_first_fitting-declared.result.now _ _ c.from_first_fitting-declared.ensures.all c.as_slice.ensures.value
     c.as_slice-usages.result.now _ c.as_slice-usages.ensures.value ∙ asked.1))

@@ -23,7 +23,7 @@ returns-in_err-link c = IfOk-from_err _ _ c.from_residual-in_err-link.ensures.0
 pub returns : goal.returns
 returns c =
     let wanted = c.args.wanted.now in
-    let p = fits wanted.from.now wanted.resolved.now wanted.needed.now in
+    let p = fits wanted.asking.now wanted.resolved.now wanted.needed.now in
     let rest = c.args.declared.now in
     let first = c.args.first.now in
     let link = c.add_fitting.new.link in

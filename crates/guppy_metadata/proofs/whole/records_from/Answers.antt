@@ -14,10 +14,10 @@ SaysNone details d = (packages : List PackageRecord) (links : List LinkRecord) (
 
 pub returns-in-Err-clause-refused : goal.returns-in-Err-clause-refused
 returns-in-Err-clause-refused c other d is =
-    let none : SaysNone c.args.details (value_view c.in_ok-value.value) = λ packages links workspace are. none-some _ (sym (c.in-Err.ensures (codes "workspace_root")) ∙ are.workspace_is.root) in
+    let none : SaysNone c.args.details (value_view c.in_ok-value.value) = λ packages links workspace are. none-some _ (sym (c.in-Err.ensures.told (codes "workspace_root")) ∙ are.workspace_is.root) in
     subst (λ o. IfSome o (SaysNone c.args.details)) (sym c.in_ok-value.ensures.json ∙ is) none
 
 pub returns-in_err-records_in-clause-refused : goal.returns-in_err-records_in-clause-refused
 returns-in_err-records_in-clause-refused c =
-    of_error _ _ _ c.from_residual-in_err-records_in.ensures (λ e is other d said. subst (λ o. IfSome o (SaysNone c.args.details)) (ap Some c.in-Ok.ensures ∙ (sym c.in_ok-value.ensures.json ∙ said))
+    of_error _ _ _ c.from_residual-in_err-records_in.ensures (λ e is other d said. subst (λ o. IfSome o (SaysNone c.args.details)) (ap Some c.in-Ok.ensures.told ∙ (sym c.in_ok-value.ensures.json ∙ said))
     (λ packages links workspace are. c.in_err-records_in.ensures (λ lacks. other (is.2 lacks)) (packages, links, workspace) are))
