@@ -79,10 +79,13 @@ returns-in-Err-clause-no_room c is = (
   c.refuse.ensures.no_room is,
   fault_text c.in-Err.fault,
   sym (c.refuse.ensures.len is),
-  inr (kind_of c.in-Err.fault, inr (
-    c.in-Err.fault,
-    subst (λ json. IsMisread c.args.details json c.in-Err.fault) c.in-Ok.ensures.0 c.in-Err.ensures.refused,
-    refl,
-    refl,
-  )),
+  inr (
+    kind_of c.in-Err.fault,
+    inr (
+      c.in-Err.fault,
+      subst (λ json. IsMisread c.args.details json c.in-Err.fault) c.in-Ok.ensures.0 c.in-Err.ensures.refused,
+      refl,
+      refl,
+    ),
+  ),
 )
