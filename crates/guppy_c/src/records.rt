@@ -1,9 +1,9 @@
 //! The records that the JSON says which `cargo metadata` prints, as one text.
-ghost use Rattle.std.specs.Prelude.{◌≡◌, ◌≢◌, ◌<◌, ◌≤◌, ◌⊎◌, ℕ, List, length, take, string_bytes, IsSomeAnd, IfOk, IfErr};
+ghost use Rattle.std.specs.Prelude.{◌≡◌, ◌≢◌, ◌<◌, ◌≤◌, ◌⊎◌, ◌↔◌, ℕ, List, length, take, string_bytes, IsSomeAnd, IsUtf8, IfOk, IfErr};
 ghost use Rattle.json.specs.Json.{document};
 ghost use Rattle.guppy_metadata.specs.Fault.{fault_text};
-ghost use Rattle.guppy_metadata.specs.Records.{AreRecordsWith, SaysNoRecordsWith};
-ghost use Rattle.guppy_c.specs.Records.{AreRecords, AreRefused, IsMisread, IsNoJson, IsUnresolved, kind_of};
+ghost use Rattle.guppy_metadata.specs.Records.{AreRecordsWith, IsUnresolved, SaysNoRecordsWith};
+ghost use Rattle.guppy_c.specs.Records.{AreRecords, AreRefused, IsMisread, IsNoJson, kind_of};
 
 use crate::answer::{Answer, put};
 use guppy_data::Records;
@@ -107,9 +107,11 @@ fn refuse(alloc: Global, fault: &MetadataFault, out: &mut [u8]) -> Answer
 #[unsafe(no_mangle)]
 pub extern "C" fn guppy_records(alloc: Global, json: &[u8], details: bool, out: &mut [u8]) -> Answer
     ensures told { result.status ≡ 0 → AreRecords details json.now (take result.len out.new) }
+    ensures no_json { result.status ≢ 0 → result.status ≢ 2 → result.status ≢ 3
+        → (result.status ≡ 4) ↔ IsNoJson json.now }
+    ensures unresolved { result.status ≢ 0 → result.status ≢ 2 → result.status ≢ 3
+        → (result.status ≡ 5) ↔ (IsUtf8 json.now × IsUnresolved json.now) }
     ensures no_records { result.status ≡ 1 → SaysNoRecordsWith details json.now }
-    ensures no_json { result.status ≡ 4 → IsNoJson json.now }
-    ensures not_resolved { result.status ≡ 5 → IsUnresolved json.now }
     ensures refused { result.status ≢ 0 → result.status ≢ 2 → result.status ≢ 3
         → AreRefused details json.now result.status (take result.len out.new) }
     ensures room { result.status ≢ 2 → result.status ≢ 3 → result.len ≤ length out.new }

@@ -1,18 +1,54 @@
-use Rattle.std.proofs.Common.{◌≡◌, ◌∙◌, sym, subst, refl, inl, inr, codes, arith}
+use Rattle.std.proofs.Common.{◌≡◌, ◌≢◌, ◌∙◌, ℕ, List, Bool, sym, subst, refl, inl, inr, ⊎_elim, codes, arith}
+use Rattle.std.specs.Prelude.{◌↔◌}
+use Rattle.std.specs.Str.{IsUtf8}
 use Rattle.guppy_metadata.specs.declared.fault.MetadataFault.{MetadataFault}
 use Rattle.guppy_metadata.specs.declared.fault.MetadataFault.TheVariants.{NotJson, NotResolved, Missing, WrongKind, BadText, OutOfMemory}
-use Rattle.guppy_metadata.specs.Fault.{IsOutOfMemory, fault_text}
-use Rattle.guppy_c.specs.Records.{IsMisread, kind_of}
+use Rattle.guppy_metadata.specs.Fault.{IsNotJson, IsNotResolved, IsOutOfMemory, fault_text}
+use Rattle.guppy_metadata.specs.Records.{IsUnresolved}
+use Rattle.guppy_c.specs.Records.{IsMisread, IsNoJson, kind_of}
 use Rattle.guppy_c.proofs.records.guppy_records.Goals as goal
 
--- a fault of this status is no want of memory
-not_memory : (fault : MetadataFault) → 1 ≡ kind_of fault → ¬ IsOutOfMemory fault
-not_memory (NotJson line column) is memory = memory
-not_memory NotResolved is memory = memory
-not_memory (Missing place) is memory = memory
-not_memory (WrongKind place wanted) is memory = memory
-not_memory (BadText place why) is memory = memory
-not_memory OutOfMemory is memory = omega (arith, is)
+-- a fault of another status is no want of memory
+not_memory : (fault : MetadataFault) → kind_of fault ≢ 3 → ¬ IsOutOfMemory fault
+not_memory (NotJson line column) other memory = memory
+not_memory NotResolved other memory = memory
+not_memory (Missing place) other memory = memory
+not_memory (WrongKind place wanted) other memory = memory
+not_memory (BadText place why) other memory = memory
+not_memory OutOfMemory other memory = other refl
+
+tells_no_json : (fault : MetadataFault) → (kind_of fault ≡ 4) ↔ IsNotJson fault
+tells_no_json (NotJson line column) = (λ is. tt, λ told. refl)
+tells_no_json NotResolved = (λ is. omega (arith, is), λ told. absurd told)
+tells_no_json (Missing place) = (λ is. omega (arith, is), λ told. absurd told)
+tells_no_json (WrongKind place wanted) = (λ is. omega (arith, is), λ told. absurd told)
+tells_no_json (BadText place why) = (λ is. omega (arith, is), λ told. absurd told)
+tells_no_json OutOfMemory = (λ is. omega (arith, is), λ told. absurd told)
+
+tells_unresolved : (fault : MetadataFault) → (kind_of fault ≡ 5) ↔ IsNotResolved fault
+tells_unresolved (NotJson line column) = (λ is. omega (arith, is), λ told. absurd told)
+tells_unresolved NotResolved = (λ is. tt, λ told. refl)
+tells_unresolved (Missing place) = (λ is. omega (arith, is), λ told. absurd told)
+tells_unresolved (WrongKind place wanted) = (λ is. omega (arith, is), λ told. absurd told)
+tells_unresolved (BadText place why) = (λ is. omega (arith, is), λ told. absurd told)
+tells_unresolved OutOfMemory = (λ is. omega (arith, is), λ told. absurd told)
+
+-- of text that is refused with this status
+module _ (details : Bool) (json : List ℕ) (fault : MetadataFault) (status : ℕ) (text : IsUtf8 json) (misread : IsMisread details json fault) (kind : status ≡ kind_of fault) (other : status ≢ 3) where
+  no_want : ¬ IsOutOfMemory fault
+  no_want = not_memory fault (λ is. other (kind ∙ is))
+
+  exactly_no_json : (status ≡ 4) ↔ IsNoJson json
+  exactly_no_json = (
+    λ is. inr ((misread.no_json no_want).0 ((tells_no_json fault).0 (sym kind ∙ is))),
+    λ none. kind ∙ (tells_no_json fault).1 ((misread.no_json no_want).1 (⊎_elim (λ no_text. absurd (no_text text)) (λ none. none) none)),
+  )
+
+  exactly_unresolved : (status ≡ 5) ↔ (IsUtf8 json × IsUnresolved json)
+  exactly_unresolved = (
+    λ is. (text, (misread.unresolved no_want).0 ((tells_unresolved fault).0 (sym kind ∙ is))),
+    λ has. kind ∙ (tells_unresolved fault).1 ((misread.unresolved no_want).1 has.1),
+  )
 
 pub returns-in_default-clause-no_room : goal.returns-in_default-clause-no_room
 returns-in_default-clause-no_room c is = (
@@ -22,11 +58,21 @@ returns-in_default-clause-no_room c is = (
   inr (4, inl (c.in_default.ensures, refl, refl)),
 )
 
+pub returns-in-Err-clause-no_json : goal.returns-in-Err-clause-no_json
+returns-in-Err-clause-no_json c answered no_room no_memory =
+    let told : IsMisread c.args.details c.args.json.now c.in-Err.fault = subst (λ json. IsMisread c.args.details json c.in-Err.fault) c.in-Ok.ensures.0 c.in-Err.ensures.refused in
+    exactly_no_json c.args.details c.args.json.now c.in-Err.fault c.refuse.result.status c.in-Ok.ensures.1 told (c.refuse.ensures.kind no_room no_memory) no_memory
+
+pub returns-in-Err-clause-unresolved : goal.returns-in-Err-clause-unresolved
+returns-in-Err-clause-unresolved c answered no_room no_memory =
+    let told : IsMisread c.args.details c.args.json.now c.in-Err.fault = subst (λ json. IsMisread c.args.details json c.in-Err.fault) c.in-Ok.ensures.0 c.in-Err.ensures.refused in
+    exactly_unresolved c.args.details c.args.json.now c.in-Err.fault c.refuse.result.status c.in-Ok.ensures.1 told (c.refuse.ensures.kind no_room no_memory) no_memory
+
 pub returns-in-Err-clause-no_records : goal.returns-in-Err-clause-no_records
 returns-in-Err-clause-no_records c is =
     let kind : c.refuse.result.status ≡ kind_of c.in-Err.fault = c.refuse.ensures.kind (omega (arith, is)) (omega (arith, is)) in
     let told : IsMisread c.args.details c.args.json.now c.in-Err.fault = subst (λ json. IsMisread c.args.details json c.in-Err.fault) c.in-Ok.ensures.0 c.in-Err.ensures.refused in
-    told.no_records (not_memory c.in-Err.fault (sym is ∙ kind))
+    told.no_records (not_memory c.in-Err.fault (omega (arith, is, kind)))
 
 pub returns-in-Err-clause-no_room : goal.returns-in-Err-clause-no_room
 returns-in-Err-clause-no_room c is = (
