@@ -2,7 +2,6 @@ pub mod FirstItems
 pub mod Cuts
 pub mod InputLines
 pub mod RecordLines
-pub mod FrontOptions
 pub mod Writes
 pub mod Paths
 pub mod EscapedTexts
