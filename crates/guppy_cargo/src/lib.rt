@@ -14,8 +14,7 @@ mod unknown;
 mod words;
 
 pub use guppy_arguments::{
-    COMMANDS, CargoFault, Names, asked_of, check_command, help_of, laws, options_first, with_cfgs,
-    with_paths,
+    ArgumentsFault, COMMANDS, CargoFault, Names, OPTIONS, asked_of, help_of, laws, program,
 };
 pub use input::Json;
 pub use words::answer_json;
