@@ -117,7 +117,7 @@ asks_for_help() {
 refuses() {
     [ -n "$program" ] || return 1
     for word do
-        [ ! -p "$word" ] && [ ! -c "$word" ] || return 1
+        { [ ! -p "$word" ] && [ ! -c "$word" ]; } || [ "$word" = /dev/null ] || return 1
     done
     "$program" "$@" < /dev/null > /dev/null 2>&1
     [ $? -eq 2 ]
@@ -142,6 +142,8 @@ answer() {
     if [ -n "$revision" ]; then
         [ "${1-}" = affected ] || refuse "--since goes with affected, as in: $name affected --since main"
         take_root
+        # Nothing may have changed.
+        set -- "$@" --paths-from /dev/null
     fi
     ! refuses "$@" || run "$@"
     # Which members a change affects, and in which order they can be published, depends on optional dependencies too.

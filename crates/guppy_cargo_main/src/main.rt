@@ -9,9 +9,11 @@ use std::process::ExitCode;
 
 fn main(rt: HostRuntime) -> ExitCode {
     let args: Result<Vec<String>, CargoFault> = arguments(&rt);
-    if let Ok(words) = &args
-        && let Ok(Some(text)) = help_of(rt.alloc(), words.as_slice())
-    {
+    let help = match &args {
+        Ok(words) => help_of(rt.alloc(), words.as_slice()),
+        Err(_) => Ok(None),
+    };
+    if let Ok(Some(text)) = &help {
         return match print!(rt; "{text}") {
             Ok(()) => ExitCode::from(0),
             Err(_) => {
@@ -26,7 +28,7 @@ fn main(rt: HostRuntime) -> ExitCode {
     let mut errors = IoSink::new(rt.stderr());
     let ending = run_process::<Json, _, _, _, _>(
         rt.alloc(),
-        args,
+        help.map_err(CargoFault::from).and(args),
         &IoFiles(&rt),
         &mut reader,
         &mut writer,
