@@ -268,17 +268,22 @@ impl PackageGraph {
     /// folder holds it, or only that of one at the root, outside of `build.rs`, `src`, `tests`, `examples` and `benches`.
     /// Paths in an ignored folder count for nothing. Paths and folders are relative to the workspace's root.
     ///
-    /// `Refused` has paths with a NUL, which none has. The JSON is read again. Proved.
+    /// `Refused` has paths with a NUL, which none has, and an ignored folder that is the whole workspace. The JSON is read
+    /// again. Proved.
     pub fn affected<'a>(
         &self,
         paths: impl IntoIterator<Item = &'a str>,
         ignored: impl IntoIterator<Item = &'a str>,
     ) -> Result<Vec<PackageMetadata<'_>>, Error> {
         let mut words = vec!["--ids".to_owned(), "affected".to_owned()];
+        words.extend(paths.into_iter().map(|path| format!("./{path}")));
+        // The library refuses to be asked about no path.
+        if words.len() == 2 {
+            return Ok(Vec::new());
+        }
         for folder in ignored {
             words.extend(["--ignore".to_owned(), format!("./{folder}")]);
         }
-        words.extend(paths.into_iter().map(|path| format!("./{path}")));
         let answer = crate::answer(&self.json, words.iter().map(String::as_str))?;
         answer
             .lines()
