@@ -25,6 +25,6 @@ pub use fault::CargoFault;
 pub use help::help_of;
 pub use names::Names;
 pub use nearest::nearest_of;
-pub use table::{COMMANDS, OPTIONS, program};
+pub use table::{COMMANDS, OPTIONS, USAGES};
 pub use told::{ArgumentsFault, asked_of};
 pub use words::arguments_in;

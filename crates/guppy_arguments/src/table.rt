@@ -116,7 +116,7 @@ pub const USAGES: &[(&str, &str, &str)] = &[
     (
         "links",
         "links forward|reverse",
-        "the links from these on, the ends of each on a line",
+        "the links from these roots on, the ends of each on a line",
     ),
     (
         "cycles",
@@ -140,8 +140,8 @@ pub const USAGES: &[(&str, &str, &str)] = &[
     ),
 ];
 
-/// What `guppy-cargo` takes: its options may stand anywhere.
-pub const fn program() -> Program
+// What `guppy-cargo` takes: its options may stand anywhere.
+pub(crate) fn program() -> Program
     ensures { program_shown result ≡ cargo_program }
 {
     Program {

@@ -13,8 +13,6 @@ mod input;
 mod unknown;
 mod words;
 
-pub use guppy_arguments::{
-    ArgumentsFault, COMMANDS, CargoFault, Names, OPTIONS, asked_of, help_of, laws, program,
-};
+pub use guppy_arguments::{ArgumentsFault, CargoFault, Names, asked_of, help_of, laws};
 pub use input::Json;
 pub use words::answer_json;
