@@ -1,4 +1,4 @@
-use Rattle.std.proofs.Common.{◌≡◌, ◌∙◌, ◌++◌, ap, lit<, None, refl, map, string_bytes, filter}
+use Rattle.std.proofs.Common.{◌∙◌, ◌++◌, ap, lit<, None, refl, map, string_bytes, filter}
 use Rattle.std.specs.Prelude.{not}
 use Rattle.std.proofs.lemmas.Iterator.Consumers.{YieldsList-end}
 use Rattle.std.proofs.lemmas.Iterator.Splits.{YieldsList-from_str_split}

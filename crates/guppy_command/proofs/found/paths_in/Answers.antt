@@ -1,5 +1,5 @@
-use Rattle.std.proofs.Common.{◌≡◌, ◌∙◌, ◌∷◌, ◌++◌, [], Err, ℕ, List, Bor, IfErr, IfSome, refl, rules, sym, ap, subst, map, take, ◌+◌, string_bytes}
-use Rattle.std.specs.List.{AllZip, flat_map}
+use Rattle.std.proofs.Common.{◌≡◌, ◌∙◌, ◌∷◌, ◌++◌, [], Err, ℕ, List, Bor, IfErr, IfSome, refl, rules, sym, ap, subst}
+use Rattle.std.specs.List.{flat_map}
 use Rattle.std.proofs.lemmas.Grind.{flat_map-append}
 use Rattle.std.proofs.lemmas.List.{append-nil}
 use Rattle.guppy_command.specs.Asked.{HasPaths, IsOfOne, IsPathsFault}
@@ -25,6 +25,8 @@ loop-file-preserved g c =
     let names = c.args.names.now in
     let none : Bor (List ℕ) = record { ref_ptr = (0, 0); now = [] } in
     let (lists, fit, are) = c.loop-file.invariant in
-    let (bytes, this, more) = c.in_ok-add_list.ensures.ok in
-    (lists ++ bytes ∷ [], fits_with (λ name. name.now) names c.loop-file.file-index _ none c.loop-file-test.true refl (HasPaths has) lists bytes fit this,
-    more ∙ ap (λ front. front ++ paths_of bytes) are ∙ ap (λ last. flat_map paths_of lists ++ last) (sym (append-nil (paths_of bytes))) ∙ sym (flat_map-append paths_of lists (bytes ∷ [])))
+    let (bytes, this, more) = c.in_ok-add_list.ensures.ok in (
+      lists ++ bytes ∷ [],
+      fits_with (λ name. name.now) names c.loop-file.file-index _ none c.loop-file-test.true refl (HasPaths has) lists bytes fit this,
+      more ∙ ap (λ front. front ++ paths_of bytes) are ∙ ap (λ last. flat_map paths_of lists ++ last) (sym (append-nil (paths_of bytes))) ∙ sym (flat_map-append paths_of lists (bytes ∷ [])),
+    )

@@ -1,4 +1,4 @@
-use Rattle.std.proofs.Common.{◌≡◌, ◌∷◌, ◌++◌, [], Err, ℕ, List, Bor, IfErr, IfSome, refl, rules, sym, ap, subst, get_or, map, take, ◌+◌}
+use Rattle.std.proofs.Common.{◌≡◌, [], Err, ℕ, List, Bor, IfErr, IfSome, refl, rules, sym, subst, map, take, ◌+◌}
 use Rattle.std.specs.List.{AllZip}
 use Rattle.guppy_target.specs.Platform.{PlatformData}
 use Rattle.guppy_command.specs.Asked.{IsNamed, IsOfOne, IsPlatformFault}
