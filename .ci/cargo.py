@@ -297,7 +297,7 @@ def try_affected(graph):
     some += [*EVERYONES, ".cargo/config.toml", ".cargo", ".cargo.toml", "elsewhere/x", "base-mor/x"]
     some += ["./Cargo.lock", "./base/x", "/base/x", "../base/x", "", "src/lib.rs", "tests", "build.rs", "src/../x"]
     some += sorted({"/".join(it[:at]) for it in graph.local.values() for at in range(1, len(it) + 1)})
-    for paths in [[], *([it] for it in some), *(graph.random.sample(some, it % 3 + 2) for it in range(STARTS))]:
+    for paths in [*([it] for it in some), *(graph.random.sample(some, it % 3 + 2) for it in range(STARTS))]:
         wanted = graph.tested_with(set().union(*map(graph.touched, paths)))
         answer = graph.ask("affected", *paths)
         yield f"affected {' '.join(paths)}", sorted(wanted), sorted(answer)
