@@ -1,4 +1,7 @@
 pub mod FirstItems
+pub mod ShownItems
+pub mod Asking
+pub mod ReadArguments
 pub mod Cuts
 pub mod InputLines
 pub mod RecordLines

@@ -1,17 +1,18 @@
 -- What arguments ask.
-use Rattle.std.specs.Prelude.{◌≡◌, ℕ, ◌==◌, Bool, true, false, not, ◌&&◌, List, [], ◌∷◌, ◌++◌, length, map, Option, Some, None, Result, Ok, Err, codes, if◌then◌else◌}
+use Rattle.std.specs.Prelude.{◌≡◌, ◌⊎◌, ℕ, Contains, ◌==◌, Bool, true, false, not, ◌&&◌, List, [], ◌∷◌, ◌++◌, length, map, Option, Some, None, Result, Ok, Err, codes, if◌then◌else◌}
 use Rattle.std.specs.List.{AllZip, filter_map, find, flat_map, list_any, zip}
 use Rattle.std.specs.Option.{option_map_or}
 use Rattle.std.specs.Str.{bytes_eq}
+use Rattle.std.specs.Str.Lines.{lines}
 use Rattle.guppy_data.specs.Platform.{Question, OnAny, OnPlatforms}
-use Rattle.guppy_target.specs.Platform.{PlatformData}
+use Rattle.guppy_target.specs.Platform.{PlatformData, IsFirstFault}
 use Rattle.guppy_command.specs.declared.options.Kinds.{Kinds}
 use Rattle.guppy_command.specs.declared.options.Options.{Options}
 use Rattle.guppy_command.specs.declared.table.TheConstants.{KINDS, PLATFORM, CFGS, WORKSPACE, IDS, PUBLISHABLE, IGNORE, PATHS_FROM}
-use Rattle.guppy_command.specs.Arguments.{OptionRow, Program, Argument, option, word, Misread, not_taken, repeated, no_command, unknown_command, bad_words, bad_kinds, lone_platform, all_ignored, no_paths, called, Reads}
+use Rattle.guppy_command.specs.Grammar.{OptionRow, Program, Argument, option, word, Misread, not_taken, repeated, no_command, unknown_command, bad_words, bad_kinds, lone_platform, all_ignored, no_paths, cfgs_failed, bad_cfg, paths_failed, unended_paths, called, Reads}
 use Rattle.guppy_command.specs.Command.{Command, affected, command_of, from_root}
 use Rattle.guppy_command.specs.Options.{kinds_of}
-use Rattle.guppy_command.specs.Paths.{paths_of}
+use Rattle.guppy_command.specs.Paths.{are_ended, paths_of}
 use Rattle.guppy_command.specs.Platforms.{IsPlatform}
 
 -- what is asked of every command, the platforms by their names, each with the file that says what is set there, the
@@ -75,13 +76,18 @@ takes options command name = option_map_or
 abbrev pub may_repeat : List OptionRow → List ℕ → Bool
 may_repeat options name = option_map_or (λ row. row.repeats) (called options name) false
 
--- each option is one that the command takes, and comes again only if it may, or the first that doesn't
-abbrev pub judged : List OptionRow → List ℕ → List Argument → Result (Unit {0}) Misread
-judged options command [] = Ok tt
-judged options command (option name value ∷ given) = if not (takes options command name)
+-- an option is one that the command takes, and comes again behind it only if it may
+abbrev pub judged : List OptionRow → List ℕ → Argument → List Argument → Result (Unit {0}) Misread
+judged options command (option name value) behind = if not (takes options command name)
     then Err (not_taken command name)
-    else (if has name given && not (may_repeat options name) then Err (repeated name) else judged options command given)
-judged options command (word text ∷ given) = judged options command given
+    else (if has name behind && not (may_repeat options name) then Err (repeated name) else Ok tt)
+judged options command (word text) behind = Ok tt
+
+-- each option is so, or why the first isn't
+abbrev pub all_judged : List OptionRow → List ℕ → List Argument → Result (Unit {0}) Misread
+all_judged options command [] = Ok tt
+all_judged options command (argument ∷ behind) =
+    judged options command argument behind >>= λ _. all_judged options command behind
 
 -- the kinds that are named, where any are
 abbrev pub kinds_in : List (List ℕ) → Result (Option Kinds) Misread
@@ -122,9 +128,9 @@ asked_by given command words = if bytes_eq command (codes "affected") then affec
     else option_map_or (λ asked. Ok asked) (command_of (has PUBLISHABLE.now given) command words) (Err (bad_words command))
 
 -- what these arguments ask, or why they ask nothing
-abbrev pub wanted : Program → List Argument → Result Wanted Misread
-wanted p given = command_in p (words_in given) >>= λ found.
-    judged p.options found.0 given >>= λ _.
+abbrev pub wanted_of : Program → List Argument → Result Wanted Misread
+wanted_of p given = command_in p (words_in given) >>= λ found.
+    all_judged p.options found.0 given >>= λ _.
     kinds_in (values_of KINDS.now given) >>= λ kinds.
     platforms_in given >>= λ platforms.
     asked_by given found.0 found.1 >>= λ command.
@@ -166,12 +172,23 @@ module _ (has_bytes : List ℕ → List ℕ → Type 0) where
   pub record Asks (p : Program) (words : List (List ℕ)) (asked : Asked) : Type 0 where
     pub given : List Argument
     pub reads : Reads p words (Ok given)
-    pub wanted : Wanted
-    pub is_wanted : wanted p given ≡ Ok wanted
-    pub is : IsAsked wanted asked
+    pub wants : Wanted
+    pub is_wanted : wanted_of p given ≡ Ok wants
+    pub is : IsAsked wants asked
 
--- the words ask nothing, and why
-pub record IsMisread (p : Program) (words : List (List ℕ)) (misread : Misread) : Type 0 where
-  pub outcome : Result (List Argument) Misread
-  pub reads : Reads p words outcome
-  pub is : (outcome >>= wanted p) ≡ Err misread
+  -- the file that is named can't be read, or has something else
+  abbrev pub IsUnfound : Wanted → Misread → Type 0
+  IsUnfound wanted (cfgs_failed file) = Contains (map (λ named. named.1) wanted.platforms) file
+  IsUnfound wanted (bad_cfg triple before) = (file bytes : List ℕ) × Contains wanted.platforms (triple, file)
+      × has_bytes file bytes × IsFirstFault (lines bytes) before
+  IsUnfound wanted (paths_failed file) = Contains wanted.path_files file
+  IsUnfound wanted (unended_paths file) = Contains wanted.path_files file
+      × ((bytes : List ℕ) × has_bytes file bytes × (are_ended bytes ≡ false))
+  IsUnfound wanted misread = ⊥
+
+  -- the words ask nothing, and why
+  pub record IsMisread (p : Program) (words : List (List ℕ)) (misread : Misread) : Type 0 where
+    pub outcome : Result (List Argument) Misread
+    pub reads : Reads p words outcome
+    pub is : ((outcome >>= wanted_of p) ≡ Err misread)
+        ⊎ ((asks : Wanted) × ((outcome >>= wanted_of p) ≡ Ok asks) × IsUnfound asks misread)

@@ -1,7 +1,7 @@
 pub mod Device
 pub mod Cause
 pub mod Ids
-pub mod Arguments
+pub mod Grammar
 pub mod Platforms
 pub mod Options
 pub mod Command

@@ -1,20 +1,20 @@
 -- Commands, arguments and faults without where they lie in memory.
-use Rattle.std.specs.Prelude.{◌≡◌, ℕ, List, map, Option, Some, None, option_map, is_some, IfSome, Result, Ok, Err}
+use Rattle.std.specs.Prelude.{◌≡◌, Bool, ℕ, List, map, Option, Some, None, option_map, is_some, IfSome, Result, Ok, Err}
 use Rattle.std.specs.Borrow.{Bor}
 use Rattle.std.specs.String.{string_bytes}
 use Rattle.guppy_data.specs.Platform.{question_of}
-use Rattle.guppy_command.specs.declared.arguments.Argument.{Argument as GivenArgument}
-use Rattle.guppy_command.specs.declared.arguments.Argument.TheVariants.{Option as GivenOption, Word}
-use Rattle.guppy_command.specs.declared.arguments.Misread.{Misread as GivenMisread}
-use Rattle.guppy_command.specs.declared.arguments.Misread.TheVariants.{NoOption, NoValue, NeedlessValue, Repeated, NotTaken, NoCommand, UnknownCommand, BadWords, BadKinds, LonePlatform, AllIgnored, NoPaths, OutOfMemory}
-use Rattle.guppy_command.specs.declared.arguments.Program.{Program as GivenProgram}
+use Rattle.guppy_command.specs.declared.grammar.Argument.{Argument as GivenArgument}
+use Rattle.guppy_command.specs.declared.grammar.Argument.TheVariants.{Option as GivenOption, Word}
+use Rattle.guppy_command.specs.declared.grammar.Misread.{Misread as GivenMisread}
+use Rattle.guppy_command.specs.declared.grammar.Misread.TheVariants.{NoOption, NoValue, NeedlessValue, Repeated, NotTaken, NoCommand, UnknownCommand, BadWords, BadKinds, LonePlatform, AllIgnored, NoPaths, CfgsFailed, BadCfg, PathsFailed, UnendedPaths, OutOfMemory}
+use Rattle.guppy_command.specs.declared.grammar.Program.{Program as GivenProgram}
 use Rattle.guppy_command.specs.declared.command.Command.{Command as GivenCommand}
 use Rattle.guppy_command.specs.declared.command.Command.TheVariants.{Reach, Depends, Why, Order, Roots, Links, Cycles, Duplicates, Verify, PublishOrder, Dot, Affected}
 use Rattle.guppy_command.specs.declared.asked.Asked.{Asked as GivenAsked}
 use Rattle.guppy_command.specs.declared.asked.Wanted.{Wanted as GivenWanted}
 use Rattle.guppy_command.specs.declared.fault.Fault.{Fault}
 use Rattle.guppy_command.specs.declared.fault.Fault.TheVariants.{Library, BadArguments, NoWalk, InputFailed, OutputFailed}
-use Rattle.guppy_command.specs.Arguments.{OptionRow, Program, Argument, option, word, Misread, no_option, no_value, needless_value, repeated, not_taken, no_command, unknown_command, bad_words, bad_kinds, lone_platform, all_ignored, no_paths}
+use Rattle.guppy_command.specs.Grammar.{OptionRow, Program, Argument, option, word, Misread, no_option, no_value, needless_value, repeated, not_taken, no_command, unknown_command, bad_words, bad_kinds, lone_platform, all_ignored, no_paths, cfgs_failed, bad_cfg, paths_failed, unended_paths}
 use Rattle.guppy_command.specs.Asked.{Asked, Wanted}
 use Rattle.guppy_command.specs.Cause.{Cause, library, bad_arguments, no_walk, input_failed, output_failed}
 use Rattle.guppy_command.specs.Command.{Command, reach, depends, why, order, roots, links, cycles, duplicates, verify, publish_order, dot, affected}
@@ -84,6 +84,10 @@ misread_shown (BadKinds value) = Some (bad_kinds value.now)
 misread_shown LonePlatform = Some lone_platform
 misread_shown (AllIgnored folder) = Some (all_ignored folder.now)
 misread_shown NoPaths = Some no_paths
+misread_shown (CfgsFailed file) = Some (cfgs_failed file.now)
+misread_shown (BadCfg triple lines) = Some (bad_cfg triple.now lines)
+misread_shown (PathsFailed file) = Some (paths_failed file.now)
+misread_shown (UnendedPaths file) = Some (unended_paths file.now)
 misread_shown OutOfMemory = None
 
 -- P holds of the outcome, unless memory ran out

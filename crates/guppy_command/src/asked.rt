@@ -1,12 +1,12 @@
 //! What arguments ask.
 ghost use Rattle.std.specs.Prelude.{◌≡◌, map, string_bytes, option_map, IfOk};
 ghost use Rattle.std.specs.List.{zip};
-ghost use Rattle.guppy_command.specs.Asked.{word_of, value_for, is_option, words_in, values_of, has, is_among, takes, may_repeat, command_in, judged, kinds_in, platforms_in, options_of, affected_of, asked_by, wanted, is_all};
+ghost use Rattle.guppy_command.specs.Asked.{word_of, value_for, is_option, words_in, values_of, has, is_among, takes, may_repeat, command_in, judged, all_judged, kinds_in, platforms_in, options_of, affected_of, asked_by, wanted_of, is_all};
 ghost use Rattle.guppy_command.specs.Command.{from_root};
 ghost use Rattle.guppy_command.specs.Shown.{argument_shown, row_shown, program_shown, command_shown, wanted_shown, texts, Gives};
 
-use crate::arguments::{Argument, Misread, OptionRow, Program, called};
 use crate::command::{Command, command_of, from_root};
+use crate::grammar::{Argument, Misread, OptionRow, Program, called};
 use crate::options::{Kinds, Options, kinds_of};
 use crate::table::{CFGS, IDS, IGNORE, KINDS, PATHS_FROM, PLATFORM, PUBLISHABLE, WORKSPACE};
 use guppy_data::PlatformSpec;
@@ -103,14 +103,23 @@ fn has(name: &str, given: &[Argument<'_>]) -> bool
     given.iter().any(|argument| is_option(name, argument))
 }
 
+// Whether the text is one of these.
+fn is_among(names: &[&str], text: &str) -> bool
+    ensures { result ≡ is_among (texts names.now) text.now }
+{
+    names.contains(&text)
+}
+
 // Whether the command takes the option.
 fn takes(options: &'static [OptionRow], command: &str, name: &str) -> bool
     ensures { result ≡ takes (map row_shown options.now) command.now name.now }
 {
-    match called(options, name) {
-        None => false,
-        Some((.., None, _)) => true,
-        Some((.., Some(commands), _)) => commands.contains(&command),
+    let Some(row) = called(options, name) else {
+        return false;
+    };
+    match row.3 {
+        Some(commands) => is_among(commands, command),
+        None => true,
     }
 }
 
@@ -135,34 +144,48 @@ fn command_in<'a, 'w>(
     let [word, words @ ..] = words else {
         return Err(Misread::NoCommand);
     };
-    if program.commands.contains(word) {
+    if is_among(program.commands, word) {
         Ok((word, words))
     } else {
         Err(Misread::UnknownCommand(word))
     }
 }
 
-// Whether each option is one that the command takes, and comes again only if it may.
-fn judged<'a>(
+// Whether an option is one that the command takes, and comes again behind it only if it may.
+fn judge<'a>(
+    program: &Program,
+    command: &'a str,
+    argument: &Argument<'a>,
+    behind: &[Argument<'a>],
+) -> Result<(), Misread<'a>>
+    ensures { Gives (λ x. x) (judged (map row_shown program.now.options.now) command.now
+        (argument_shown argument.now) (map argument_shown behind.now)) result }
+{
+    let Argument::Option(name, _) = argument else {
+        return Ok(());
+    };
+    if !takes(program.options, command, name) {
+        return Err(Misread::NotTaken(command, name));
+    }
+    if has(name, behind) && !may_repeat(program.options, name) {
+        return Err(Misread::Repeated(name));
+    }
+    Ok(())
+}
+
+// Whether each option is so.
+fn judge_all<'a>(
     program: &Program,
     command: &'a str,
     given: &[Argument<'a>],
 ) -> Result<(), Misread<'a>>
-    ensures { Gives (λ x. x) (judged (map row_shown program.now.options.now) command.now
+    ensures { Gives (λ x. x) (all_judged (map row_shown program.now.options.now) command.now
         (map argument_shown given.now)) result }
 {
     let mut rest = given;
     while let [argument, behind @ ..] = rest {
+        judge(program, command, argument, behind)?;
         rest = behind;
-        let Argument::Option(name, _) = argument else {
-            continue;
-        };
-        if !takes(program.options, command, name) {
-            return Err(Misread::NotTaken(command, name));
-        }
-        if has(name, rest) && !may_repeat(program.options, name) {
-            return Err(Misread::Repeated(name));
-        }
     }
     Ok(())
 }
@@ -285,17 +308,17 @@ fn asked_by<'a>(
 
 /// What the arguments ask, before the files that they name are read, or why they ask nothing. Takes time linear in them,
 /// times the options, and memory for a reference an argument.
-pub fn wanted<'a>(
+pub fn wanted_of<'a>(
     alloc: Global,
     program: &Program,
     given: &[Argument<'a>],
 ) -> Result<Wanted<'a>, Misread<'a>>
     ensures { Gives wanted_shown
-        (wanted (program_shown program.now) (map argument_shown given.now)) result }
+        (wanted_of (program_shown program.now) (map argument_shown given.now)) result }
 {
     let words = words_in(alloc, given)?;
     let (command, words) = command_in(program, words.as_slice())?;
-    judged(program, command, given)?;
+    judge_all(program, command, given)?;
     let kinds = kinds_in(values_of(alloc, KINDS, given)?.as_slice())?;
     let platforms = platforms_in(alloc, given)?;
     let command = asked_by(alloc, given, command, words)?;

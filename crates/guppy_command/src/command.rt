@@ -1,6 +1,6 @@
 //! The commands.
 ghost use Rattle.std.specs.Prelude.{◌≡◌, option_map, IfOk};
-ghost use Rattle.guppy_command.specs.Command.{command_of, direction_of, lone_direction_of, reach_of, depends_of, why_of, plain_command_of, publish_of, alone, from_root};
+ghost use Rattle.guppy_command.specs.Command.{roots, links, command_of, direction_of, lone_direction_of, reach_of, depends_of, why_of, plain_command_of, publish_of, alone, from_root};
 ghost use Rattle.guppy_command.specs.Shown.{command_shown, texts};
 
 use crate::table::PUBLISHABLE;
@@ -99,6 +99,18 @@ fn why_of<'a>(words: &[&'a str]) -> Option<Command<'a>>
     Some(Command::Why(from, to))
 }
 
+fn roots_of<'a>(words: &[&str]) -> Option<Command<'a>>
+    ensures { option_map command_shown result ≡ option_map roots (lone_direction_of (texts words.now)) }
+{
+    Some(Command::Roots(lone_direction_of(words)?))
+}
+
+fn links_of<'a>(words: &[&str]) -> Option<Command<'a>>
+    ensures { option_map command_shown result ≡ option_map links (lone_direction_of (texts words.now)) }
+{
+    Some(Command::Links(lone_direction_of(words)?))
+}
+
 // The command of this one word.
 fn plain_command_of<'a>(word: &str) -> Option<Command<'a>>
     ensures { option_map command_shown result ≡ plain_command_of word.now }
@@ -160,9 +172,9 @@ pub fn command_of<'a>(
     } else if word == "why" {
         why_of(words)
     } else if word == "roots" {
-        lone_direction_of(words).map(Command::Roots)
+        roots_of(words)
     } else if word == "links" {
-        lone_direction_of(words).map(Command::Links)
+        links_of(words)
     } else if word == "publish-order" {
         publish_of(publishable, words)
     } else if word == "dot" {

@@ -6,7 +6,7 @@
 //! - `fault`: why there is no answer, as far as every program says it;
 //! - `transfer`: reading to the end, and writing all;
 //! - `table`: what options are called;
-//! - `arguments`: arguments, read from front to end: options with their values, and other words;
+//! - `grammar`: arguments, read from front to end: options with their values, and other words;
 //! - `platforms`: which sections of links count on the platforms that are asked about;
 //! - `options`: what is asked of every command: which links count, and how its answer is shown;
 //! - `command`: the commands;
@@ -17,12 +17,12 @@
 //! - `lines`: the records that lines of text say, as `guppy-run` reads them.
 #![tactic(auto)]
 
-pub mod arguments;
 pub mod asked;
 pub mod command;
 pub mod device;
 pub mod fault;
 pub mod files;
+pub mod grammar;
 pub mod lines;
 pub mod options;
 pub mod platforms;
@@ -32,12 +32,12 @@ pub mod quoted;
 pub mod table;
 pub mod transfer;
 
-pub use arguments::{Argument, Misread, OptionRow, Program};
 pub use asked::{Asked, Wanted};
 pub use command::Command;
 pub use device::{DeviceFault, IoSink, IoSource, Sink, Source};
 pub use fault::{Fault, ProgramFault};
 pub use files::{FileFault, Files, NoFiles};
+pub use grammar::{Argument, Misread, OptionRow, Program};
 pub use lines::fault::RunFault;
 pub use lines::input::records_of;
 pub use options::{Kinds, Options};

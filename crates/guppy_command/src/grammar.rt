@@ -1,9 +1,10 @@
 //! Arguments, read from front to end: options, each with its value where it takes one, and other words.
-ghost use Rattle.std.specs.Prelude.{◌≡◌, ◌++◌, map, string_bytes, option_map, OnOk};
-ghost use Rattle.guppy_command.specs.Arguments.{word, is_dashed, name_in, value_in, called, flag_at, valued_at, option_at, Reads};
+ghost use Rattle.std.specs.Prelude.{◌≡◌, ◌≤◌, ◌++◌, length, map, string_bytes, option_map, IfOk, OnOk};
+ghost use Rattle.guppy_command.specs.declared.grammar.Misread.TheVariants.{OutOfMemory};
+ghost use Rattle.guppy_command.specs.Grammar.{word, is_dashed, name_in, value_in, called, flag_at, valued_at, option_at, first_at, goes_on, Reads};
 ghost use Rattle.guppy_command.specs.Shown.{row_shown, program_shown, argument_shown, Gives, Unless};
 
-use std::alloc::{AllocError, Global};
+use std::alloc::{AllocError, AllocFailed, Global};
 
 /// An option: its name, the word for its value where it takes one, whether it may come again, the commands that take
 /// it, where not all do, and its line of help.
@@ -62,16 +63,30 @@ pub enum Misread<'a> {
     AllIgnored(&'a str),
     /// No path is given.
     NoPaths,
+    /// The file with what is set on a platform can't be read.
+    CfgsFailed(&'a str),
+    /// Behind so many lines of the platform's file comes one that doesn't say what is set there.
+    BadCfg(&'a str, usize),
+    /// The file with paths can't be read.
+    PathsFailed(&'a str),
+    /// A path in the file isn't ended by a NUL.
+    UnendedPaths(&'a str),
     /// Memory is wanted.
     OutOfMemory,
 }
 
 impl From<AllocError> for Misread<'_> {
-    ghost use Rattle.std.specs.Prelude.{◌≡◌};
-
     ghost from_gives = { λ _ misread. misread ≡ OutOfMemory };
 
     fn from(_error: AllocError) -> Self {
+        Misread::OutOfMemory
+    }
+}
+
+impl<T: Drop> From<AllocFailed<T>> for Misread<'_> {
+    ghost from_gives = { λ _ misread. misread ≡ OutOfMemory };
+
+    fn from(_error: AllocFailed<T>) -> Self {
         Misread::OutOfMemory
     }
 }
@@ -106,7 +121,8 @@ fn flag_at<'a>(
     text: &'a str,
     words: &'a [String],
 ) -> Result<(Argument<'a>, &'a [String]), Misread<'a>>
-    ensures { Gives (λ first. (argument_shown first.0, map string_bytes first.1.now))
+    ensures short { IfOk result (λ first. length first.1.now ≤ length words.now) }
+    ensures first { Gives (λ first. (argument_shown first.0, map string_bytes first.1.now))
         (flag_at text.now (map string_bytes words.now)) result }
 {
     match parts_of(text) {
@@ -120,7 +136,8 @@ fn valued_at<'a>(
     text: &'a str,
     words: &'a [String],
 ) -> Result<(Argument<'a>, &'a [String]), Misread<'a>>
-    ensures { Gives (λ first. (argument_shown first.0, map string_bytes first.1.now))
+    ensures short { IfOk result (λ first. length first.1.now ≤ length words.now) }
+    ensures first { Gives (λ first. (argument_shown first.0, map string_bytes first.1.now))
         (valued_at text.now (map string_bytes words.now)) result }
 {
     let (name, value) = parts_of(text);
@@ -137,7 +154,8 @@ fn option_at<'a>(
     text: &'a str,
     words: &'a [String],
 ) -> Result<(Argument<'a>, &'a [String]), Misread<'a>>
-    ensures { Gives (λ first. (argument_shown first.0, map string_bytes first.1.now))
+    ensures short { IfOk result (λ first. length first.1.now ≤ length words.now) }
+    ensures first { Gives (λ first. (argument_shown first.0, map string_bytes first.1.now))
         (option_at (map row_shown program.now.options.now) text.now (map string_bytes words.now))
         result }
 {
@@ -147,6 +165,30 @@ fn option_at<'a>(
         Some((_, Some(_), ..)) => valued_at(text, words),
         Some((_, None, ..)) => flag_at(text, words),
     }
+}
+
+// The argument at the front of the words, and the words behind it.
+fn first_at<'a>(
+    program: &Program,
+    text: &'a str,
+    words: &'a [String],
+) -> Result<(Argument<'a>, &'a [String]), Misread<'a>>
+    ensures short { IfOk result (λ first. length first.1.now ≤ length words.now) }
+    ensures first { Gives (λ first. (argument_shown first.0, map string_bytes first.1.now))
+        (first_at (program_shown program.now) text.now (map string_bytes words.now)) result }
+{
+    if is_dashed(text) {
+        option_at(program, text, words)
+    } else {
+        Ok((Argument::Word(text), words))
+    }
+}
+
+// Whether options may stand here or further on.
+fn goes_on(program: &Program, text: &str) -> bool
+    ensures { result ≡ goes_on (program_shown program.now) text.now }
+{
+    is_dashed(text) || program.anywhere
 }
 
 // Adds the words, none of which is an option.
@@ -160,7 +202,7 @@ fn add_words<'a>(given: &mut Vec<Argument<'a>>, words: &'a [String]) -> Result<(
     Ok(())
 }
 
-/// The words as arguments, or the first word that is none. Takes time linear in the words, times the options, and
+/// The words as arguments, or the first that is none, and why. Takes time linear in the words, times the options, and
 /// memory for an argument a word.
 pub fn read<'a>(
     alloc: Global,
@@ -174,17 +216,13 @@ pub fn read<'a>(
     let mut rest = words;
     while let [word, behind @ ..] = rest {
         let text = word.as_str();
-        if is_dashed(text) {
-            let (argument, behind) = option_at(program, text, behind)?;
-            given.push(argument)?;
-            rest = behind;
-        } else if program.anywhere {
-            given.push(Argument::Word(text))?;
-            rest = behind;
-        } else {
+        if !goes_on(program, text) {
             add_words(&mut given, rest)?;
             return Ok(given);
         }
+        let (argument, behind) = first_at(program, text, behind)?;
+        given.push(argument)?;
+        rest = behind;
     }
     Ok(given)
 }

@@ -1,5 +1,5 @@
 -- How arguments read: options, each with its value where it takes one, and other words.
-use Rattle.std.specs.Prelude.{◌≡◌, ℕ, ◌==◌, nat_eq, nat_lt, Bool, true, false, List, [], ◌∷◌, length, map, Option, Some, None, option_map, Result, Ok, Err, codes, if◌then◌else◌}
+use Rattle.std.specs.Prelude.{◌≡◌, ℕ, ◌==◌, nat_eq, nat_lt, Bool, true, false, ◌||◌, List, [], ◌∷◌, ◌++◌, length, map, Option, Some, None, option_map, Result, Ok, Err, codes, if◌then◌else◌}
 use Rattle.std.specs.List.{after_first, before_first, find, position_or_len, starts_with}
 use Rattle.std.specs.Option.{option_map_or}
 use Rattle.std.specs.Str.{bytes_eq}
@@ -26,7 +26,8 @@ pub data Argument : Type 0 where
 -- why arguments ask nothing: no option is called as the word says; the option lacks its value, takes none, comes again,
 -- or is not the command's; there is no command, or none is called so; the words behind the command don't fit it, or the
 -- value no kinds; a platform has no file with what is set there, or a file no platform; the folder to leave out is all;
--- no path is given
+-- no path is given; the file of a platform can't be read, or has a bad line behind so many; a file with paths can't be
+-- read, or one of them isn't ended
 pub data Misread : Type 0 where
   no_option : List ℕ → Misread
   no_value : List ℕ → Misread
@@ -40,6 +41,10 @@ pub data Misread : Type 0 where
   lone_platform : Misread
   all_ignored : List ℕ → Misread
   no_paths : Misread
+  cfgs_failed : List ℕ → Misread
+  bad_cfg : List ℕ → ℕ → Misread
+  paths_failed : List ℕ → Misread
+  unended_paths : List ℕ → Misread
 
 -- the word begins as an option does
 abbrev pub is_dashed : List ℕ → Bool
@@ -78,23 +83,26 @@ abbrev pub option_at : List OptionRow → List ℕ → List (List ℕ) → Resul
 option_at options text words = option_map_or (λ row. if row.takes_value then valued_at text words else flag_at text words)
     (called options (name_in text)) (Err (no_option text))
 
--- an argument before those that are read, or before why they aren't
-abbrev pub before : Argument → Result (List Argument) Misread → Result (List Argument) Misread
-before argument (Ok arguments) = Ok (argument ∷ arguments)
-before argument (Err misread) = Err misread
+-- the argument at the front of the words, and the words behind it
+abbrev pub first_at : Program → List ℕ → List (List ℕ) → Result (Argument × List (List ℕ)) Misread
+first_at p text words = if is_dashed text then option_at p.options text words else Ok (word text, words)
+
+-- options may stand here or further on
+abbrev pub goes_on : Program → List ℕ → Bool
+goes_on p text = is_dashed text || p.anywhere
+
+-- these arguments, before those that are read further on, or before why there are none
+abbrev pub all_before : List Argument → Result (List Argument) Misread → Result (List Argument) Misread
+all_before front (Ok arguments) = Ok (front ++ arguments)
+all_before front (Err misread) = Err misread
 
 -- the words read as these arguments, one after another, or not, and why
 pub data Reads (p : Program) : List (List ℕ) → Result (List Argument) Misread → Type 0 where
   ended : Reads p [] (Ok [])
-  plain : {text : List ℕ} {words : List (List ℕ)} {outcome : Result (List Argument) Misread}
-      → is_dashed text ≡ false → p.anywhere ≡ true → Reads p words outcome
-      → Reads p (text ∷ words) (before (word text) outcome)
-  others : {text : List ℕ} {words : List (List ℕ)}
-      → is_dashed text ≡ false → p.anywhere ≡ false
+  others : {text : List ℕ} {words : List (List ℕ)} → goes_on p text ≡ false
       → Reads p (text ∷ words) (Ok (map word (text ∷ words)))
-  dashed : {text : List ℕ} {words behind : List (List ℕ)} {argument : Argument} {outcome : Result (List Argument) Misread}
-      → is_dashed text ≡ true → option_at p.options text words ≡ Ok (argument, behind) → Reads p behind outcome
-      → Reads p (text ∷ words) (before argument outcome)
+  one : {text : List ℕ} {words behind : List (List ℕ)} {argument : Argument} {outcome : Result (List Argument) Misread}
+      → goes_on p text ≡ true → first_at p text words ≡ Ok (argument, behind) → Reads p behind outcome
+      → Reads p (text ∷ words) (all_before (argument ∷ []) outcome)
   stuck : {text : List ℕ} {words : List (List ℕ)} {misread : Misread}
-      → is_dashed text ≡ true → option_at p.options text words ≡ Err misread
-      → Reads p (text ∷ words) (Err misread)
+      → goes_on p text ≡ true → first_at p text words ≡ Err misread → Reads p (text ∷ words) (Err misread)

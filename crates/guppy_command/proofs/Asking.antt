@@ -1,0 +1,16 @@
+-- What arguments ask, case by case.
+use Rattle.std.proofs.Common.{◌≡◌, refl, ℕ, List, ◌∷◌, Bool, true, false, Option, Some, None, Ok, Err}
+use Rattle.guppy_command.specs.Grammar.{OptionRow, Program, unknown_command, called}
+use Rattle.guppy_command.specs.Asked.{is_among, command_in, takes}
+
+-- a command
+pub known_command : (p : Program) (text : List ℕ) (words : List (List ℕ)) → is_among p.commands text ≡ true → command_in p (text ∷ words) ≡ Ok (text, words)
+known_command p text words known = rw known refl
+
+-- another word in its place
+pub no_such_command : (p : Program) (text : List ℕ) (words : List (List ℕ)) → is_among p.commands text ≡ false → command_in p (text ∷ words) ≡ Err (unknown_command text)
+no_such_command p text words unknown = rw unknown refl
+
+-- an option that some commands take
+pub takes_among : (options : List OptionRow) (command name : List ℕ) (row : OptionRow) (commands : List (List ℕ)) → called options name ≡ Some row → row.commands ≡ Some commands → is_among commands command ≡ takes options command name
+takes_among options command name row commands is some = rw (is, some) refl
