@@ -1,5 +1,5 @@
 -- What `guppy-run` is asked, and the lines of an input, as it reads them.
-use Rattle.std.specs.Prelude.{◌≡◌, ℕ, List, [], ◌∷◌, false, map, if◌then◌else◌}
+use Rattle.std.specs.Prelude.{◌≡◌, ℕ, List, [], ◌∷◌, None, false, is_some, map, if◌then◌else◌}
 use Rattle.guppy_data.specs.declared.records.PackageRecord.{PackageRecord}
 use Rattle.guppy_data.specs.declared.records.LinkRecord.{LinkRecord}
 use Rattle.guppy_data.specs.declared.records.WorkspaceRecord.{WorkspaceRecord}
@@ -9,7 +9,6 @@ use Rattle.guppy_command.specs.declared.lines.fault.RunFault.TheVariants.{BadArg
 use Rattle.guppy_command.specs.Asked.{Asks, IsMisread}
 use Rattle.guppy_command.specs.Grammar.{Program, Misread}
 use Rattle.guppy_command.specs.Ids.{has_id}
-use Rattle.guppy_command.specs.Shown.{row_shown, texts}
 use Rattle.guppy_program.specs.declared.lines.TheConstants.{OPTIONS, COMMANDS}
 use Rattle.guppy_program.specs.Format.{Format}
 use Rattle.guppy_command.specs.Text.{IsAllGood, IsFirstBadLine, statements_of}
@@ -30,12 +29,17 @@ TellsBadLine input _ = ⊥
 abbrev pub meant_by_id : List PackageRecord → List ℕ → List (List ℕ)
 meant_by_id packages word = if has_id word packages then word ∷ [] else []
 
--- the options of every command, in front of it
+-- the options, which stand in front of a command, and the commands, which take all of them
 abbrev pub lines_program : Program
 lines_program = record {
-  options = map row_shown OPTIONS;
+  options = map (λ row. record {
+    name = row.0.now;
+    takes_value = is_some row.1;
+    repeats = row.2;
+    commands = None;
+  }) OPTIONS.now;
   anywhere = false;
-  commands = texts COMMANDS;
+  commands = map (λ name. name.now) COMMANDS.now;
 }
 
 -- the arguments ask nothing, and are blamed for it

@@ -10,17 +10,17 @@ ghost use Rattle.guppy_program.specs.Run.{IsRun};
 use crate::format::{Format, has_package};
 use crate::program::run_of;
 use guppy::{Error, PackageGraph, PackageId};
+use guppy_command::found::asked_of;
 use guppy_command::lines::records::id_of;
 use guppy_command::table::{CFGS, IDS, KINDS, PLATFORM, WORKSPACE};
 use guppy_command::{
-    Asked, Files, Misread, NoFiles, OptionRow, Program, RunFault, Sink, Source, asked_of,
-    records_of,
+    Asked, Files, Misread, NoFiles, OptionRow, Program, RunFault, Sink, Source, records_of,
 };
 use guppy_data::{PackageRecord, Records};
 use std::alloc::{AllocError, Global};
 
 // What stands in front of a command. There is no help.
-const OPTIONS: [OptionRow; 5] = [
+const OPTIONS: &[OptionRow] = &[
     (KINDS, Some("KINDS"), false, None, ""),
     (PLATFORM, Some("TRIPLE"), true, None, ""),
     (CFGS, Some("FILE"), true, None, ""),
@@ -28,7 +28,7 @@ const OPTIONS: [OptionRow; 5] = [
     (IDS, None, false, None, ""),
 ];
 
-const COMMANDS: [&str; 11] = [
+const COMMANDS: &[&str] = &[
     "reach",
     "depends",
     "why",
@@ -42,11 +42,15 @@ const COMMANDS: [&str; 11] = [
     "dot",
 ];
 
-const PROGRAM: Program = Program {
-    options: &OPTIONS,
-    anywhere: false,
-    commands: &COMMANDS,
-};
+fn program() -> Program
+    ensures { program_shown result ≡ lines_program }
+{
+    Program {
+        options: OPTIONS,
+        anywhere: false,
+        commands: COMMANDS,
+    }
+}
 
 // What is told where arguments ask nothing.
 fn fault_of(misread: Misread<'_>) -> RunFault
@@ -77,7 +81,7 @@ impl Format for Lines {
         args: &'a [String],
         files: &D,
     ) -> Result<Asked<'a>, RunFault> {
-        match asked_of(alloc, &PROGRAM, args, files) {
+        match asked_of(alloc, &program(), args, files) {
             Ok(asked) => Ok(asked),
             Err(misread) => Err(fault_of(misread)),
         }
