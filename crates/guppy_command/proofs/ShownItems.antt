@@ -1,6 +1,6 @@
 -- What is found among items, by what they are seen as.
-use Rattle.std.proofs.Common.{◌≡◌, refl, List, [], ◌∷◌, Bool, true, false, inl, inr, map, option_map, Option, Some, None, IfSome}
-use Rattle.std.specs.List.{find}
+use Rattle.std.proofs.Common.{◌≡◌, refl, ap, List, [], ◌∷◌, Bool, true, false, inl, inr, map, option_map, Option, Some, None, IfSome}
+use Rattle.std.specs.List.{find, zip}
 use Rattle.std.proofs.lemmas.Bool.{cases_Bool}
 
 pub find-map : {A B : Type 0} (test : B → Bool) (seen : A → B) (xs : List A) → find test (map seen xs) ≡ option_map seen (find (λ x. test (seen x)) xs)
@@ -18,3 +18,9 @@ option_map-twice f g (Some x) = refl
 pub IfSome-from : {A : Type 0} (o : Option A) (P Q : A → Type 0) → IfSome o P → ((x : A) → P x → Q x) → IfSome o Q
 IfSome-from None P Q holds from = tt
 IfSome-from (Some x) P Q holds from = from x holds
+
+-- pairs of what items are seen as
+pub zip-map : {A B C D : Type 0} (f : A → B) (g : C → D) (xs : List A) (ys : List C) → map {B = B × D} (λ pair. (f pair.0, g pair.1)) (zip xs ys) ≡ zip (map f xs) (map g ys)
+zip-map f g [] ys = refl
+zip-map f g (x ∷ xs) [] = refl
+zip-map f g (x ∷ xs) (y ∷ ys) = ap (λ pairs. (f x, g y) ∷ pairs) (zip-map f g xs ys)

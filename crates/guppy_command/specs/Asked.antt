@@ -1,5 +1,5 @@
 -- What arguments ask.
-use Rattle.std.specs.Prelude.{◌≡◌, ◌⊎◌, ℕ, Contains, ◌==◌, Bool, true, false, not, ◌&&◌, List, [], ◌∷◌, ◌++◌, length, map, Option, Some, None, Result, Ok, Err, codes, if◌then◌else◌}
+use Rattle.std.specs.Prelude.{◌≡◌, ◌⊎◌, ℕ, Contains, ◌==◌, Bool, true, false, not, ◌&&◌, ◌||◌, List, [], ◌∷◌, ◌++◌, length, map, Option, Some, None, Result, Ok, Err, codes, if◌then◌else◌}
 use Rattle.std.specs.List.{AllZip, filter_map, find, flat_map, list_any, zip}
 use Rattle.std.specs.Option.{option_map_or}
 use Rattle.std.specs.Str.{bytes_eq}
@@ -100,12 +100,12 @@ platforms_in given = if length (values_of PLATFORM.now given) == length (values_
     then Ok (zip (values_of PLATFORM.now given) (values_of CFGS.now given)) else Err lone_platform
 
 -- how an answer is shown, and of which links
-abbrev pub options_of : Option Kinds → List Argument → Options
-options_of kinds given = record {
+abbrev pub options_in : List Argument → Result Options Misread
+options_in given = kinds_in (values_of KINDS.now given) >>= λ kinds. Ok (record {
   kinds = kinds;
   members_alone = has WORKSPACE.now given;
   by_id = has IDS.now given;
-}
+})
 
 -- there are none
 abbrev pub no_words : List (List ℕ) → Bool
@@ -116,9 +116,13 @@ no_words (text ∷ words) = false
 abbrev pub is_all : List ℕ → Bool
 is_all folder = is_among ([] ∷ codes "." ∷ []) (from_root folder)
 
+-- paths are given, or files that have some
+abbrev pub has_paths : List Argument → List (List ℕ) → Bool
+has_paths given paths = not (no_words paths) || has PATHS_FROM.now given
+
 -- the members that changes at these paths affect, with folders to leave out
 abbrev pub affected_of : List Argument → List (List ℕ) → Result Command Misread
-affected_of given paths = if no_words paths && not (has PATHS_FROM.now given) then Err no_paths
+affected_of given paths = if not (has_paths given paths) then Err no_paths
     else option_map_or (λ folder. Err (all_ignored folder)) (find is_all (values_of IGNORE.now given))
     (Ok (affected (map from_root (values_of IGNORE.now given)) (map from_root paths)))
 
@@ -131,11 +135,11 @@ asked_by given command words = if bytes_eq command (codes "affected") then affec
 abbrev pub wanted_of : Program → List Argument → Result Wanted Misread
 wanted_of p given = command_in p (words_in given) >>= λ found.
     all_judged p.options found.0 given >>= λ _.
-    kinds_in (values_of KINDS.now given) >>= λ kinds.
+    options_in given >>= λ options.
     platforms_in given >>= λ platforms.
     asked_by given found.0 found.1 >>= λ command.
     Ok (record {
-      options = options_of kinds given;
+      options = options;
       platforms = platforms;
       command = command;
       path_files = values_of PATHS_FROM.now given;
@@ -151,12 +155,21 @@ abbrev pub with_paths : List (List ℕ) → Command → Command
 with_paths more (affected ignored paths) = affected ignored (paths ++ more)
 with_paths more command = command
 
+-- P holds of one of these, and of this
+abbrev pub IsOfOne : {A B : Type 0} → (A → B → Type 0) → List A → B → Type 0
+IsOfOne {A = A} P xs y = (x : A) × Contains xs x × P x y
+
 module _ (has_bytes : List ℕ → List ℕ → Type 0) where
   -- the platform is the one of this name, and set there is what the file says
   pub record IsNamed (named : List ℕ × List ℕ) (platform : PlatformData) : Type 0 where
     pub bytes : List ℕ
     pub read : has_bytes named.1 bytes
     pub is : IsPlatform named.0 bytes platform
+
+  -- the file has these bytes, and each path in them is ended
+  pub record HasPaths (file bytes : List ℕ) : Type 0 where
+    pub read : has_bytes file bytes
+    pub ended : are_ended bytes ≡ true
 
   -- it is what is wanted, with what the files have
   pub record IsAsked (wanted : Wanted) (asked : Asked) : Type 0 where
@@ -165,8 +178,27 @@ module _ (has_bytes : List ℕ → List ℕ → Type 0) where
     pub named : AllZip IsNamed wanted.platforms platforms
     pub question : asked.question ≡ question_on platforms
     pub lists : List (List ℕ)
-    pub read : AllZip has_bytes wanted.path_files lists
+    pub read : AllZip HasPaths wanted.path_files lists
     pub command : asked.command ≡ with_paths (flat_map paths_of lists) wanted.command
+
+  -- the platform's file can't be read, or has a line that doesn't say what is set there
+  abbrev pub IsPlatformFault : List ℕ × List ℕ → Misread → Type 0
+  IsPlatformFault named (cfgs_failed file) = file ≡ named.1
+  IsPlatformFault named (bad_cfg triple before) = (triple ≡ named.0)
+      × ((bytes : List ℕ) × has_bytes named.1 bytes × IsFirstFault (lines bytes) before)
+  IsPlatformFault named misread = ⊥
+
+  -- the file with paths can't be read, or has one that isn't ended
+  abbrev pub IsPathsFault : List ℕ → Misread → Type 0
+  IsPathsFault file (paths_failed other) = other ≡ file
+  IsPathsFault file (unended_paths other) = (other ≡ file)
+      × ((bytes : List ℕ) × has_bytes file bytes × (are_ended bytes ≡ false))
+  IsPathsFault file misread = ⊥
+
+  -- why a file that is named doesn't have what is wanted
+  abbrev pub IsUnfound : Wanted → Misread → Type 0
+  IsUnfound wanted misread = IsOfOne IsPlatformFault wanted.platforms misread
+      ⊎ IsOfOne IsPathsFault wanted.path_files misread
 
   -- the words ask this, of which the files that they name have some
   pub record Asks (p : Program) (words : List (List ℕ)) (asked : Asked) : Type 0 where
@@ -176,19 +208,9 @@ module _ (has_bytes : List ℕ → List ℕ → Type 0) where
     pub is_wanted : wanted_of p given ≡ Ok wants
     pub is : IsAsked wants asked
 
-  -- the file that is named can't be read, or has something else
-  abbrev pub IsUnfound : Wanted → Misread → Type 0
-  IsUnfound wanted (cfgs_failed file) = Contains (map (λ named. named.1) wanted.platforms) file
-  IsUnfound wanted (bad_cfg triple before) = (file bytes : List ℕ) × Contains wanted.platforms (triple, file)
-      × has_bytes file bytes × IsFirstFault (lines bytes) before
-  IsUnfound wanted (paths_failed file) = Contains wanted.path_files file
-  IsUnfound wanted (unended_paths file) = Contains wanted.path_files file
-      × ((bytes : List ℕ) × has_bytes file bytes × (are_ended bytes ≡ false))
-  IsUnfound wanted misread = ⊥
-
   -- the words ask nothing, and why
   pub record IsMisread (p : Program) (words : List (List ℕ)) (misread : Misread) : Type 0 where
     pub outcome : Result (List Argument) Misread
     pub reads : Reads p words outcome
     pub is : ((outcome >>= wanted_of p) ≡ Err misread)
-        ⊎ ((asks : Wanted) × ((outcome >>= wanted_of p) ≡ Ok asks) × IsUnfound asks misread)
+        ⊎ ((wants : Wanted) × ((outcome >>= wanted_of p) ≡ Ok wants) × IsUnfound wants misread)

@@ -1,7 +1,7 @@
 //! What arguments ask.
 ghost use Rattle.std.specs.Prelude.{◌≡◌, map, string_bytes, option_map, IfOk};
-ghost use Rattle.std.specs.List.{zip};
-ghost use Rattle.guppy_command.specs.Asked.{word_of, value_for, is_option, words_in, values_of, has, is_among, takes, may_repeat, command_in, judged, all_judged, kinds_in, platforms_in, options_of, affected_of, asked_by, wanted_of, is_all};
+ghost use Rattle.std.specs.List.{find, zip};
+ghost use Rattle.guppy_command.specs.Asked.{word_of, value_for, is_option, words_in, values_of, has, is_among, takes, may_repeat, command_in, judged, all_judged, kinds_in, platforms_in, options_in, has_paths, affected_of, asked_by, wanted_of, is_all};
 ghost use Rattle.guppy_command.specs.Command.{from_root};
 ghost use Rattle.guppy_command.specs.Shown.{argument_shown, row_shown, program_shown, command_shown, wanted_shown, texts, Gives};
 
@@ -213,7 +213,7 @@ fn paired<'a>(
         ≡ zip (texts firsts.now) (texts seconds.now)) }
 {
     let mut pairs = Vec::new(alloc);
-    for (first, second) in firsts.iter().zip(seconds) {
+    for (first, second) in firsts.iter().zip(seconds.iter()) {
         pairs.push((*first, *second))?;
     }
     Ok(pairs)
@@ -237,14 +237,15 @@ fn platforms_in<'a>(
 }
 
 // How an answer is shown, and of which links.
-fn options_of(kinds: Option<Kinds>, given: &[Argument<'_>]) -> Options
-    ensures { result ≡ options_of kinds (map argument_shown given.now) }
+fn options_in<'a>(alloc: Global, given: &[Argument<'a>]) -> Result<Options, Misread<'a>>
+    ensures { Gives (λ options. options) (options_in (map argument_shown given.now)) result }
 {
-    Options {
-        kinds,
+    let kinds = values_of(alloc, KINDS, given)?;
+    Ok(Options {
+        kinds: kinds_in(kinds.as_slice())?,
         members_alone: has(WORKSPACE, given),
         by_id: has(IDS, given),
-    }
+    })
 }
 
 // Whether the folder is the whole workspace.
@@ -266,6 +267,20 @@ fn from_roots(alloc: Global, paths: &[&str]) -> Result<Vec<String>, AllocError>
     Ok(copies)
 }
 
+// The first of the folders that is the whole workspace.
+fn first_all<'a>(folders: &[&'a str]) -> Option<&'a str>
+    ensures { option_map (λ folder. folder.now) result ≡ find is_all (texts folders.now) }
+{
+    folders.iter().find(|folder| is_all(folder)).copied()
+}
+
+// Whether paths are given, or files that have some.
+fn has_paths(given: &[Argument<'_>], paths: &[&str]) -> bool
+    ensures { result ≡ has_paths (map argument_shown given.now) (texts paths.now) }
+{
+    !paths.is_empty() || has(PATHS_FROM, given)
+}
+
 // The members that changes at these paths affect, with folders to leave out.
 fn affected_of<'a>(
     alloc: Global,
@@ -274,17 +289,17 @@ fn affected_of<'a>(
 ) -> Result<Command<'a>, Misread<'a>>
     ensures { Gives command_shown (affected_of (map argument_shown given.now) (texts paths.now)) result }
 {
-    if paths.is_empty() && !has(PATHS_FROM, given) {
+    if !has_paths(given, paths) {
         return Err(Misread::NoPaths);
     }
     let folders = values_of(alloc, IGNORE, given)?;
-    match folders.iter().find(|folder| is_all(folder)) {
-        Some(folder) => Err(Misread::AllIgnored(folder)),
-        None => Ok(Command::Affected {
-            ignored: from_roots(alloc, folders.as_slice())?,
-            paths: from_roots(alloc, paths)?,
-        }),
+    if let Some(folder) = first_all(folders.as_slice()) {
+        return Err(Misread::AllIgnored(folder));
     }
+    Ok(Command::Affected {
+        ignored: from_roots(alloc, folders.as_slice())?,
+        paths: from_roots(alloc, paths)?,
+    })
 }
 
 // What the command asks with these words behind it.
@@ -319,11 +334,11 @@ pub fn wanted_of<'a>(
     let words = words_in(alloc, given)?;
     let (command, words) = command_in(program, words.as_slice())?;
     judge_all(program, command, given)?;
-    let kinds = kinds_in(values_of(alloc, KINDS, given)?.as_slice())?;
+    let options = options_in(alloc, given)?;
     let platforms = platforms_in(alloc, given)?;
     let command = asked_by(alloc, given, command, words)?;
     Ok(Wanted {
-        options: options_of(kinds, given),
+        options,
         platforms,
         command,
         path_files: values_of(alloc, PATHS_FROM, given)?,

@@ -11,7 +11,7 @@
 //! - `options`: what is asked of every command: which links count, and how its answer is shown;
 //! - `command`: the commands;
 //! - `asked`: what arguments ask;
-//! - `files`: the files that arguments name;
+//! - `files`: the files that arguments name; `found`: what arguments ask, with what these have;
 //! - `process`: what a process is given, and how it ends;
 //! - `print` and `quoted`: lines, and texts in quotation marks, of which answers are printed;
 //! - `lines`: the records that lines of text say, as `guppy-run` reads them.
@@ -22,6 +22,7 @@ pub mod command;
 pub mod device;
 pub mod fault;
 pub mod files;
+pub mod found;
 pub mod grammar;
 pub mod lines;
 pub mod options;
