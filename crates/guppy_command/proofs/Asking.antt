@@ -1,5 +1,5 @@
 -- What arguments ask, case by case.
-use Rattle.std.proofs.Common.{◌≡◌, refl, ℕ, List, ◌∷◌, Bool, true, false, Option, Some, None, Ok, Err}
+use Rattle.std.proofs.Common.{◌≡◌, refl, ℕ, List, ◌∷◌, true, false, Option, Some, Ok, Err}
 use Rattle.guppy_command.specs.Grammar.{OptionRow, Program, Argument, option, repeated, unknown_command, called}
 use Rattle.guppy_command.specs.Asked.{is_among, command_in, has, judged, may_repeat, takes}
 

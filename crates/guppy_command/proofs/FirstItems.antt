@@ -1,8 +1,8 @@
 -- The first items of a list, and the next one.
-use Rattle.std.proofs.Common.{◌≡◌, ◌∙◌, sym, ap, ℕ, ◌+◌, ◌-◌, ◌<◌, ◌≤◌, List, [], ◌∷◌, ◌++◌, Option, length, map, take, drop, get_or, append_assoc, refl, arith}
+use Rattle.std.proofs.Common.{◌≡◌, ◌∙◌, sym, ap, subst, Contains, ℕ, ◌+◌, ◌-◌, ◌<◌, ◌≤◌, List, [], ◌∷◌, ◌++◌, Option, length, map, take, drop, get_or, append_assoc, refl, arith}
 use Rattle.std.specs.List.{AllZip, cons_option, filter_map}
 use Rattle.std.proofs.lemmas.Grind.{common_steps}
-use Rattle.std.proofs.lemmas.List.Elements.{filter_map-append}
+use Rattle.std.proofs.lemmas.List.Elements.{Contains-append_right, filter_map-append}
 use Rattle.std.proofs.lemmas.List.{map_push, map-append, take_more, take-append-drop}
 use Rattle.indexmap.proofs.SetLemmas.{AllZip-push}
 
@@ -22,6 +22,10 @@ module _ {A B : Type 0} (seen : A → B) (items : List A) (k : ℕ) (item other 
   -- what fits them, and what fits it
   pub fits_with : {C : Type 0} (R : B → C → Type 0) (ys : List C) (y : C) → AllZip R (map seen (take k items)) ys → R (seen item) y → AllZip R (map seen (take (k + 1) items)) (ys ++ y ∷ [])
   fits_with R ys y fit this = rw taken_with (AllZip-push R (map seen (take k items)) ys (seen item) y fit this)
+
+  -- it is one of them all
+  pub contains_this : Contains (map seen items) (seen item)
+  contains_this = subst (λ (all : List B). Contains all (seen item)) (sym cut_at) (Contains-append_right (map seen (take k items)) (seen item ∷ map seen (drop (k + 1) items)) (seen item) (0, omega arith, refl))
 
   -- what is made of them, and what is made of it
   pub made_with : {C : Type 0} (h : B → Option C) (o : Option C) → o ≡ h (seen item) → filter_map h (map seen (take (k + 1) items)) ≡ filter_map h (map seen (take k items)) ++ cons_option o []

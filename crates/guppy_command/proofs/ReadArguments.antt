@@ -1,5 +1,5 @@
 -- Arguments that are read one after another.
-use Rattle.std.proofs.Common.{◌≡◌, refl, sym, ap, subst, ℕ, List, [], ◌∷◌, ◌++◌, Bool, true, false, map, Result, Ok, Err, append_assoc}
+use Rattle.std.proofs.Common.{◌≡◌, ◌∙◌, refl, sym, ap, subst, ℕ, List, [], ◌∷◌, ◌++◌, true, false, map, Result, Ok, Err, append_assoc}
 use Rattle.std.proofs.lemmas.List.{append-nil}
 use Rattle.guppy_command.specs.Grammar.{Program, Argument, Misread, Reads, word, first_at, goes_on, all_before, ended, others, one, stuck}
 
@@ -25,3 +25,23 @@ module _ (p : Program) (all rest : List (List ℕ)) (front : List Argument) (rea
     -- the next is none
     pub reads_stuck : (misread : Misread) → goes_on p text ≡ true → first_at p text words ≡ Err misread → Reads p all (Err misread)
     reads_stuck misread goes is = reads (Err misread) (subst (λ (left : List (List ℕ)). Reads p left (Err misread)) (sym next) (stuck goes is))
+
+-- words read in one way
+pub reads_alike : (p : Program) (words : List (List ℕ)) (a b : Result (List Argument) Misread) → Reads p words a → Reads p words b → a ≡ b
+reads_alike p [] a b ended ended = refl
+reads_alike p (text ∷ words) a b (others ends) (others ends') = refl
+reads_alike p (text ∷ words) a b (others ends) (one goes is more) = cc (ends, goes)
+reads_alike p (text ∷ words) a b (others ends) (stuck goes is) = cc (ends, goes)
+reads_alike p (text ∷ words) a b (one goes is more) (others ends) = cc (ends, goes)
+reads_alike p (text ∷ words) a b (one {behind = behind} {argument = argument} {outcome = outcome} goes is more) (one {behind = behind'} {argument = argument'} {outcome = outcome'} goes' is' more') =
+    let first : Argument × List (List ℕ) = (argument, behind) in
+    let first' : Argument × List (List ℕ) = (argument', behind') in
+    let same : first ≡ first' = cc (is, is') in
+    let same_argument : argument ≡ argument' = ap (λ pair. pair.0) same in
+    let same_behind : behind ≡ behind' = ap (λ pair. pair.1) same in
+    let rest : Reads p behind outcome' = subst (λ (words : List (List ℕ)). Reads p words outcome') (sym same_behind) more' in
+    ap (λ first. all_before (first ∷ []) outcome) same_argument ∙ ap (all_before (argument' ∷ [])) (reads_alike p behind outcome outcome' more rest)
+reads_alike p (text ∷ words) a b (one goes is more) (stuck goes' is') = cc (is, is')
+reads_alike p (text ∷ words) a b (stuck goes is) (others ends) = cc (ends, goes)
+reads_alike p (text ∷ words) a b (stuck goes is) (one goes' is' more) = cc (is, is')
+reads_alike p (text ∷ words) a b (stuck goes is) (stuck goes' is') = cc (is, is')

@@ -1,5 +1,5 @@
 -- What is found among items, by what they are seen as.
-use Rattle.std.proofs.Common.{◌≡◌, refl, ap, List, [], ◌∷◌, Bool, true, false, inl, inr, map, option_map, Option, Some, None, IfSome}
+use Rattle.std.proofs.Common.{◌≡◌, refl, ap, List, [], ◌∷◌, Bool, inl, inr, map, option_map, Option, Some, None, IfSome}
 use Rattle.std.specs.List.{find, zip}
 use Rattle.std.proofs.lemmas.Bool.{cases_Bool}
 

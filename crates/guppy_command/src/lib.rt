@@ -14,6 +14,7 @@
 //! - `files`: the files that arguments name; `found`: what arguments ask, with what these have;
 //! - `process`: what a process is given, and how it ends;
 //! - `print` and `quoted`: lines, and texts in quotation marks, of which answers are printed;
+//! - `laws`: words read as arguments in one way;
 //! - `lines`: the records that lines of text say, as `guppy-run` reads them.
 #![tactic(auto)]
 
@@ -24,6 +25,7 @@ pub mod fault;
 pub mod files;
 pub mod found;
 pub mod grammar;
+pub mod laws;
 pub mod lines;
 pub mod options;
 pub mod platforms;

@@ -1,4 +1,4 @@
-use Rattle.std.proofs.Common.{◌≡◌, ◌∙◌, sym, ap, map, option_map}
+use Rattle.std.proofs.Common.{◌∙◌, sym, ap, map, option_map}
 use Rattle.guppy_command.specs.Asked.{judged}
 use Rattle.guppy_command.specs.Shown.{argument_shown, row_shown}
 use Rattle.guppy_command.proofs.Asking.{judged_again, judged_often, judged_once}

@@ -1,6 +1,5 @@
-use Rattle.std.proofs.Common.{◌≡◌, ◌∙◌, List, ℕ, Bor, map, None, refl, sym, ap}
+use Rattle.std.proofs.Common.{◌∙◌, List, ℕ, map, None, refl, sym, ap}
 use Rattle.std.specs.Slice.Iter.{iter_rest}
-use Rattle.std.specs.List.{zip}
 use Rattle.std.proofs.lemmas.Simd.{map-map}
 use Rattle.std.proofs.lemmas.Iterator.{YieldsList-from_slice, YieldsList-from_zip}
 use Rattle.std.proofs.lemmas.Iterator.Consumers.{YieldsList-end}

@@ -1,4 +1,4 @@
-use Rattle.std.proofs.Common.{◌≡◌, ◌∙◌, ◌∷◌, ◌++◌, [], Ok, Err, rules, refl, sym, ap, map, subst, string_bytes, List, length, take, drop, ◌-◌}
+use Rattle.std.proofs.Common.{◌≡◌, ◌∙◌, ◌∷◌, ◌++◌, [], Ok, Err, rules, sym, ap, map, subst, string_bytes, List, length, take, drop, ◌-◌}
 use Rattle.std.proofs.lemmas.List.{map_push}
 use Rattle.guppy_command.specs.Grammar.{Argument, Reads, first_at, goes_on, all_before}
 use Rattle.guppy_command.specs.Shown.{argument_shown, program_shown, Unless, misread_shown}

@@ -1,4 +1,4 @@
-use Rattle.std.proofs.Common.{◌++◌, List, Result, length, map, string_bytes}
+use Rattle.std.proofs.Common.{List, Result, length, map, string_bytes}
 use Rattle.guppy_command.specs.Grammar.{Argument, Misread, Reads, all_before}
 use Rattle.guppy_command.specs.Shown.{argument_shown, program_shown}
 use Rattle.guppy_command.proofs.grammar.read.Given as goal
