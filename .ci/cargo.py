@@ -44,13 +44,13 @@ TRIPLES = [HOST, "x86_64-pc-windows-msvc", "aarch64-apple-darwin", "wasm32-unkno
 EVERYONES = ("Cargo.toml", "Cargo.lock", "rust-toolchain", "rust-toolchain.toml")
 TARGETS_FOLDERS = ("src", "tests", "examples", "benches")
 
-# What is told of bad arguments.
-BAD_ARGUMENTS = (
-    "bad arguments: give `reach forward|reverse PACKAGE..`, `depends PACKAGE PACKAGE`, `why PACKAGE PACKAGE`, `order`, "
-    "`roots forward|reverse`, `links forward|reverse`, `cycles`, `duplicates`, `dot PACKAGE..`, `verify`, "
-    "`publish-order [--publishable]` or `affected [--ignore FOLDER].. [--paths-from FILE] PATH..`, "
-    "and with each `--kinds normal,build,dev`, `--platform TRIPLE --cfgs FILE`, `--workspace` or `--ids`"
-)
+# The commands, and what is told of words that are none of theirs.
+COMMANDS = "affected publish-order depends why reach order roots links cycles duplicates dot verify".split()
+NO_COMMAND = "give a command: guppy-cargo help lists them"
+NO_KIND = "other is no kind: give some of normal,build,dev, separated by commas"
+NO_CFGS = "give --cfgs FILE behind each --platform TRIPLE"
+NO_PATHS = "affected needs a path, --paths-from FILE or, of the scripts, --since REVISION"
+NO_NULS = "its paths aren't each ended by a NUL: give it what git writes with -z"
 
 
 class Graph:
@@ -297,7 +297,7 @@ def try_affected(graph):
     some += [*EVERYONES, ".cargo/config.toml", ".cargo", ".cargo.toml", "elsewhere/x", "base-mor/x"]
     some += ["./Cargo.lock", "./base/x", "/base/x", "../base/x", "", "src/lib.rs", "tests", "build.rs", "src/../x"]
     some += sorted({"/".join(it[:at]) for it in graph.local.values() for at in range(1, len(it) + 1)})
-    for paths in [[], *([it] for it in some), *(graph.random.sample(some, it % 3 + 2) for it in range(STARTS))]:
+    for paths in [*([it] for it in some), *(graph.random.sample(some, it % 3 + 2) for it in range(STARTS))]:
         wanted = graph.tested_with(set().union(*map(graph.touched, paths)))
         answer = graph.ask("affected", *paths)
         yield f"affected {' '.join(paths)}", sorted(wanted), sorted(answer)
@@ -328,19 +328,29 @@ def try_left_out(graph):
             words = [*words[:-len(chosen)], "--paths-from", file, chosen[0]]
             yield f"affected {words}, the paths in a file", wanted, sorted(graph.ask("affected", *words))
         given = graph.text.encode()
-        with open(os.path.join(room, "bytes"), "wb") as held:
-            held.write(b"a\0\xff\0")
+        for name, text in (("bytes", b"a\0\xff\0"), ("unended", b"a\0b"), ("none", b"")):
+            with open(os.path.join(room, name), "wb") as held:
+                held.write(text)
         dashed = os.path.join(room, "dashes")
         with open(dashed, "wb") as held:
             held.write(b"base/x\0-x\0--ignore\0base/x\0")
         wanted = graph.ask("affected", "base/x", "./-x", "./--ignore")
         yield "affected, paths in a file that begin with -", wanted, graph.ask("affected", "--paths-from", dashed)
+        yield "affected, no path in a file", [], graph.ask("affected", "--paths-from", os.path.join(room, "none"))
+        wanted = graph.ask("affected", "--ignore", "base", "--paths-from", dashed)
+        yield "affected, values behind =", wanted, graph.ask("affected", "--ignore=base", f"--paths-from={dashed}")
         for words, fault in (
-            (["--ignore"], BAD_ARGUMENTS),
-            (["x", "--paths-from"], BAD_ARGUMENTS),
-            (["x", "--sinc", "main"], BAD_ARGUMENTS),
-            (["-x"], BAD_ARGUMENTS),
-            (["--paths-from", os.path.join(room, "bytes")], BAD_ARGUMENTS),
+            ([], NO_PATHS),
+            (["--ignore", "base"], NO_PATHS),
+            (["--ignore"], "a value is missing behind --ignore"),
+            (["--ignore", "./.", "x"], "--ignore ./. leaves out everything: give a folder"),
+            (["--ignore=", "x"], "--ignore  leaves out everything: give a folder"),
+            (["x", "--paths-from"], "a value is missing behind --paths-from"),
+            (["x", "--sinc", "main"], "--sinc is no option: the nearest is --kinds"),
+            (["-x"], "-x is no option: guppy-cargo help lists them"),
+            (["x", "--publishable"], "affected takes no --publishable"),
+            (["--paths-from", os.path.join(room, "bytes")], f"{os.path.join(room, 'bytes')}: the paths in it can't be read"),
+            (["--paths-from", os.path.join(room, "unended")], f"{os.path.join(room, 'unended')}: {NO_NULS}"),
             (["--paths-from", "no/such"], "no/such: the paths in it can't be read"),
         ):
             yield f"affected {words}", (2, "", f"error: {fault}\n"), run(["affected", *words], given)
@@ -372,8 +382,23 @@ def try_options(graph):
     yield "order --workspace", members, graph.ask("order", "--workspace")
     yield "order --ids", [graph.ids[it] for it in order], graph.ask("--ids", "order")
     yield "--ids order --workspace", [graph.ids[it] for it in members], graph.ask("--ids", "order", "--workspace")
-    for words in ("--kinds order", "--kinds other order", "order --kinds", "--kinds dev order --kinds dev", "--id order"):
-        yield words, (2, "", f"error: {BAD_ARGUMENTS}\n"), run(words.split(), graph.text.encode())
+    for kinds in ("build", "dev,normal"):
+        yield f"order --kinds={kinds}", graph.ask("order", "--kinds", kinds), graph.ask("order", f"--kinds={kinds}")
+    for words, fault in (
+        ("--kinds order", NO_COMMAND),
+        ("--kinds other order", NO_KIND),
+        ("order --kinds=other", NO_KIND),
+        ("order --kinds", "a value is missing behind --kinds"),
+        ("--kinds dev order --kinds dev", "--kinds is given twice"),
+        ("order --ids --workspace --ids", "--ids is given twice"),
+        ("order --ids=yes", "--ids takes no value"),
+        ("order --publishable", "order takes no --publishable"),
+        ("--ignore x order", "order takes no --ignore"),
+        ("--id order", "--id is no option: the nearest is --ids"),
+        ("order --kind=dev", "--kind is no option: the nearest is --kinds"),
+        ("order --frobnicate", "--frobnicate is no option: guppy-cargo help lists them"),
+    ):
+        yield words, (2, "", f"error: {fault}\n"), run(words.split(), graph.text.encode())
 
 
 class OnPlatform:
@@ -420,10 +445,11 @@ def try_platforms(graph):
         with open(bad, "w", encoding="utf-8") as held:
             held.write("unix\n\nwindows\n")
         for words, fault in (
-            ("order --platform x", BAD_ARGUMENTS),
-            (f"order --cfgs {bad}", BAD_ARGUMENTS),
+            ("order --platform x", NO_CFGS),
+            (f"order --cfgs {bad}", NO_CFGS),
+            (f"order --platform x --cfgs {bad} --platform y", NO_CFGS),
             ("order --platform x --cfgs no/such", "no/such: the cfgs in it can't be read"),
-            (f"--platform x --cfgs {bad} order", "x: line 2 of its cfgs is neither a name nor a key with a value"),
+            (f"--platform x --cfgs={bad} order", "x: line 2 of its cfgs is neither a name nor a key with a value"),
         ):
             yield words, (2, "", f"error: {fault}\n"), run(words.split(), given)
 
@@ -497,16 +523,22 @@ def try_help(graph):
         yield f"{words}, how it ends", (0, ""), (status, errors)
         yield f"{words}, whose usage", ["guppy-cargo"], re.findall(r"^Usage: (\S+) ", output, re.M)
     told = run(["help"], b"")[1]
-    named = re.findall(r"`([a-z][a-z-]+)", BAD_ARGUMENTS)
-    yield "help, the commands", sorted(named), sorted(set(re.findall(r"^  ([a-z][a-z-]+)", told, re.M)))
-    for word in (it[1:] for it in named):
-        apart = {it: edits(word, it) for it in named}
-        wanted = {it for it in named if apart[it] == min(apart.values())}
+    yield "help, the commands", sorted(COMMANDS), sorted(re.findall(r"^  ([a-z][a-z-]+)", told, re.M))
+    yield "help, lines of more than 90 letters", [], [it for it in told.splitlines() if len(it) > 90]
+    for command, own in (("order", []), ("publish-order", ["--publishable"]), ("affected", ["--ignore", "--paths-from"])):
+        options = re.findall(r"^  (--[a-z-]+)", run(["help", command], b"")[1], re.M)
+        yield f"help {command}, its options", ["--kinds", "--platform", "--cfgs", "--workspace", "--ids", *own], options
+    for word in (it[1:] for it in COMMANDS):
+        apart = {it: edits(word, it) for it in COMMANDS}
+        wanted = {it for it in COMMANDS if apart[it] == min(apart.values())}
         message = re.fullmatch("error: (.*) is no command: the nearest is (.*)\n", run([word], b"")[2])
         yield f"{word}, the nearest command", True, bool(message and message[1] == word and message[2] in wanted)
     yield "--version", (0, "guppy-cargo of guppy 0.19.1, proved\n", ""), run(["--version"], b"")
-    for words in ("help no-such", "--help order roots"):
-        yield words, (2, "", f"error: {BAD_ARGUMENTS}\n"), run(words.split(), graph.text.encode())
+    for words, fault in (
+        ("help no-such", "help is no command: guppy-cargo help lists them"),
+        ("--help order roots", "--help is no option: guppy-cargo help lists them"),
+    ):
+        yield words, (2, "", f"error: {fault}\n"), run(words.split(), graph.text.encode())
 
 
 def try_unknown(graph):
@@ -540,7 +572,9 @@ def try_refused(graph):
         yield f"order of {text[:20]} and {len(text)} bytes", "status 1", ending(["order"], text)
     # The texts of the program's own, and one of each kind that it passes on.
     for words, text, status, fault in (
-        ("reach", given, 2, BAD_ARGUMENTS),
+        ("", given, 2, NO_COMMAND),
+        ("reach", given, 2, "reach takes other words: give reach forward|reverse PACKAGE.."),
+        ("order x", given, 2, "order takes other words: give order"),
         ("order", b"\xff", 1, "the input is no UTF-8"),
         ("order", without, 1, "resolve: no dependencies are resolved"),
         ("reach forward no-such-package", given, 1, "unknown package ID: no-such-package"),

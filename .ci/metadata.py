@@ -63,11 +63,16 @@ WRONG = [
     ("affected --paths-from no/such", "no/such: the paths in it can't be read"),
     ("order --metadata no/such", "no metadata can be read: no/such: "),
     ("order --metadata .", "no metadata can be read: .: "),
-    ("", "bad arguments"),
-    ("--locked", "bad arguments"),
-    ("no-such --offline", "bad arguments"),
-    ("order --unknown", "bad arguments"),
-    ("no-such --metadata no/such", "bad arguments"),
+    ("", "give a command: guppy-cargo help lists them"),
+    ("--locked", "give a command: guppy-cargo help lists them"),
+    ("no-such --offline", "no-such is no command: guppy-cargo help lists them"),
+    ("order --unknown", "--unknown is no option: guppy-cargo help lists them"),
+    ("order --kind dev", "--kind is no option: the nearest is --kinds"),
+    ("no-such --metadata no/such", "no-such is no command: guppy-cargo help lists them"),
+    ("affected --ignore=x", "affected needs a path, --paths-from FILE or, of the scripts, --since REVISION"),
+    ("affected --paths-from=no/such", "no/such: the paths in it can't be read"),
+    ("order --kinds=dev --kinds=dev", "--kinds is given twice"),
+    (" ".join(["order", *["--platform=x86_64-unknown-linux-gnu"] * 7]), "six platforms at most"),
 ]
 HOOK = b"0000 1111 refs/heads/main\n"
 
@@ -128,6 +133,7 @@ def try_asked(world):
     def ask(*words, where=top):
         return lines(world.run(["guppy-cargo", *words], where=where))
 
+    (world.room / "on").write_text("windows\n")
     order, without = ask("publish-order"), ask("publish-order", "--no-default-features")
     is_right = sorted(order) == sorted(without) == list("abcde")
     is_right = is_right and all(order.index(a) < order.index(b) for a, b in ("ba", "cd", "ec"))
@@ -141,6 +147,7 @@ def try_asked(world):
         ("affected e/x --filter-platform x86_64-unknown-linux-gnu", "e"),
         ("affected e/x --platform x86_64-unknown-linux-gnu", "e"),
         ("affected --platform=x86_64-pc-windows-gnu e/x", "cde"),
+        (f"affected --platform x --cfgs={world.room / 'on'} e/x --platform=x86_64-unknown-linux-gnu", "cde"),
         ("affected e/x --platform x86_64-unknown-linux-gnu --kinds normal --platform x86_64-pc-windows-msvc", "cde"),
         ("reach forward a", "a"),
         ("reach forward a --all-features", "ab"),
@@ -187,9 +194,9 @@ def try_given(world):
         yield f"{way}: a pipe with a number", ran[:2] == (0, "b\na\n"), ran
         ran = piped(world, 'printf "b/src/lib.rs\\0" | "$@" --paths-from /dev/fd/3 3<&0 < /dev/null', words[:2], where=top)
         yield f"{way}: paths from a pipe", ran[:2] == (0, "b\na\n"), ran
-        for name in ("-", "/dev/stdin"):
-            ran = piped(world, f'printf "b/src/lib.rs\\0" | "$@" --paths-from {name}', words[:2], where=top)
-            yield f"{way}: paths from {name}", ran[:2] == (0, "b\na\n"), ran
+        for option in ("--paths-from -", "--paths-from /dev/stdin", "--paths-from=-"):
+            ran = piped(world, f'printf "b/src/lib.rs\\0" | "$@" {option}', words[:2], where=top)
+            yield f"{way}: {option}", ran[:2] == (0, "b\na\n"), ran
         asked = ["guppy-cargo", "reach", "reverse", "e", "--platform", "x"]
         for cfg, wanted in (("unix", "e\n"), ("windows", "c\ne\n")):
             ran = piped(world, f'echo {cfg} | "$@" --cfgs -', asked, where=top)
@@ -247,7 +254,7 @@ def try_metadata_refused(world):
     world.build()
     for words, told in WRONG:
         ran = world.run(["guppy-cargo", *words.split()], where=top)
-        yield words, is_told(ran, 2, told), ran
+        yield words, is_told(ran, 3 if "at most" in told else 2, told), ran
     bare = world.room / "bare"
     bare.write_bytes(metadata_of(top, "--no-deps"))
     ran = world.run(["guppy-cargo", "order", "--metadata", str(bare)], where=top)

@@ -68,7 +68,7 @@ COMMANDS = [
     "verify",
     "publish-order",
     "publish-order --publishable",
-    "--platform x\nunix\na=\"b\" --platform y\n order",
+    "--platform x --cfgs CFGS --platform y --cfgs CFGS order",
 ]
 # The link of the graph that makes a cycle over links that aren't dev-only, and what ends in a fault for that.
 TURNING = "link c b normal\n"
@@ -80,9 +80,11 @@ FAULTED = {"why c r": "no links lead from c to r"} | dict.fromkeys(TURNED, "cycl
 # Each command on the graph, and those on the graph without that link.
 RUNS = {command: (command, LINES) for command in COMMANDS}
 RUNS |= {f"{command} without a cycle": (command, LINES.replace(TURNING, "")) for command in TURNED}
-# On the input that is stored with guppy_cargo. All of it is read whatever the command; these show each member, package
+# On the input that is stored with guppy_cargo_main. All of it is read whatever the command; these show each member, package
 # and link.
-CARGO_RUNS = ["affected base/src/lib.rs ./top/x", "order", "links forward"]
+CARGO_RUNS = ["affected base/src/lib.rs ./top/x", "affected --paths-from PATHS", "order", "links forward", "help"]
+# What stands in the files that commands name by these words, of which main says where they lie.
+FILES = {"CFGS": 'unix\na="b"\n', "PATHS": "base/src/lib.rs\0./top/x\0"}
 
 
 def run(shim, words, number, part, given=b""):
@@ -172,6 +174,11 @@ def try_case(shim, program, case, full):
     return count, wrong
 
 
+def words_of(program, command):
+    """The words that run the command."""
+    return [program, *(FILES.get(it, it) for it in command.split(" "))]
+
+
 def outcome_of(words, given):
     """Runs a command, and returns its status, output and errors."""
     ran = subprocess.run(words, input=given, capture_output=True, check=False)
@@ -192,7 +199,7 @@ def try_program(shim, program, name, command, text, rereads=False):
 
     A program that rereads has another way to read its input, and may answer where one request alone is refused.
     """
-    words, given = [program, *command.split(" ")], text.encode()
+    words, given = words_of(program, command), text.encode()
     full, wrong = full_outcome(name, words, given)
     requests = len(run(shim, words, 0, "main", given)[-1])
 
@@ -220,7 +227,7 @@ def least_room(program):
 def try_limits(program, name):
     """Runs a command with more and more address space, and returns how many runs were refused, and what is wrong."""
     command, lines = RUNS[name]
-    words, least = [program, *command.split(" ")], least_room(program)
+    words, least = words_of(program, command), least_room(program)
     packages = "".join(f"package p{i}\n" for i in range(SIZE))
     links = "".join(f"link p{i} p{(7 * i + 3) % SIZE} dev\n" for i in range(SIZE))
     given = (lines + packages + links).encode()
@@ -291,6 +298,10 @@ def main():
         shim = os.path.join(room, "refuse.so")
         flags = ["-O2", "-Wall", "-Wextra", "-Werror", "-shared", "-fPIC"]
         subprocess.run(["cc", *flags, "-o", shim, os.path.join(HERE, "refuse.c"), "-ldl"], check=True)
+        for word, text in FILES.items():
+            FILES[word] = os.path.join(room, word)
+            with open(FILES[word], "w", encoding="utf-8") as opened:
+                opened.write(text)
         for ending in BUILDS:
             if ending == "" or os.path.exists(os.path.join(CRATES, "guppy_run", "out", f"guppy_run{ending}")):
                 outcomes = try_build(workers, shim, ending)

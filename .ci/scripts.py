@@ -216,6 +216,7 @@ def try_proved(world):
     with open(world.top / "examples/workspace.txt", "rb") as given:
         ran = world.run(["guppy-run", "depends", "cli", "macros"], given=given)
     yield "guppy-run too", ran == (0, "true\n", "") or ran[0] == 0, ran
+    yield from try_run_platforms(world)
     yield from try_made_of(world)
     workspace = world.room / "a workspace"
     make_workspace(workspace)
@@ -284,6 +285,26 @@ def try_memory(world, program, words, more="", path=None, **how):
         yield f"{words[0]}: memory as {told or wanted}", ran == (0, wanted, ""), ran
 
 
+def try_run_platforms(world, **how):
+    """What guppy-run is told of platforms: by files, or by rustc."""
+    lines, on = world.room / "lines", world.room / "on"
+    lines.write_text('package a\npackage b\nlink a b normal\n')
+    on.write_text("unix\n")
+    for words, wanted in (
+        ("--platform x86_64-unknown-linux-gnu order", (0, "a\nb\n", "")),
+        (f"--ids --platform=x86_64-pc-windows-gnu --platform x --cfgs={on} order", (0, "a\nb\n", "")),
+        (f"--platform x --cfgs {world.room / 'none'} order", (2, "", "error: bad arguments\n")),
+        ("--platform", (2, "", "error: bad arguments\n")),
+    ):
+        with lines.open("rb") as given:
+            ran = world.run(["guppy-run", *words.split()], given=given, where=world.room, **how)
+        yield f"guppy-run {words}", ran == wanted, ran
+    ran = world.run(["guppy-run", "--platform", "no-such", "order"], where=world.room, **how)
+    is_told = ran[2].endswith("guppy-run: rustc does not say what is set for the platform no-such, and says above why\n")
+    yield "guppy-run, an unknown platform", ran[:2] == (3, "") and is_told, ran
+    yield "guppy-run leaves no file", not world.left(), world.left()
+
+
 def named(ran, status, word):
     return ran[0] == status and word in ran[2] and ran[2].count("\n") == 1, ran
 
@@ -325,11 +346,12 @@ def try_installed(world):
     yield "it asks git what changed", ran == (0, "other\nlast\n", ""), ran
     ran = world.run(["guppy-run", "order"], where=workspace, environment=path)
     yield "guppy-run too", ran == (0, "", ""), ran
-    ran = world.run(["cargo", "guppy", "affected"], where=world.room, environment=path)
+    yield from try_run_platforms(world, environment=path)
+    ran = world.run(["cargo", "guppy", "order"], where=world.room, environment=path)
     yield "no workspace", ran[0] == 3 and ran[2].endswith("metadata by --metadata FILE\n"), ran
     left = sorted(str(it.relative_to(prefix)) for it in prefix.rglob("*") if it.is_file())
     wanted = ["bin/cargo-guppy", "bin/guppy-cargo", "bin/guppy-run", "libexec/guppy/guppy-cargo", "libexec/guppy/guppy-run"]
-    wanted += [f"libexec/guppy/{it}.sh" for it in ("metadata", "since", "start", "words")]
+    wanted += [f"libexec/guppy/{it}.sh" for it in ("metadata", "platforms", "since", "start", "words")]
     yield "nothing else is there", left == wanted and not world.left(), (left, world.left())
     metadata = world.room / "metadata.json"
     metadata.write_text("{}")

@@ -1,18 +1,4 @@
-# Read by guppy-cargo, and by cargo-guppy where it is installed, after words.sh: where metadata comes from, and what is set
-# for platforms.
-
-# Adds to platforms the words that name each of these, each in quotes for the shell and followed by a space: in lines behind
-# the name stands what rustc says is set there.
-take_platforms() {
-    for platform do
-        command -v "${RUSTC:=rustc}" > /dev/null ||
-            fail "rustc is not on the path: put it there, or give what it prints for $platform by --platform $platform --cfgs FILE"
-        cfgs=$("$RUSTC" --print cfg --target "$platform" < /dev/null) ||
-            fail "rustc does not say what is set for the platform $platform, and says above why"
-        platforms=$platforms$(quote --platform "$platform
-$cfgs")
-    done
-}
+# Read by guppy-cargo, and by cargo-guppy where it is installed, after words.sh: where metadata comes from.
 
 # Sets cargo to what runs it; the word is what is told where nothing does.
 find_cargo() {

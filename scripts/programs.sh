@@ -109,9 +109,10 @@ try_program() {
 hand_files() {
     at=0 is_file=
     for word do
-        at=$((at + 1))
-        if [ -n "$is_file" ] && cp -- "$word" "$room/paths$at" 2> /dev/null; then
-            echo "paths$at"
+        at=$((at + 1)) option=
+        case $word in --paths-from=* | --cfgs=*) option=${word%%=*}= is_file=1 ;; esac
+        if [ -n "$is_file" ] && cp -- "${word#"$option"}" "$room/paths$at" 2> /dev/null; then
+            echo "${option}paths$at"
         else
             echo "\"\${$at}\""
         fi

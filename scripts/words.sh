@@ -13,11 +13,6 @@ tell() {
     [ ! -t 2 ] || echo "$name: $1" >&2
 }
 
-# Prints the words, each in quotes for the shell and followed by a space.
-quote() {
-    [ $# -eq 0 ] || printf '%s\0' "$@" | LC_ALL=C sed -z "s/'/'\\\\''/g; s/.*/'&'/" | tr '\0' ' '
-}
-
 # Prints lines that sort the words: each says of what kind its words are (asked: options of the program), and has the second word as "${2}", for which
 # the shell puts that word. (A list that grows word by word would take minutes with some thousand paths.)
 sort_words() {
@@ -30,8 +25,8 @@ sort_words() {
             ,--platform | ,--cfgs)
             option=$word
             ;;
-        ,--metadata=* | ,--since=* | ,--manifest-path=* | ,--filter-platform=* | ,--features=* | ,-F=* | ,--kinds=* | \
-            ,--platform=* | ,--cfgs=*)
+        ,--metadata=* | ,--since=* | ,--manifest-path=* | ,--filter-platform=* | ,--features=* | ,-F=* | ,--paths-from=* | \
+            ,--kinds=* | ,--platform=* | ,--cfgs=*)
             sort_option "${word%%=*}" "${word#*=}" "\"\${$at#*=}\""
             ;;
         ,-F?*) sort_option -F "${word#-F}" "\"\${$at#-F}\"" ;;
@@ -122,7 +117,7 @@ asks_for_help() {
 refuses() {
     [ -n "$program" ] || return 1
     for word do
-        [ ! -p "$word" ] && [ ! -c "$word" ] || return 1
+        { [ ! -p "$word" ] && [ ! -c "$word" ]; } || [ "$word" = /dev/null ] || return 1
     done
     "$program" "$@" < /dev/null > /dev/null 2>&1
     [ $? -eq 2 ]
@@ -147,6 +142,8 @@ answer() {
     if [ -n "$revision" ]; then
         [ "${1-}" = affected ] || refuse "--since goes with affected, as in: $name affected --since main"
         take_root
+        # Nothing may have changed.
+        set -- "$@" --paths-from /dev/null
     fi
     ! refuses "$@" || run "$@"
     # Which members a change affects, and in which order they can be published, depends on optional dependencies too.

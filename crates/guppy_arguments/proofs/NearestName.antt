@@ -1,11 +1,8 @@
 -- The nearest of the names so far.
-use Rattle.std.proofs.Common.{◌≡◌, ◌∙◌, ℕ, ◌+◌, ◌<◌, ◌≤◌, List, Bor, length, map, get_or, refl, ap, sym, subst, arith, ⊎_elim, Option, None, Some}
+use Rattle.std.proofs.Common.{◌≡◌, ◌∙◌, ℕ, ◌+◌, ◌<◌, ◌≤◌, List, Bor, length, map, get_or, refl, ap, subst, arith, ⊎_elim, Option, None, Some}
 use Rattle.std.specs.Prelude.{MatchOption, slice_get}
 use Rattle.std.proofs.lemmas.Bool.{cases_lt}
-use Rattle.std.specs.Option.{option_copied, option_map}
-use Rattle.std.specs.declared.alloc.Global.{Global}
-use Rattle.std.specs.declared.string.String.{String}
-use Rattle.std.specs.String.{string_bytes}
+use Rattle.std.specs.Option.{option_map}
 use Rattle.std.proofs.lemmas.Option.{slice_get_within, slice_get-map, slice_get-get_or}
 use Rattle.guppy_arguments.specs.Nearest.{edits, IsFar, IsNearest}
 
@@ -83,15 +80,3 @@ module _ (word : List ℕ) (names : List (List ℕ)) where
 -- the text behind a reference stands at its place
 pub text_at : (names : List (Bor (List ℕ))) (k : ℕ) (d : Bor (List ℕ)) → k < length names → slice_get (map (λ (name : Bor (List ℕ)). name.now) names) k ≡ Some (get_or names k d).now
 text_at names k d within = slice_get-map (λ (name : Bor (List ℕ)). name.now) names k ∙ ap (option_map (λ (name : Bor (List ℕ)). name.now)) (slice_get-get_or names k d within)
-
--- no name is both far and the nearest
-pub never_far : (word : List ℕ) (names : List (List ℕ)) (name : List ℕ) → IsFar word names → IsNearest word names name → ⊥
-never_far word names name far near =
-    let more = far near.place name near.at in
-    let close = near.close in
-    omega arith
-
--- the text of the first word
-pub first_word : (words : List (String Global)) (word : Bor (String Global)) (first : Option (Bor (String Global))) (texts : List (List ℕ)) → option_copied first ≡ slice_get words 0 → first ≡ Some word → map string_bytes words ≡ texts → slice_get texts 0 ≡ Some (string_bytes word.now)
-first_word words word first texts copied is all =
-    ap (λ list. slice_get list 0) (sym all) ∙ slice_get-map string_bytes words 0 ∙ ap (option_map string_bytes) (sym copied ∙ ap option_copied is)

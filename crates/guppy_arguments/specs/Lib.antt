@@ -1,8 +1,6 @@
-pub mod Fault
-pub mod Options
-pub mod Command
 pub mod Nearest
-pub mod Commands
-pub mod Paths
+pub mod Table
+pub mod Told
+pub mod Fault
 pub mod Words
 pub mod Names

@@ -4,6 +4,7 @@ ghost use Rattle.guppy_data.specs.declared.texts.error.Error.TheVariants.{OutOfM
 ghost use Rattle.guppy_command.specs.declared.fault.Fault.TheVariants.{Library};
 ghost use Rattle.guppy_arguments.specs.declared.fault.CargoFault.TheVariants.{Program};
 
+use crate::told::ArgumentsFault;
 use guppy_command::{Fault, ProgramFault};
 use guppy_data::Error;
 use guppy_metadata::MetadataFault;
@@ -29,28 +30,12 @@ pub enum CargoFault {
         /// The name of a package.
         nearest: String,
     },
-    /// No command is called by the first word that is no option, but one is by a name near it.
-    NoCommand {
-        /// The word, as it was given.
-        word: String,
-        /// What a command is called.
-        nearest: String,
-    },
+    /// The arguments ask nothing.
+    Arguments(ArgumentsFault),
     /// The input is not what `cargo metadata` prints.
     Metadata(MetadataFault),
     /// The input is no UTF-8.
     NoText,
-    /// The file with paths could not be read.
-    PathsFailed(String),
-    /// The file with what is set for a platform could not be read.
-    CfgsFailed(String),
-    /// A line, counted from 1, doesn't say what is set for a platform.
-    BadCfg {
-        /// The platform.
-        triple: String,
-        /// The number of the line.
-        line: u128,
-    },
 }
 
 impl fmt::Display for CargoFault {
@@ -62,13 +47,7 @@ impl fmt::Display for CargoFault {
     fn fmt<W: fmt::Write>(&self, f: &mut fmt::Formatter<W>) -> fmt::Result {
         match self {
             CargoFault::Program(Fault::Library(error)) => write!(f, "{error}"),
-            CargoFault::Program(Fault::BadArguments) => f.write_str(
-                "bad arguments: give `reach forward|reverse PACKAGE..`, `depends PACKAGE PACKAGE`, \
-                 `why PACKAGE PACKAGE`, `order`, `roots forward|reverse`, `links forward|reverse`, `cycles`, \
-                 `duplicates`, `dot PACKAGE..`, `verify`, `publish-order [--publishable]` \
-                 or `affected [--ignore FOLDER].. [--paths-from FILE] PATH..`, \
-                 and with each `--kinds normal,build,dev`, `--platform TRIPLE --cfgs FILE`, `--workspace` or `--ids`",
-            ),
+            CargoFault::Program(Fault::BadArguments) => f.write_str("the arguments are no UTF-8"),
             CargoFault::Program(Fault::NoWalk { from, to }) => {
                 write!(f, "no links lead from {from} to {to}")
             }
@@ -78,20 +57,9 @@ impl fmt::Display for CargoFault {
             CargoFault::Unknown { word, nearest } => {
                 write!(f, "unknown package {word}: the nearest is {nearest}")
             }
-            CargoFault::NoCommand { word, nearest } => write!(
-                f,
-                "{word} is no command: the nearest is {nearest}"
-            ),
+            CargoFault::Arguments(fault) => write!(f, "{fault}"),
             CargoFault::Metadata(fault) => write!(f, "{fault}"),
             CargoFault::NoText => f.write_str("the input is no UTF-8"),
-            CargoFault::PathsFailed(file) => write!(f, "{file}: the paths in it can't be read"),
-            CargoFault::CfgsFailed(file) => write!(f, "{file}: the cfgs in it can't be read"),
-            CargoFault::BadCfg { triple, line } => {
-                write!(
-                    f,
-                    "{triple}: line {line} of its cfgs is neither a name nor a key with a value"
-                )
-            }
             CargoFault::Program(Fault::InputFailed) => f.write_str("input failed"),
             CargoFault::Program(Fault::OutputFailed) => f.write_str("output failed"),
         }
@@ -114,11 +82,7 @@ impl ProgramFault for CargoFault {
     fn ending(&self) -> u8 {
         match self {
             CargoFault::Program(Fault::Library(_) | Fault::NoWalk { .. }) => 1,
-            CargoFault::Program(_)
-            | CargoFault::NoCommand { .. }
-            | CargoFault::PathsFailed(_)
-            | CargoFault::CfgsFailed(_)
-            | CargoFault::BadCfg { .. } => 2,
+            CargoFault::Program(_) | CargoFault::Arguments(_) => 2,
             _ => 1,
         }
     }

@@ -12,8 +12,10 @@ use Rattle.guppy_metadata.specs.Records.{AreRecordsWith, SaysNoRecordsWith}
 use Rattle.guppy_program.specs.Format.{Format}
 use Rattle.guppy_arguments.specs.declared.fault.CargoFault.{CargoFault}
 use Rattle.guppy_arguments.specs.declared.fault.CargoFault.TheVariants.{Metadata, NoText}
-use Rattle.guppy_arguments.specs.Command.{asked_of}
 use Rattle.guppy_arguments.specs.Names.{text, meant}
+use Rattle.guppy_arguments.specs.Table.{cargo_program}
+use Rattle.guppy_arguments.specs.Told.{Tells}
+use Rattle.guppy_command.specs.Asked.{Asks}
 use Rattle.guppy_cargo.specs.Unknown.{TellsUnknown}
 
 -- the input is JSON that says these records, without details
@@ -40,7 +42,8 @@ abbrev pub json_format : Format CargoFault
 json_format = record {
   says = SaysRecords;
   refuses = IsInputFault;
-  asks = asked_of;
+  asks = λ has args asked. Asks has cargo_program args asked;
+  misreads = Tells;
   text = text;
   meant = meant;
   tells_unknown = TellsUnknown;

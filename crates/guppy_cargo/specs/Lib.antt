@@ -1,10 +1,8 @@
 pub mod Json
 pub mod Words
 pub mod Unknown
-pub use Rattle.guppy_arguments.specs.Command
-pub use Rattle.guppy_arguments.specs.Commands
 pub use Rattle.guppy_arguments.specs.Fault
 pub use Rattle.guppy_arguments.specs.Names
 pub use Rattle.guppy_arguments.specs.Nearest
-pub use Rattle.guppy_arguments.specs.Options
-pub use Rattle.guppy_arguments.specs.Paths
+pub use Rattle.guppy_arguments.specs.Table
+pub use Rattle.guppy_arguments.specs.Told

@@ -8,7 +8,7 @@ ghost use Rattle.guppy_data.specs.declared.records.PackageRecord.{PackageRecord 
 use crate::unknown::unknown;
 use guppy::{PackageGraph, PackageId};
 use guppy_arguments::{CargoFault, Names, asked_of};
-use guppy_command::Asked;
+use guppy_command::{Asked, Files};
 use guppy_data::{PackageRecord, Records};
 use guppy_metadata::plain_records_of;
 use guppy_program::Format;
@@ -41,8 +41,12 @@ impl Format for Json {
 
     ghost are_names = { AreNames };
 
-    fn asked_of(args: &[String]) -> Option<Asked<'_>> {
-        asked_of(args)
+    fn asked_of<'a, D: Files>(
+        alloc: Global,
+        args: &'a [String],
+        files: &D,
+    ) -> Result<Asked<'a>, CargoFault> {
+        asked_of(alloc, args, files)
     }
 
     fn records_of(alloc: Global, input: &[u8]) -> Result<Records, CargoFault> {

@@ -13,9 +13,6 @@ mod input;
 mod unknown;
 mod words;
 
-pub use guppy_arguments::{
-    COMMANDS, CargoFault, Names, asked_of, check_command, help_of, laws, options_first, with_cfgs,
-    with_paths,
-};
+pub use guppy_arguments::{ArgumentsFault, CargoFault, Names, asked_of, help_of, laws};
 pub use input::Json;
 pub use words::answer_json;

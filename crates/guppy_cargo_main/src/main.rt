@@ -1,17 +1,19 @@
 //! Answers questions on the packages of a Cargo workspace, of which it reads what `cargo metadata` prints.
 //!
-//! What it does is `guppy_program`'s `run_process`; here stand the standard streams, and help.
+//! What it does is `guppy_program`'s `run_process`; here stand the standard streams, the files of the system, and help.
 #![tactic(auto)]
 
-use guppy_cargo::{CargoFault, Json, check_command, help_of, options_first, with_cfgs, with_paths};
-use guppy_program::{IoSink, IoSource, arguments, run_process};
+use guppy_cargo::{CargoFault, Json, help_of};
+use guppy_program::{IoFiles, IoSink, IoSource, arguments, run_process};
 use std::process::ExitCode;
 
 fn main(rt: HostRuntime) -> ExitCode {
     let args: Result<Vec<String>, CargoFault> = arguments(&rt);
-    if let Ok(words) = &args
-        && let Some(text) = help_of(words.as_slice())
-    {
+    let help = match &args {
+        Ok(words) => help_of(rt.alloc(), words.as_slice()),
+        Err(_) => Ok(None),
+    };
+    if let Ok(Some(text)) = &help {
         return match print!(rt; "{text}") {
             Ok(()) => ExitCode::from(0),
             Err(_) => {
@@ -24,13 +26,10 @@ fn main(rt: HostRuntime) -> ExitCode {
     let mut reader = IoSource::new(rt.stdin());
     let mut writer = IoSink::new(rt.stdout());
     let mut errors = IoSink::new(rt.stderr());
-    let ending = run_process::<Json, _, _, _>(
+    let ending = run_process::<Json, _, _, _, _>(
         rt.alloc(),
-        args.and_then(|args| {
-            let args = with_cfgs(&rt, options_first(rt.alloc(), args)?)?;
-            check_command(rt.alloc(), args.as_slice())?;
-            with_paths(&rt, args)
-        }),
+        help.map_err(CargoFault::from).and(args),
+        &IoFiles(&rt),
         &mut reader,
         &mut writer,
         &mut errors,

@@ -1,8 +1,10 @@
 pub mod FirstItems
+pub mod ShownItems
+pub mod Asking
+pub mod ReadArguments
 pub mod Cuts
 pub mod InputLines
 pub mod RecordLines
-pub mod FrontOptions
 pub mod Writes
 pub mod Paths
 pub mod EscapedTexts

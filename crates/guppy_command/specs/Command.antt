@@ -1,11 +1,9 @@
 -- What the arguments ask.
-use Rattle.std.specs.Prelude.{ℕ, Bool, true, false, not, nat_eq, List, [], ◌∷◌, take, drop, Option, Some, None, option_map, codes, if◌then◌else◌}
-use Rattle.std.specs.List.{starts_with}
+use Rattle.std.specs.Prelude.{ℕ, Bool, true, List, [], ◌∷◌, take, drop, Option, Some, None, option_map, codes, if◌then◌else◌}
 use Rattle.std.specs.Str.{bytes_eq}
 use Rattle.guppy_search.specs.declared.ix.direction.DependencyDirection.{DependencyDirection}
 use Rattle.guppy_search.specs.declared.ix.direction.DependencyDirection.TheVariants.{Forward, Reverse}
-use Rattle.guppy_command.specs.declared.options.Options.{Options}
-use Rattle.guppy_command.specs.Options.{options_of, platforms_in}
+use Rattle.guppy_command.specs.declared.table.TheConstants.{PUBLISHABLE}
 
 -- the packages that these reach in a direction, whether the first depends on the second, why it does,
 -- the packages in their order, the roots of all packages or the links walked from them in a direction,
@@ -25,12 +23,6 @@ pub data Command : Type 0 where
   publish_order : Bool → Command
   dot : List (List ℕ) → Command
   affected : List (List ℕ) → List (List ℕ) → Command
-
--- what is asked of every command, with the platforms that links count on, and a command
-pub record Asked : Type 0 where
-  pub options : Options
-  pub platforms : List (List ℕ)
-  pub command : Command
 
 -- `forward` or `reverse`
 abbrev pub direction_of : List ℕ → Option DependencyDirection
@@ -64,71 +56,28 @@ plain_command_of word = if bytes_eq word (codes "order") then Some order
     else (if bytes_eq word (codes "duplicates") then Some duplicates
     else (if bytes_eq word (codes "verify") then Some verify else None)))
 
--- nothing, or `--publishable`
-abbrev pub publish_of : List (List ℕ) → Option Command
-publish_of [] = Some (publish_order false)
-publish_of (word ∷ []) =
-    if bytes_eq word (codes "--publishable") then Some (publish_order true) else None
-publish_of _ = None
+-- nothing, or `--publishable` behind the command, where it is no option
+abbrev pub publish_of : Bool → List (List ℕ) → Option Command
+publish_of publishable [] = Some (publish_order publishable)
+publish_of publishable (word ∷ []) = if bytes_eq word PUBLISHABLE.now then Some (publish_order true) else None
+publish_of _ _ = None
 
 -- the command, with no word behind it
 abbrev pub alone : Option Command → List (List ℕ) → Option Command
 alone command [] = command
 alone command _ = None
 
--- the command that the words give, if they give one
-abbrev pub command_of : List (List ℕ) → Option Command
-command_of [] = None
-command_of (word ∷ words) = if bytes_eq word (codes "reach") then reach_of words
+-- the command with these words behind it, if it takes them, where those alone that can be published may be wanted
+abbrev pub command_of : Bool → List ℕ → List (List ℕ) → Option Command
+command_of publishable word words = if bytes_eq word (codes "reach") then reach_of words
     else (if bytes_eq word (codes "depends") then depends_of words
     else (if bytes_eq word (codes "why") then why_of words
     else (if bytes_eq word (codes "roots") then option_map roots (lone_direction_of words)
     else (if bytes_eq word (codes "links") then option_map links (lone_direction_of words)
-    else (if bytes_eq word (codes "publish-order") then publish_of words
+    else (if bytes_eq word (codes "publish-order") then publish_of publishable words
     else (if bytes_eq word (codes "dot") then Some (dot words)
     else alone (plain_command_of word) words))))))
-
-abbrev pub is_ignore : List ℕ → Bool
-is_ignore word = bytes_eq word (codes "--ignore")
-
--- the word begins as an option does
-abbrev pub is_dashed : List ℕ → Bool
-is_dashed word = starts_with nat_eq word (codes "-")
-
--- a folder stands behind each `--ignore`, and no path begins as an option does
-abbrev pub are_affected_words : List (List ℕ) → Bool
-are_affected_words [] = true
-are_affected_words (word ∷ []) = not (is_dashed word)
-are_affected_words (word ∷ next ∷ words) = if is_ignore word then are_affected_words words
-    else (if is_dashed word then false else are_affected_words (next ∷ words))
-
--- the folders behind `--ignore`
-abbrev pub ignored_in : List (List ℕ) → List (List ℕ)
-ignored_in [] = []
-ignored_in (word ∷ []) = []
-ignored_in (word ∷ next ∷ words) =
-    if is_ignore word then next ∷ ignored_in words else ignored_in (next ∷ words)
-
--- the other words
-abbrev pub paths_in : List (List ℕ) → List (List ℕ)
-paths_in [] = []
-paths_in (word ∷ []) = if is_ignore word then [] else word ∷ []
-paths_in (word ∷ next ∷ words) =
-    if is_ignore word then paths_in words else word ∷ paths_in (next ∷ words)
 
 -- the path without a `./` at its front
 abbrev pub from_root : List ℕ → List ℕ
 from_root path = if bytes_eq (take 2 path) (codes "./") then drop 2 path else path
-
--- paths, and folders to leave out, each behind `--ignore`
-abbrev pub affected_of : List (List ℕ) → Option Command
-affected_of words =
-    if are_affected_words words then Some (affected (ignored_in words) (paths_in words)) else None
-
--- options, and behind them words that give a command
-abbrev pub asked_by : (List (List ℕ) → Option Command) → List (List ℕ) → Option Asked
-asked_by command_of words = let found = options_of words in option_map (λ command. record {
-  options = found.0;
-  platforms = platforms_in words;
-  command = command;
-}) (command_of found.1)

@@ -1,11 +1,14 @@
 pub mod Device
 pub mod Cause
 pub mod Ids
+pub mod Grammar
 pub mod Platforms
 pub mod Options
 pub mod Command
-pub mod Shown
 pub mod Text
+pub mod Paths
+pub mod Asked
+pub mod Shown
 pub mod Stated
 pub mod RunFault
 pub mod Records

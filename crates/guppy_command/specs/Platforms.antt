@@ -1,33 +1,18 @@
--- The platforms that are asked about, and which sections of links count on them.
-use Rattle.std.specs.Prelude.{◌≡◌, ℕ, ◌==◌, nat_lt, Bool, true, false, ◌&&◌, List, [], ◌∷◌, length}
-use Rattle.std.specs.List.{before_first, after_first, position_or_len}
+-- Platforms that are asked about, and which sections of links count on them.
+use Rattle.std.specs.Prelude.{◌≡◌, ℕ, Bool, true, false, List}
 use Rattle.std.specs.Str.Lines.{lines}
 use Rattle.guppy_data.specs.declared.platform.ternary.EnabledTernary.{EnabledTernary}
 use Rattle.guppy_data.specs.declared.platform.ternary.EnabledTernary.TheVariants.{Disabled}
 use Rattle.guppy_data.specs.declared.records.DependencyReqImpl.{DependencyReqImpl}
-use Rattle.guppy_data.specs.Platform.{Question, OnAny, OnPlatforms}
+use Rattle.guppy_data.specs.Platform.{Question}
 use Rattle.guppy_target.specs.Answer.{answer_of}
 use Rattle.guppy_target.specs.Platform.{PlatformData, AreLines}
-use Rattle.guppy_target.specs.Reading.{are_settings}
 use Rattle.guppy_target.specs.Sections.{section_value}
 
-abbrev pub is_newline : ℕ → Bool
-is_newline b = b == 10
-
--- a text has a platform's name, and in the lines behind it what a compiler says is set there
-abbrev pub is_platform : List ℕ → Bool
-is_platform text = nat_lt (position_or_len is_newline text) (length text)
-    && are_settings (after_first is_newline text)
-
--- the platform that a text says
-pub record IsPlatform (text : List ℕ) (platform : PlatformData) : Type 0 where
-  pub named : platform.triple ≡ before_first is_newline text
-  pub set : AreLines (lines (after_first is_newline text)) platform.settings
-
--- these platforms are in question, or any where none is named
-abbrev pub question_on : List PlatformData → Question PlatformData
-question_on [] = OnAny
-question_on (platform ∷ platforms) = OnPlatforms (platform ∷ platforms)
+-- the platform is called so, and what is set there is what these bytes say, line by line
+pub record IsPlatform (triple cfgs : List ℕ) (platform : PlatformData) : Type 0 where
+  pub named : platform.triple ≡ triple
+  pub set : AreLines (lines cfgs) platform.settings
 
 -- a value that isn't off: on, or not known
 abbrev pub may_be_on : EnabledTernary → Bool

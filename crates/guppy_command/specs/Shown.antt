@@ -1,17 +1,48 @@
--- Commands and faults without where they lie in memory.
-use Rattle.std.specs.Prelude.{map}
+-- Commands, arguments and faults without where they lie in memory.
+use Rattle.std.specs.Prelude.{◌≡◌, Bool, ℕ, List, map, Option, Some, None, option_map, is_some, IfSome, Result, Ok, Err}
+use Rattle.std.specs.Borrow.{Bor}
 use Rattle.std.specs.String.{string_bytes}
+use Rattle.guppy_data.specs.Platform.{question_of}
+use Rattle.guppy_command.specs.declared.grammar.Argument.{Argument as GivenArgument}
+use Rattle.guppy_command.specs.declared.grammar.Argument.TheVariants.{Option as GivenOption, Word}
+use Rattle.guppy_command.specs.declared.grammar.Misread.{Misread as GivenMisread}
+use Rattle.guppy_command.specs.declared.grammar.Misread.TheVariants.{NoOption, NoValue, NeedlessValue, Repeated, NotTaken, NoCommand, UnknownCommand, BadWords, BadKinds, LonePlatform, AllIgnored, NoPaths, CfgsFailed, BadCfg, PathsFailed, UnendedPaths, OutOfMemory}
+use Rattle.guppy_command.specs.declared.grammar.Program.{Program as GivenProgram}
 use Rattle.guppy_command.specs.declared.command.Command.{Command as GivenCommand}
-use Rattle.guppy_command.specs.declared.command.Asked.{Asked as GivenAsked}
 use Rattle.guppy_command.specs.declared.command.Command.TheVariants.{Reach, Depends, Why, Order, Roots, Links, Cycles, Duplicates, Verify, PublishOrder, Dot, Affected}
+use Rattle.guppy_command.specs.declared.asked.Asked.{Asked as GivenAsked}
+use Rattle.guppy_command.specs.declared.asked.Wanted.{Wanted as GivenWanted}
 use Rattle.guppy_command.specs.declared.fault.Fault.{Fault}
 use Rattle.guppy_command.specs.declared.fault.Fault.TheVariants.{Library, BadArguments, NoWalk, InputFailed, OutputFailed}
+use Rattle.guppy_command.specs.Grammar.{OptionRow, Program, Argument, option, word, Misread, no_option, no_value, needless_value, repeated, not_taken, no_command, unknown_command, bad_words, bad_kinds, lone_platform, all_ignored, no_paths, cfgs_failed, bad_cfg, paths_failed, unended_paths}
+use Rattle.guppy_command.specs.Asked.{Asked, Wanted}
 use Rattle.guppy_command.specs.Cause.{Cause, library, bad_arguments, no_walk, input_failed, output_failed}
-use Rattle.guppy_command.specs.Options.{platforms_in}
-use Rattle.guppy_command.specs.Command.{Asked, Command, reach, depends, why, order, roots, links, cycles, duplicates, verify, publish_order, dot, affected, ignored_in, paths_in}
+use Rattle.guppy_command.specs.Command.{Command, reach, depends, why, order, roots, links, cycles, duplicates, verify, publish_order, dot, affected}
+
+abbrev pub texts : List (Bor (List ℕ)) → List (List ℕ)
+texts words = map (λ text. text.now) words
+
+abbrev pub row_shown : Bor (List ℕ) × Option (Bor (List ℕ)) × Bool × Option (Bor (List (Bor (List ℕ)))) × Bor (List ℕ) → OptionRow
+row_shown row = record {
+  name = row.0.now;
+  takes_value = is_some row.1;
+  repeats = row.2;
+  commands = option_map (λ commands. texts commands.now) row.3;
+}
+
+abbrev pub program_shown : GivenProgram → Program
+program_shown p = record {
+  options = map row_shown p.options.now;
+  anywhere = p.anywhere;
+  commands = texts p.commands.now;
+}
+
+abbrev pub argument_shown : GivenArgument → Argument
+argument_shown (GivenOption name value) = option name.now (option_map (λ text. text.now) value)
+argument_shown (Word text) = word text.now
 
 abbrev pub command_shown : GivenCommand → Command
-command_shown (Reach direction ids) = reach direction (map string_bytes ids.now)
+command_shown (Reach direction ids) = reach direction (texts ids.items)
 command_shown (Depends from to) = depends from.now to.now
 command_shown (Why from to) = why from.now to.now
 command_shown Order = order
@@ -21,16 +52,52 @@ command_shown Cycles = cycles
 command_shown Duplicates = duplicates
 command_shown Verify = verify
 command_shown (PublishOrder publishable) = publish_order publishable
-command_shown (Dot words) = dot (map string_bytes words.now)
-command_shown (Affected words) =
-    affected (ignored_in (map string_bytes words.now)) (paths_in (map string_bytes words.now))
+command_shown (Dot words) = dot (texts words.items)
+command_shown (Affected ignored paths) = affected (map string_bytes ignored.items) (map string_bytes paths.items)
+
+abbrev pub wanted_shown : GivenWanted → Wanted
+wanted_shown wanted = record {
+  options = wanted.options;
+  platforms = map (λ named. (named.0.now, named.1.now)) wanted.platforms.items;
+  command = command_shown wanted.command;
+  path_files = texts wanted.path_files.items;
+}
 
 abbrev pub asked_shown : GivenAsked → Asked
 asked_shown asked = record {
   options = asked.options;
-  platforms = platforms_in (map string_bytes asked.words.now);
+  question = question_of asked.platforms;
   command = command_shown asked.command;
 }
+
+-- why arguments ask nothing, unless memory ran out
+abbrev pub misread_shown : GivenMisread → Option Misread
+misread_shown (NoOption text) = Some (no_option text.now)
+misread_shown (NoValue name) = Some (no_value name.now)
+misread_shown (NeedlessValue name) = Some (needless_value name.now)
+misread_shown (Repeated name) = Some (repeated name.now)
+misread_shown (NotTaken command name) = Some (not_taken command.now name.now)
+misread_shown NoCommand = Some no_command
+misread_shown (UnknownCommand text) = Some (unknown_command text.now)
+misread_shown (BadWords command) = Some (bad_words command.now)
+misread_shown (BadKinds value) = Some (bad_kinds value.now)
+misread_shown LonePlatform = Some lone_platform
+misread_shown (AllIgnored folder) = Some (all_ignored folder.now)
+misread_shown NoPaths = Some no_paths
+misread_shown (CfgsFailed file) = Some (cfgs_failed file.now)
+misread_shown (BadCfg triple lines) = Some (bad_cfg triple.now lines)
+misread_shown (PathsFailed file) = Some (paths_failed file.now)
+misread_shown (UnendedPaths file) = Some (unended_paths file.now)
+misread_shown OutOfMemory = None
+
+-- P holds of the outcome, unless memory ran out
+abbrev pub Unless : {T A : Type 0} → (T → A) → (Result A Misread → Type 0) → Result T GivenMisread → Type 0
+Unless shown P (Ok x) = P (Ok (shown x))
+Unless shown P (Err misread) = IfSome (misread_shown misread) (λ told. P (Err told))
+
+-- the outcome is this one, unless memory ran out
+abbrev pub Gives : {T A : Type 0} → (T → A) → Result A Misread → Result T GivenMisread → Type 0
+Gives shown outcome result = Unless shown (λ other. outcome ≡ other) result
 
 abbrev pub cause_shown : Fault → Cause
 cause_shown (Library error) = library error

@@ -1,28 +1,17 @@
-//! What the arguments ask.
-ghost use Rattle.std.specs.Prelude.{◌≡◌, map, string_bytes, option_map, IfOk};
-ghost use Rattle.guppy_command.specs.Command.{command_of, direction_of, lone_direction_of, reach_of, depends_of, why_of, plain_command_of, publish_of, alone, is_ignore, is_dashed, are_affected_words, affected_of, from_root, ignored_in, paths_in};
-ghost use Rattle.guppy_command.specs.Shown.{command_shown};
+//! The commands.
+ghost use Rattle.std.specs.Prelude.{◌≡◌, option_map, IfOk};
+ghost use Rattle.guppy_command.specs.Command.{roots, links, command_of, direction_of, lone_direction_of, reach_of, depends_of, why_of, plain_command_of, publish_of, alone, from_root};
+ghost use Rattle.guppy_command.specs.Shown.{command_shown, texts};
 
-use crate::options::Options;
+use crate::table::PUBLISHABLE;
 use guppy_search::DependencyDirection;
 use std::alloc::{AllocError, Global};
-
-/// What the program is asked: a command, and options in front of it.
-#[derive(Debug, Drop)]
-pub struct Asked<'a> {
-    /// What is asked of every command.
-    pub options: Options,
-    /// The words, in which options at the front name the platforms that links count on.
-    pub words: &'a [String],
-    /// The command.
-    pub command: Command<'a>,
-}
 
 /// What is asked of a graph.
 #[derive(Debug, Drop)]
 pub enum Command<'a> {
     /// The packages that these reach in the direction, in the order of their IDs.
-    Reach(DependencyDirection, &'a [String]),
+    Reach(DependencyDirection, Vec<&'a str>),
     /// Whether the first package depends on the second.
     Depends(&'a str, &'a str),
     /// A shortest walk of links from the first package to the second.
@@ -45,10 +34,14 @@ pub enum Command<'a> {
         publishable: bool,
     },
     /// What these packages reach, or all where none is given, as it is drawn.
-    Dot(&'a [String]),
-    /// The members to test when the files at these paths changed, but for those in a folder behind a word
-    /// `--ignore`.
-    Affected(&'a [String]),
+    Dot(Vec<&'a str>),
+    /// The members to test when the files at these paths changed.
+    Affected {
+        /// The folders whose paths count for nothing.
+        ignored: Vec<String>,
+        /// The paths, from the workspace's root.
+        paths: Vec<String>,
+    },
 }
 
 fn direction_of(word: &str) -> Option<DependencyDirection>
@@ -64,44 +57,58 @@ fn direction_of(word: &str) -> Option<DependencyDirection>
 }
 
 // The direction, where it is the only word.
-fn lone_direction_of(words: &[String]) -> Option<DependencyDirection>
-    ensures { result ≡ lone_direction_of (map string_bytes words.now) }
+fn lone_direction_of(words: &[&str]) -> Option<DependencyDirection>
+    ensures { result ≡ lone_direction_of (texts words.now) }
 {
     let [word] = words else {
         return None;
     };
-    direction_of(word.as_str())
+    direction_of(word)
 }
 
-fn reach_of(words: &[String]) -> Option<Command<'_>>
-    ensures { option_map command_shown result ≡ reach_of (map string_bytes words.now) }
+fn reach_of<'a>(alloc: Global, words: &[&'a str]) -> Result<Option<Command<'a>>, AllocError>
+    ensures { IfOk result (λ command. option_map command_shown command ≡ reach_of (texts words.now)) }
 {
     let [word, ids @ ..] = words else {
-        return None;
+        return Ok(None);
     };
     if ids.is_empty() {
-        return None;
+        return Ok(None);
     }
-    let direction = direction_of(word.as_str())?;
-    Some(Command::Reach(direction, ids))
+    match direction_of(word) {
+        Some(direction) => Ok(Some(Command::Reach(direction, ids.to_vec(alloc)?))),
+        None => Ok(None),
+    }
 }
 
-fn depends_of(words: &[String]) -> Option<Command<'_>>
-    ensures { option_map command_shown result ≡ depends_of (map string_bytes words.now) }
+fn depends_of<'a>(words: &[&'a str]) -> Option<Command<'a>>
+    ensures { option_map command_shown result ≡ depends_of (texts words.now) }
 {
     let [from, to] = words else {
         return None;
     };
-    Some(Command::Depends(from.as_str(), to.as_str()))
+    Some(Command::Depends(from, to))
 }
 
-fn why_of(words: &[String]) -> Option<Command<'_>>
-    ensures { option_map command_shown result ≡ why_of (map string_bytes words.now) }
+fn why_of<'a>(words: &[&'a str]) -> Option<Command<'a>>
+    ensures { option_map command_shown result ≡ why_of (texts words.now) }
 {
     let [from, to] = words else {
         return None;
     };
-    Some(Command::Why(from.as_str(), to.as_str()))
+    Some(Command::Why(from, to))
+}
+
+fn roots_of<'a>(words: &[&str]) -> Option<Command<'a>>
+    ensures { option_map command_shown result ≡ option_map roots (lone_direction_of (texts words.now)) }
+{
+    Some(Command::Roots(lone_direction_of(words)?))
+}
+
+fn links_of<'a>(words: &[&str]) -> Option<Command<'a>>
+    ensures { option_map command_shown result ≡ option_map links (lone_direction_of (texts words.now)) }
+{
+    Some(Command::Links(lone_direction_of(words)?))
 }
 
 // The command of this one word.
@@ -121,133 +128,68 @@ fn plain_command_of<'a>(word: &str) -> Option<Command<'a>>
     }
 }
 
-// All members, or with `--publishable` those alone that can be published.
-fn publish_of<'a>(words: &[String]) -> Option<Command<'a>>
-    ensures { option_map command_shown result ≡ publish_of (map string_bytes words.now) }
+// The members in an order to publish them: all, or those alone that can be published.
+fn publish_of<'a>(publishable: bool, words: &[&str]) -> Option<Command<'a>>
+    ensures { option_map command_shown result ≡ publish_of publishable (texts words.now) }
 {
     match words {
-        [] => Some(Command::PublishOrder { publishable: false }),
-        [word] if word.as_str() == "--publishable" => {
-            Some(Command::PublishOrder { publishable: true })
-        }
+        [] => Some(Command::PublishOrder { publishable }),
+        [word] if *word == PUBLISHABLE => Some(Command::PublishOrder { publishable: true }),
         _ => None,
     }
 }
 
 // The command, where no words are behind it.
-fn alone<'a>(command: Option<Command<'a>>, words: &[String]) -> Option<Command<'a>>
+fn alone<'a>(command: Option<Command<'a>>, words: &[&str]) -> Option<Command<'a>>
     ensures { option_map command_shown result
-        ≡ alone (option_map command_shown command.entry) (map string_bytes words.now) }
+        ≡ alone (option_map command_shown command.entry) (texts words.now) }
 {
     if words.is_empty() { command } else { None }
 }
 
 // The command of this one word, where no words are behind it.
-fn lone_command_of<'a>(word: &str, words: &[String]) -> Option<Command<'a>>
-    ensures { option_map command_shown result
-        ≡ alone (plain_command_of word.now) (map string_bytes words.now) }
+fn lone_command_of<'a>(word: &str, words: &[&str]) -> Option<Command<'a>>
+    ensures { option_map command_shown result ≡ alone (plain_command_of word.now) (texts words.now) }
 {
     alone(plain_command_of(word), words)
 }
 
-/// The command that the arguments give, if they give one. Takes time linear in their lengths, and no memory.
-pub fn command_of(args: &[String]) -> Option<Command<'_>>
-    ensures { option_map command_shown result ≡ command_of (map string_bytes args.now) }
+/// The command that is called so with these words behind it, if it takes them; of `publish-order`, those alone that
+/// can be published may be wanted. Takes time linear in the words' lengths, and memory for a reference a word.
+pub fn command_of<'a>(
+    alloc: Global,
+    publishable: bool,
+    word: &str,
+    words: &[&'a str],
+) -> Result<Option<Command<'a>>, AllocError>
+    ensures { IfOk result (λ command. option_map command_shown command
+        ≡ command_of publishable word.now (texts words.now)) }
 {
-    let [word, words @ ..] = args else {
-        return None;
-    };
-    if word.as_str() == "reach" {
-        reach_of(words)
-    } else if word.as_str() == "depends" {
+    Ok(if word == "reach" {
+        reach_of(alloc, words)?
+    } else if word == "depends" {
         depends_of(words)
-    } else if word.as_str() == "why" {
+    } else if word == "why" {
         why_of(words)
-    } else if word.as_str() == "roots" {
-        Some(Command::Roots(lone_direction_of(words)?))
-    } else if word.as_str() == "links" {
-        Some(Command::Links(lone_direction_of(words)?))
-    } else if word.as_str() == "publish-order" {
-        publish_of(words)
-    } else if word.as_str() == "dot" {
-        Some(Command::Dot(words))
+    } else if word == "roots" {
+        roots_of(words)
+    } else if word == "links" {
+        links_of(words)
+    } else if word == "publish-order" {
+        publish_of(publishable, words)
+    } else if word == "dot" {
+        Some(Command::Dot(words.to_vec(alloc)?))
     } else {
-        lone_command_of(word.as_str(), words)
-    }
+        lone_command_of(word, words)
+    })
 }
 
-fn is_ignore(word: &str) -> bool
-    ensures { result ≡ is_ignore word.now }
-{
-    word == "--ignore"
-}
-
-// Whether the word begins as an option does.
-fn is_dashed(word: &str) -> bool
-    ensures { result ≡ is_dashed word.now }
-{
-    word.starts_with('-')
-}
-
-// Whether a folder stands behind each `--ignore`, and no path begins as an option does.
-fn are_affected_words(words: &[String]) -> bool
-    ensures { result ≡ are_affected_words (map string_bytes words.now) }
-{
-    let mut rest = words;
-    while let [word, after @ ..] = rest {
-        rest = after;
-        if is_ignore(word.as_str()) {
-            let [_, after @ ..] = rest else {
-                return false;
-            };
-            rest = after;
-        } else if is_dashed(word.as_str()) {
-            return false;
-        }
-    }
-    true
-}
-
-/// The command whose words behind `affected` these are: paths, and folders to leave out, each behind
-/// `--ignore`. A path that begins with `-` is given as `./-`. Takes time linear in their lengths, and no memory.
-pub fn affected_of(words: &[String]) -> Option<Command<'_>>
-    ensures { option_map command_shown result ≡ affected_of (map string_bytes words.now) }
-{
-    if are_affected_words(words) {
-        Some(Command::Affected(words))
-    } else {
-        None
-    }
-}
-
-// The path without a `./` at its front.
-fn from_root(path: &str) -> &str
+/// The path without a `./` at its front. Takes constant time, and no memory.
+pub fn from_root(path: &str) -> &str
     ensures { result.now ≡ from_root path.now }
 {
     match path.strip_prefix("./") {
         Some(rest) => rest,
         None => path,
     }
-}
-
-/// The folders behind `--ignore`, and the other paths, without a `./` at their fronts. Takes memory for copies of them.
-pub fn parted(alloc: Global, words: &[String]) -> Result<(Vec<String>, Vec<String>), AllocError>
-    ensures ignored { IfOk result (λ parted. map string_bytes parted.0.items
-        ≡ map from_root (ignored_in (map string_bytes words.now))) }
-    ensures paths { IfOk result (λ parted. map string_bytes parted.1.items
-        ≡ map from_root (paths_in (map string_bytes words.now))) }
-{
-    let mut ignored = Vec::new(alloc);
-    let mut paths = Vec::new(alloc);
-    let mut rest = words;
-    while let [word, after @ ..] = rest {
-        rest = after;
-        if !is_ignore(word.as_str()) {
-            paths.push(String::from_str(alloc, from_root(word.as_str()))?)?;
-        } else if let [folder, after @ ..] = rest {
-            ignored.push(String::from_str(alloc, from_root(folder.as_str()))?)?;
-            rest = after;
-        }
-    }
-    Ok((ignored, paths))
 }

@@ -5,28 +5,42 @@
 //! - `device`: what bytes are read from and written to;
 //! - `fault`: why there is no answer, as far as every program says it;
 //! - `transfer`: reading to the end, and writing all;
-//! - `platforms`: the platforms that are asked about, and which sections of links count on them;
+//! - `table`: what options are called;
+//! - `grammar`: arguments, read from front to end: options with their values, and other words;
+//! - `platforms`: which sections of links count on the platforms that are asked about;
 //! - `options`: what is asked of every command: which links count, and how its answer is shown;
-//! - `command`: what the arguments ask for;
+//! - `command`: the commands;
+//! - `asked`: what arguments ask;
+//! - `files`: the files that arguments name; `found`: what arguments ask, with what these have;
 //! - `process`: what a process is given, and how it ends;
 //! - `print` and `quoted`: lines, and texts in quotation marks, of which answers are printed;
+//! - `laws`: words read as arguments in one way;
 //! - `lines`: the records that lines of text say, as `guppy-run` reads them.
 #![tactic(auto)]
 
+pub mod asked;
 pub mod command;
 pub mod device;
 pub mod fault;
+pub mod files;
+pub mod found;
+pub mod grammar;
+pub mod laws;
 pub mod lines;
 pub mod options;
 pub mod platforms;
 pub mod print;
 pub mod process;
 pub mod quoted;
+pub mod table;
 pub mod transfer;
 
-pub use command::{Asked, Command};
+pub use asked::{Asked, Wanted};
+pub use command::Command;
 pub use device::{DeviceFault, IoSink, IoSource, Sink, Source};
 pub use fault::{Fault, ProgramFault};
+pub use files::{FileFault, Files, NoFiles};
+pub use grammar::{Argument, Misread, OptionRow, Program};
 pub use lines::fault::RunFault;
 pub use lines::input::records_of;
 pub use options::{Kinds, Options};

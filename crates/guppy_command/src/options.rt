@@ -1,14 +1,13 @@
 //! What is asked of every command: which links count, and how an answer is shown.
-ghost use Rattle.std.specs.Prelude.{◌≡◌, ◌<◌, length, map, string_bytes, IfOk, MatchOption};
+ghost use Rattle.std.specs.Prelude.{◌≡◌};
 ghost use Rattle.std.specs.List.{filter};
 ghost use Rattle.guppy_data.specs.Platform.{question_of};
 ghost use Rattle.guppy_command.specs.Text.{section_of};
-ghost use Rattle.guppy_command.specs.Options.{is_kind, names_kind, kinds_of, is_of, kinds_or_all, kept_links, is_flag, is_kinds_word, is_platform_word, with_flag, with_kinds, with_value, options_from, options_of, platforms_in};
+ghost use Rattle.guppy_command.specs.Options.{is_kind, names_kind, kinds_of, is_of, kinds_or_all, kept_links};
 
-use crate::platforms::{counts, is_platform, question_on};
+use crate::platforms::counts;
 use guppy_data::{DependencyKind, LinkRecord, PlatformSpec};
 use guppy_target::Platform;
-use std::alloc::{AllocError, Global};
 
 /// Kinds of links.
 #[derive(Clone, Copy, Debug, PartialEq, Eq)]
@@ -53,15 +52,16 @@ fn is_kind(word: &str) -> bool
     section_of(word).is_some()
 }
 
-// Whether the kind is one of those that the word names, parted by commas.
+// Whether the kind is one of those that the word names, separated by commas.
 fn names_kind(word: &str, kind: &str) -> bool
     ensures { result ≡ names_kind word.now kind.now }
 {
     word.split(',').any(|name| name == kind)
 }
 
-// The kinds that the word names, parted by commas, where it names nothing else.
-fn kinds_of(word: &str) -> Option<Kinds>
+/// The kinds that the word names, separated by commas, where it names nothing else. Takes time linear in the word, and no
+/// memory.
+pub fn kinds_of(word: &str) -> Option<Kinds>
     ensures { result ≡ kinds_of word.now }
 {
     if !word.split(',').all(is_kind) {
@@ -110,143 +110,15 @@ fn keep_of(kinds: Kinds, platforms: &PlatformSpec<Platform>, links: &mut Vec<Lin
 /// neither are named, all links stay.
 ///
 /// Takes no memory. Asks once for each text of a section and platform.
-pub fn keep_links(kinds: Option<Kinds>, platforms: Vec<Platform>, links: &mut Vec<LinkRecord>)
-    ensures { links.new.items ≡ kept_links kinds platforms.items links.old.items }
+pub fn keep_links(
+    kinds: Option<Kinds>,
+    platforms: &PlatformSpec<Platform>,
+    links: &mut Vec<LinkRecord>,
+)
+    ensures { links.new.items ≡ kept_links kinds (question_of platforms.now) links.old.items }
 {
-    if kinds.is_some() || !platforms.is_empty() {
-        keep_of(kinds_or_all(kinds), &question_on(platforms), links);
+    match (kinds, platforms) {
+        (None, PlatformSpec::Any) => {}
+        _ => keep_of(kinds_or_all(kinds), platforms, links),
     }
-}
-
-fn is_flag(word: &str) -> bool
-    ensures { result ≡ is_flag word.now }
-{
-    word == "--workspace" || word == "--ids"
-}
-
-fn is_kinds_word(word: &str) -> bool
-    ensures { result ≡ is_kinds_word word.now }
-{
-    word == "--kinds"
-}
-
-fn is_platform_word(word: &str) -> bool
-    ensures { result ≡ is_platform_word word.now }
-{
-    word == "--platform"
-}
-
-// The options with what the word alone asks, if it asks anything.
-fn with_flag(options: Options, word: &str) -> Option<Options>
-    ensures { result ≡ with_flag options word.now }
-{
-    if word == "--workspace" {
-        Some(Options {
-            members_alone: true,
-            ..options
-        })
-    } else if word == "--ids" {
-        Some(Options {
-            by_id: true,
-            ..options
-        })
-    } else {
-        None
-    }
-}
-
-// The options with kinds, where they have none yet.
-fn with_kinds(options: Options, value: &str) -> Option<Options>
-    ensures { result ≡ with_kinds options value.now }
-{
-    if options.kinds.is_some() {
-        return None;
-    }
-    let kinds = kinds_of(value)?;
-    Some(Options {
-        kinds: Some(kinds),
-        ..options
-    })
-}
-
-// The options with what the word asks by the one behind it, if it asks anything.
-fn with_value(options: Options, word: &str, value: &str) -> Option<Options>
-    ensures { result ≡ with_value options word.now value.now }
-{
-    if is_platform_word(word) {
-        if is_platform(value) {
-            Some(options)
-        } else {
-            None
-        }
-    } else if is_kinds_word(word) {
-        with_kinds(options, value)
-    } else {
-        None
-    }
-}
-
-// The options with the one at the front of the words, and the words behind it, if one stands there.
-fn with_first(options: Options, words: &[String]) -> Option<(Options, &[String])>
-    ensures { MatchOption result
-        (options_from options (map string_bytes words.now) ≡ (options, map string_bytes words.now))
-        (λ found. (length found.1.now < length words.now)
-        × (options_from options (map string_bytes words.now)
-        ≡ options_from found.0 (map string_bytes found.1.now))) }
-{
-    let [word, after @ ..] = words else {
-        return None;
-    };
-    if let Some(more) = with_flag(options, word.as_str()) {
-        return Some((more, after));
-    }
-    let [value, after @ ..] = after else {
-        return None;
-    };
-    let more = with_value(options, word.as_str(), value.as_str())?;
-    Some((more, after))
-}
-
-/// The options at the front of the words, and the words behind them. Takes time linear in their lengths, and no
-/// memory.
-pub fn options_of(words: &[String]) -> (Options, &[String])
-    ensures options { result.0 ≡ (options_of (map string_bytes words.now)).0 }
-    ensures words { map string_bytes result.1.now ≡ (options_of (map string_bytes words.now)).1 }
-{
-    let mut options = Options {
-        kinds: None,
-        members_alone: false,
-        by_id: false,
-    };
-    let mut rest = words;
-    while let Some((more, after)) = with_first(options, rest) {
-        options = more;
-        rest = after;
-    }
-    (options, rest)
-}
-
-/// The texts of the platforms that the options at the front of the words name. Takes time linear in the words, and
-/// room for a reference a platform.
-pub fn platforms_in(alloc: Global, words: &[String]) -> Result<Vec<&str>, AllocError>
-    ensures { IfOk result (λ texts. map (λ text. text.now) texts.items
-        ≡ platforms_in (map string_bytes words.now)) }
-{
-    let mut texts = Vec::new(alloc);
-    let mut rest = words;
-    while let [word, after @ ..] = rest {
-        rest = after;
-        if !is_flag(word.as_str()) {
-            let [value, after @ ..] = rest else {
-                return Ok(texts);
-            };
-            rest = after;
-            if is_platform_word(word.as_str()) {
-                texts.push(value.as_str())?;
-            } else if !is_kinds_word(word.as_str()) {
-                return Ok(texts);
-            }
-        }
-    }
-    Ok(texts)
 }

@@ -31,7 +31,7 @@ use Rattle.guppy_extras.specs.Walk.{NoWalk, Between}
 use Rattle.guppy_command.specs.declared.options.Kinds.{Kinds}
 use Rattle.guppy_command.specs.declared.options.Options.{Options}
 use Rattle.guppy_command.specs.Cause.{Cause, library, ambiguous, no_walk}
-use Rattle.guppy_command.specs.Command.{Command, reach, depends, why, order, roots, links, cycles, duplicates, verify, publish_order, dot, affected, from_root}
+use Rattle.guppy_command.specs.Command.{Command, reach, depends, why, order, roots, links, cycles, duplicates, verify, publish_order, dot, affected}
 use Rattle.guppy_program.specs.Dot.{Drawing, IsDrawing, among}
 use Rattle.guppy_program.specs.Format.{Format, alternatives}
 use Rattle.guppy_program.specs.Publish.{is_publishable}
@@ -170,7 +170,7 @@ pub record IsPublishAnswer (g : GraphData) (publishable : Bool) (answer : Answer
 pub record IsAffectedAnswer (g : GraphData) (ignored paths : List (List ℕ))
     (answer : Answer) : Type 0 where
   pub ids : List (List ℕ)
-  pub exact : AreAffectedIds g (map from_root paths) (map from_root ignored) ids
+  pub exact : AreAffectedIds g paths ignored ids
   pub told : answer ≡ package_list ids
 
 -- the package at the position is drawn: each where no ID is given, else one of those named, or one to which

@@ -1,26 +1,35 @@
 -- How a program reads its input, and what it calls packages.
-use Rattle.std.specs.Prelude.{◌≡◌, ◌<◌, ℕ, List, [], Option, length, map, codes}
+use Rattle.std.specs.Prelude.{◌≡◌, ◌<◌, ℕ, List, [], length, map, codes}
 use Rattle.std.specs.List.{join_by}
 use Rattle.guppy_data.specs.declared.records.PackageRecord.{PackageRecord}
 use Rattle.guppy_data.specs.declared.records.LinkRecord.{LinkRecord}
 use Rattle.guppy_data.specs.declared.records.WorkspaceRecord.{WorkspaceRecord}
 use Rattle.guppy_data.specs.declared.texts.error.Error.TheVariants.{UnknownPackageId, OutOfMemory}
-use Rattle.guppy_command.specs.Cause.{Cause, library, ambiguous, bad_input, OrMemory}
-use Rattle.guppy_command.specs.Command.{Asked}
+use Rattle.guppy_command.specs.Asked.{Asked}
+use Rattle.guppy_command.specs.Cause.{Cause, library, bad_arguments, ambiguous, bad_input, OrMemory}
 
 pub record Format (Fault : Type 0) : Type 1 where
   -- the input says these records
   pub says : List ℕ → List PackageRecord → List LinkRecord → WorkspaceRecord → Type 0
   -- the input says no records, and the fault tells why
   pub refuses : List ℕ → Fault → Type 0
-  -- what the arguments ask, if they give a command
-  pub asks : List (List ℕ) → Option Asked
+  -- the arguments ask this, of which the files that they name have some
+  pub asks : (List ℕ → List ℕ → Type 0) → List (List ℕ) → Asked → Type 0
+  -- the arguments ask nothing, and the fault tells why
+  pub misreads : (List ℕ → List ℕ → Type 0) → List (List ℕ) → Fault → Type 0
   -- what is printed for that of the packages which has the ID
   pub text : List PackageRecord → List ℕ → List ℕ
   -- the IDs of those of the packages that a word may mean
   pub meant : List PackageRecord → List ℕ → List (List ℕ)
   -- what the fault tells of a word that means none of the packages
   pub tells_unknown : List PackageRecord → List ℕ → Fault → Type 0
+
+-- the arguments ask nothing, and the fault tells why, or memory ran out
+abbrev pub IsAskingFault : {Fault : Type 0} → Format Fault → (List ℕ → List ℕ → Type 0) → List (List ℕ) → Fault
+    → Cause → Type 0
+IsAskingFault format has args fault bad_arguments = format.misreads has args fault
+IsAskingFault format has args fault (library error) = OrMemory ⊥ error
+IsAskingFault format has args fault _ = ⊥
 
 -- the input says no records, and the fault tells why, or memory ran out
 abbrev pub IsReadingFault : {Fault : Type 0} → Format Fault → List ℕ → Fault → Cause → Type 0

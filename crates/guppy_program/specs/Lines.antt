@@ -1,13 +1,15 @@
--- The lines of an input, as `guppy-run` reads them.
-use Rattle.std.specs.Prelude.{◌≡◌, ℕ, List, [], ◌∷◌, if◌then◌else◌}
+-- What `guppy-run` is asked, and the lines of an input, as it reads them.
+use Rattle.std.specs.Prelude.{◌≡◌, ℕ, List, [], ◌∷◌, None, false, is_some, map, if◌then◌else◌}
 use Rattle.guppy_data.specs.declared.records.PackageRecord.{PackageRecord}
 use Rattle.guppy_data.specs.declared.records.LinkRecord.{LinkRecord}
 use Rattle.guppy_data.specs.declared.records.WorkspaceRecord.{WorkspaceRecord}
 use Rattle.guppy_command.specs.declared.lines.fault.RunFault.{RunFault}
 use Rattle.guppy_data.specs.declared.texts.error.Error.TheVariants.{UnknownPackageId}
-use Rattle.guppy_command.specs.declared.lines.fault.RunFault.TheVariants.{BadLine, Library}
-use Rattle.guppy_command.specs.Command.{asked_by, command_of}
+use Rattle.guppy_command.specs.declared.lines.fault.RunFault.TheVariants.{BadArguments, BadLine, Library}
+use Rattle.guppy_command.specs.Asked.{Asks, IsMisread}
+use Rattle.guppy_command.specs.Grammar.{Program, Misread}
 use Rattle.guppy_command.specs.Ids.{has_id}
+use Rattle.guppy_program.specs.declared.lines.TheConstants.{OPTIONS, COMMANDS}
 use Rattle.guppy_program.specs.Format.{Format}
 use Rattle.guppy_command.specs.Text.{IsAllGood, IsFirstBadLine, statements_of}
 use Rattle.guppy_command.specs.Records.{AreRecordsOf}
@@ -27,12 +29,35 @@ TellsBadLine input _ = ⊥
 abbrev pub meant_by_id : List PackageRecord → List ℕ → List (List ℕ)
 meant_by_id packages word = if has_id word packages then word ∷ [] else []
 
+-- the options, which stand in front of a command, and the commands, which take all of them
+abbrev pub lines_program : Program
+lines_program = record {
+  options = map (λ row. record {
+    name = row.0.now;
+    takes_value = is_some row.1;
+    repeats = row.2;
+    commands = None;
+  }) OPTIONS.now;
+  anywhere = false;
+  commands = map (λ name. name.now) COMMANDS.now;
+}
+
+-- the arguments ask nothing, and are blamed for it
+abbrev pub AreBad : (List ℕ → List ℕ → Type 0) → List (List ℕ) → RunFault → Type 0
+AreBad has args fault =
+    (fault ≡ BadArguments) × ((misread : Misread) × IsMisread has lines_program args misread)
+
+-- no file has anything
+abbrev pub has_none : List ℕ → List ℕ → Type 0
+has_none name bytes = ⊥
+
 -- lines say records, and a package is called by its ID
 abbrev pub lines_format : Format RunFault
 lines_format = record {
   says = SayRecords;
   refuses = TellsBadLine;
-  asks = asked_by command_of;
+  asks = λ has. Asks has lines_program;
+  misreads = AreBad;
   text = λ packages id. id;
   meant = meant_by_id;
   tells_unknown = λ packages word fault. fault ≡ Library (UnknownPackageId word);

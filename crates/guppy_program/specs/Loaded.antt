@@ -1,10 +1,10 @@
 -- The package graph of the records that an input says, with the links that are asked for.
 use Rattle.std.specs.Prelude.{ℕ, List, Option}
-use Rattle.std.specs.List.{AllZip}
 use Rattle.guppy_data.specs.declared.records.PackageRecord.{PackageRecord}
 use Rattle.guppy_data.specs.declared.records.LinkRecord.{LinkRecord}
 use Rattle.guppy_data.specs.declared.records.WorkspaceRecord.{WorkspaceRecord}
 use Rattle.guppy_data.specs.declared.texts.error.Error.{Error}
+use Rattle.guppy_data.specs.Platform.{Question}
 use Rattle.guppy.specs.Accepted.{IsAccepted}
 use Rattle.guppy.specs.Graph.{GraphData, Holds}
 use Rattle.guppy.specs.Refused.{IsRefusal}
@@ -12,40 +12,30 @@ use Rattle.guppy_target.specs.Platform.{PlatformData}
 use Rattle.guppy_command.specs.Cause.{Cause, library, bad_input, OrMemory}
 use Rattle.guppy_command.specs.declared.options.Kinds.{Kinds}
 use Rattle.guppy_command.specs.Options.{kept_links}
-use Rattle.guppy_command.specs.Platforms.{IsPlatform}
 use Rattle.guppy_program.specs.Format.{Format}
 
--- the input says records, and P holds of them with the links of these kinds, or all, that count on the
--- platforms that these texts say, or on any
-pub record OfRecords {Fault : Type 0} (format : Format Fault) (kinds : Option Kinds)
-    (platforms : List (List ℕ)) (input : List ℕ)
-    (P : List PackageRecord → List LinkRecord → WorkspaceRecord → Type 0) : Type 0 where
-  pub packages : List PackageRecord
-  pub links : List LinkRecord
-  pub workspace : WorkspaceRecord
-  pub said : format.says input packages links workspace
-  pub meant : List PlatformData
-  pub are_meant : AllZip IsPlatform platforms meant
-  pub holds : P packages (kept_links kinds meant links) workspace
+module _ {Fault : Type 0} (format : Format Fault) (kinds : Option Kinds) (question : Question PlatformData)
+    (input : List ℕ) where
+  -- the input says records, and P holds of them with the links of these kinds, or all, that count on the
+  -- platforms in question
+  pub record OfRecords (P : List PackageRecord → List LinkRecord → WorkspaceRecord → Type 0) : Type 0 where
+    pub packages : List PackageRecord
+    pub links : List LinkRecord
+    pub workspace : WorkspaceRecord
+    pub said : format.says input packages links workspace
+    pub holds : P packages (kept_links kinds question links) workspace
 
--- these records break no rule, and the graph holds exactly these
-abbrev pub IsLoaded : {Fault : Type 0} → Format Fault → Option Kinds → List (List ℕ) → List ℕ
-    → GraphData → Type 0
-IsLoaded format kinds platforms input g =
-    OfRecords format kinds platforms input (λ packages links workspace.
-    IsAccepted packages links workspace × Holds g packages links workspace)
+  -- these records break no rule, and the graph holds exactly these
+  abbrev pub IsLoaded : GraphData → Type 0
+  IsLoaded g = OfRecords (λ packages links workspace.
+      IsAccepted packages links workspace × Holds g packages links workspace)
 
--- the error tells the first fault of these records
-abbrev pub AreRefused : {Fault : Type 0} → Format Fault → Option Kinds → List (List ℕ) → List ℕ
-    → Error → Type 0
-AreRefused format kinds platforms input error =
-    OfRecords format kinds platforms input (λ packages links workspace.
-    IsRefusal packages links workspace error)
+  -- the error tells the first fault of these records
+  abbrev pub AreRefused : Error → Type 0
+  AreRefused error = OfRecords (λ packages links workspace. IsRefusal packages links workspace error)
 
--- the input says no records, and the fault tells why, or these records break a rule, or memory ran out
-abbrev pub IsLoadFault : {Fault : Type 0} → Format Fault → Option Kinds → List (List ℕ) → List ℕ
-    → Fault → Cause → Type 0
-IsLoadFault format kinds platforms input fault bad_input = format.refuses input fault
-IsLoadFault format kinds platforms input fault (library error) =
-    OrMemory (AreRefused format kinds platforms input error) error
-IsLoadFault format kinds platforms input fault _ = ⊥
+  -- the input says no records, and the fault tells why, or these records break a rule, or memory ran out
+  abbrev pub IsLoadFault : Fault → Cause → Type 0
+  IsLoadFault fault bad_input = format.refuses input fault
+  IsLoadFault fault (library error) = OrMemory (AreRefused error) error
+  IsLoadFault fault _ = ⊥

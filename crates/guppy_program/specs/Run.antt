@@ -1,9 +1,9 @@
 -- What a run of a program does.
-use Rattle.std.specs.Prelude.{◌≡◌, ◌↔◌, ◌⊎◌, ℕ, Bool, List, ◌++◌, Option, Some, None, IfSome, IsNone, Result, Err, OnOk}
+use Rattle.std.specs.Prelude.{◌≡◌, ◌⊎◌, ℕ, Bool, List, ◌++◌, Option, Some, None, IfSome, Result, Err, OnOk}
 use Rattle.std.specs.Io.KnownBytes.{IsAtEnd, Appends}
 use Rattle.guppy.specs.Graph.{GraphData}
+use Rattle.guppy_command.specs.Asked.{Asked}
 use Rattle.guppy_command.specs.Cause.{Cause, library, bad_arguments, ambiguous, no_walk, bad_input, input_failed, output_failed, OrMemory, caused, is_input_fault, is_output_fault}
-use Rattle.guppy_command.specs.Command.{Asked}
 use Rattle.guppy_program.specs.Format.{Format}
 use Rattle.guppy_program.specs.Loaded.{IsLoaded, AreRefused}
 use Rattle.guppy_program.specs.Answer.{Answer, IsAnswer, IsCommandFault, shown}
@@ -22,19 +22,19 @@ pub record IsAnswerOf {Fault : Type 0} (format : Format Fault) (asked : Asked) (
 -- asked for
 abbrev pub IsAnswerTo : {Fault : Type 0} → Format Fault → Asked → List ℕ → List ℕ → Type 0
 IsAnswerTo format asked input output = (g : GraphData)
-    × IsLoaded format asked.options.kinds asked.platforms input g × IsAnswerOf format asked g output
+    × IsLoaded format asked.options.kinds asked.question input g × IsAnswerOf format asked g output
 
 -- the command is refused so, of this graph
 abbrev pub IsRefusedOf : {Fault : Type 0} → Format Fault → Asked → List ℕ → Fault → Cause → Type 0
 IsRefusedOf format asked input fault cause = (g : GraphData)
-    × IsLoaded format asked.options.kinds asked.platforms input g
+    × IsLoaded format asked.options.kinds asked.question input g
     × IsCommandFault format asked.command g fault cause
 
 -- the fault, with this cause, is one of the input, or of the command on this graph
 abbrev pub IsFaultOf : {Fault : Type 0} → Format Fault → Asked → List ℕ → Fault → Cause → Type 0
 IsFaultOf format asked input fault bad_input = format.refuses input fault
 IsFaultOf format asked input fault (library error) =
-    OrMemory (AreRefused format asked.options.kinds asked.platforms input error
+    OrMemory (AreRefused format asked.options.kinds asked.question input error
     ⊎ IsRefusedOf format asked input fault (library error)) error
 IsFaultOf format asked input fault (ambiguous word texts) =
     IsRefusedOf format asked input fault (ambiguous word texts)
@@ -50,31 +50,6 @@ pub record OfWholeInput (old new : Option (List ℕ)) (P : List ℕ → Type 0) 
   pub all : IfSome old (λ bytes. bytes ≡ input)
   pub holds : P input
 
--- the arguments ask something of which P holds
-abbrev pub OfAsked : {Fault : Type 0} → Format Fault → List (List ℕ) → (Asked → Type 0) → Type 0
-OfAsked format args P = (asked : Asked) × (format.asks args ≡ Some asked) × P asked
-
--- P holds of an answer to the arguments and the input
-abbrev pub IsAnswered : {Fault : Type 0} → Format Fault → List (List ℕ) → List ℕ
-    → (List ℕ → Type 0) → Type 0
-IsAnswered format args input P = OfAsked format args (λ asked.
-    (output : List ℕ) × IsAnswerTo format asked input output × P output)
-
--- P holds of a beginning of an answer
-abbrev pub IsBegun : {Fault : Type 0} → Format Fault → List (List ℕ) → List ℕ
-    → (List ℕ → Type 0) → Type 0
-IsBegun format args input P = OfAsked format args (λ asked.
-    (front rest : List ℕ) × IsAnswerTo format asked input (front ++ rest) × P front)
-
--- the arguments give no command, or the fault is one of what they ask of the input, or memory ran out
-abbrev pub IsAnswerFault : {Fault : Type 0} → Format Fault → List (List ℕ) → List ℕ → Fault → Cause
-    → Type 0
-IsAnswerFault format args input fault bad_arguments = IsNone (format.asks args)
-IsAnswerFault format args input fault (library error) = OrMemory
-    (OfAsked format args (λ asked. IsFaultOf format asked input fault (library error))) error
-IsAnswerFault format args input fault cause =
-    OfAsked format args (λ asked. IsFaultOf format asked input fault cause)
-
 -- the source could not be read, or it came to its end, and the fault is one of all that it had, or
 -- memory ran out
 abbrev pub IsSourceFault : {Fault : Type 0} → Format Fault → Asked → Option (List ℕ)
@@ -87,14 +62,37 @@ IsSourceFault format asked old new fault (library error) = OrMemory (OfWholeInpu
 IsSourceFault format asked old new fault cause =
     OfWholeInput old new (λ input. IsFaultOf format asked input fault cause)
 
--- the arguments ask something, the source came to its end, and the fault is one of all that it had, or
--- memory ran out; what the arguments and the devices are blamed for is said elsewhere
-abbrev pub IsRunFault : {Fault : Type 0} → Format Fault → List (List ℕ) → Option (List ℕ)
-    → Option (List ℕ) → Fault → Cause → Type 0
-IsRunFault format args old new fault bad_arguments = Unit {0}
-IsRunFault format args old new fault output_failed = Unit {0}
-IsRunFault format args old new fault cause =
-    OfAsked format args (λ asked. IsSourceFault format asked old new fault cause)
+-- of arguments, where files have these bytes as far as that is known
+module _ {Fault : Type 0} (format : Format Fault) (has : List ℕ → List ℕ → Type 0) (args : List (List ℕ)) where
+  -- they ask something of which P holds
+  abbrev pub OfAsked : (Asked → Type 0) → Type 0
+  OfAsked P = (asked : Asked) × format.asks has args asked × P asked
+
+  -- P holds of an answer to them and the input
+  abbrev pub IsAnswered : List ℕ → (List ℕ → Type 0) → Type 0
+  IsAnswered input P =
+      OfAsked (λ asked. (output : List ℕ) × IsAnswerTo format asked input output × P output)
+
+  -- P holds of a beginning of an answer
+  abbrev pub IsBegun : List ℕ → (List ℕ → Type 0) → Type 0
+  IsBegun input P = OfAsked (λ asked.
+      (front rest : List ℕ) × IsAnswerTo format asked input (front ++ rest) × P front)
+
+  -- they ask nothing, and the fault tells why, or it is one of what they ask of the input, or memory ran out
+  abbrev pub IsAnswerFault : List ℕ → Fault → Cause → Type 0
+  IsAnswerFault input fault bad_arguments = format.misreads has args fault
+  IsAnswerFault input fault (library error) =
+      OrMemory (OfAsked (λ asked. IsFaultOf format asked input fault (library error))) error
+  IsAnswerFault input fault cause = OfAsked (λ asked. IsFaultOf format asked input fault cause)
+
+  -- they ask nothing, and the fault tells why, or they ask something, the source came to its end, and the fault is
+  -- one of all that it had, or memory ran out; what the devices are blamed for is said elsewhere
+  abbrev pub IsRunFault : Option (List ℕ) → Option (List ℕ) → Fault → Cause → Type 0
+  IsRunFault old new fault bad_arguments = format.misreads has args fault
+  IsRunFault old new fault output_failed = Unit {0}
+  IsRunFault old new fault (library error) =
+      OrMemory (OfAsked (λ asked. IsSourceFault format asked old new fault (library error))) error
+  IsRunFault old new fault cause = OfAsked (λ asked. IsSourceFault format asked old new fault cause)
 
 -- a run that gives up before it writes leaves the sink as it was
 abbrev pub WritesNothing : {W : Type 0} → W → W → Option Cause → Type 0
@@ -104,18 +102,18 @@ WritesNothing old new (Some cause) = new ≡ old
 
 -- what a run did to its source and its sink, and what came of it: the clauses of `run_with`
 pub record IsRun {Fault T R W : Type 0} (format : Format Fault) (cause : Fault → Cause)
+    (has : List ℕ → List ℕ → Type 0)
     (left : R → Option (List ℕ)) (source_failed : R → Bool)
     (written : W → Option (List ℕ)) (sink_failed : W → Bool) (args : List (List ℕ))
     (reader reader' : R) (writer writer' : W) (outcome : Result T Fault) : Type 0 where
   pub ok : OnOk outcome (OfWholeInput (left reader) (left reader')
-      (λ input. IsAnswered format args input (Appends (written writer) (written writer'))))
-  pub arguments : (caused cause outcome ≡ Some bad_arguments) ↔ IsNone (format.asks args)
+      (λ input. IsAnswered format has args input (Appends (written writer) (written writer'))))
   pub arguments_read : caused cause outcome ≡ Some bad_arguments → reader' ≡ reader
   pub fault : (fault : Fault) → outcome ≡ Err fault
-      → IsRunFault format args (left reader) (left reader') fault (cause fault)
+      → IsRunFault format has args (left reader) (left reader') fault (cause fault)
   pub input_fails : source_failed reader' ≡ is_input_fault (caused cause outcome)
   pub output_fails : sink_failed writer' ≡ is_output_fault (caused cause outcome)
   pub refused : WritesNothing writer writer' (caused cause outcome)
   pub begun : caused cause outcome ≡ Some output_failed
       → OfWholeInput (left reader) (left reader')
-      (λ input. IsBegun format args input (Appends (written writer) (written writer')))
+      (λ input. IsBegun format has args input (Appends (written writer) (written writer')))

@@ -8,9 +8,8 @@ ghost use Rattle.guppy.specs.Refused.{NamesId, IsFirstUnknown};
 ghost use Rattle.guppy.specs.Verified.{TellsVerifyFault, IsVerifyFault as IsGraphFault};
 ghost use Rattle.guppy.specs.Views.{link_data};
 ghost use Rattle.guppy_command.specs.Cause.{Cause, library};
-ghost use Rattle.guppy_command.specs.Command.{ignored_in, paths_in};
 ghost use Rattle.guppy_program.specs.Answer.{Means, IsReached, AreReached, IsReachAnswer, TellsDependence, IsDependsAnswer, IsOrderAnswer, IsRootsAnswer, IsLinksAnswer, IsCyclesAnswer, IsDuplicatesAnswer, IsVerifyAnswer, IsDotAnswer, IsAffectedAnswer, IsAnswer, IsWordFault, IsVerifyFault, IsCommandFault, end_ids};
-ghost use Rattle.guppy_command.specs.Shown.{command_shown};
+ghost use Rattle.guppy_command.specs.Shown.{command_shown, texts};
 ghost use Rattle.guppy_program.specs.Shown.{answer_shown};
 
 use crate::dot::{Drawing, drawing_of};
@@ -20,7 +19,6 @@ use crate::why::why;
 use guppy::graph::DependencyDirection;
 use guppy::{CycleIds, Error, PackageGraph, PackageId, PackageLink, PackageSet};
 use guppy_affected::affected;
-use guppy_command::command::parted;
 use guppy_command::fault::{passed_on, want_of_memory};
 use guppy_command::{Command, Kinds, ProgramFault};
 use guppy_extras::duplicates;
@@ -61,18 +59,18 @@ fn all_meant<F: Format>(
     alloc: Global,
     graph: &PackageGraph,
     names: &F::Names,
-    words: &[String],
+    words: &[&str],
 ) -> Result<Vec<PackageId>, F::Fault>
     requires { F.are_names names.now graph.now.packages }
     ensures named { IfOk result (λ ids. AllZip (Means (F.format.meant graph.now.packages))
-        (map string_bytes words.now) ids.items) }
+        (texts words.now) ids.items) }
     ensures known { IfOk result (λ ids. All (IsKnown graph.now.packages) ids.items) }
     ensures err { IfErr result (λ fault. IsWordFault F.format graph.now.packages
-        (map string_bytes words.now) fault (F.Fault.cause fault)) }
+        (texts words.now) fault (F.Fault.cause fault)) }
 {
     let mut ids = Vec::new(alloc);
     for word in words {
-        let id = F::find(alloc, graph, names, word.as_str())?;
+        let id = F::find(alloc, graph, names, word)?;
         let Ok(()) = ids.push(id) else {
             return Err(want_of_memory());
         };
@@ -117,13 +115,13 @@ fn reach<'g, F: Format>(
     graph: &'g PackageGraph,
     names: &F::Names,
     direction: DependencyDirection,
-    words: &[String],
+    words: &[&str],
 ) -> Result<Answer<'g>, F::Fault>
     requires { F.are_names names.now graph.now.packages }
     ensures ok { IfOk result (λ answer. IsReachAnswer direction graph.now
-        (F.format.meant graph.now.packages) (map string_bytes words.now) (answer_shown answer)) }
+        (F.format.meant graph.now.packages) (texts words.now) (answer_shown answer)) }
     ensures err { IfErr result (λ fault. IsWordFault F.format graph.now.packages
-        (map string_bytes words.now) fault (F.Fault.cause fault)) }
+        (texts words.now) fault (F.Fault.cause fault)) }
 {
     let ids = all_meant::<F>(alloc, graph, names, words)?;
     passed_on(reach_from(alloc, graph, direction, &ids))
@@ -250,13 +248,13 @@ fn dot<'g, F: Format>(
     alloc: Global,
     graph: &'g PackageGraph,
     names: &F::Names,
-    words: &[String],
+    words: &[&str],
 ) -> Result<Answer<'g>, F::Fault>
     requires { F.are_names names.now graph.now.packages }
     ensures ok { IfOk result (λ answer. IsDotAnswer graph.now
-        (F.format.meant graph.now.packages) (map string_bytes words.now) (answer_shown answer)) }
+        (F.format.meant graph.now.packages) (texts words.now) (answer_shown answer)) }
     ensures err { IfErr result (λ fault. IsWordFault F.format graph.now.packages
-        (map string_bytes words.now) fault (F.Fault.cause fault)) }
+        (texts words.now) fault (F.Fault.cause fault)) }
 {
     let ids = all_meant::<F>(alloc, graph, names, words)?;
     let drawing = passed_on(drawing_of(alloc, graph, &ids))?;
@@ -264,15 +262,16 @@ fn dot<'g, F: Format>(
 }
 
 // The members to test.
-fn tested<'g>(alloc: Global, graph: &'g PackageGraph, words: &[String]) -> Result<Answer<'g>, Error>
-    ensures ok { IfOk result (λ answer. IsAffectedAnswer graph.now
-        (ignored_in (map string_bytes words.now)) (paths_in (map string_bytes words.now))
-        (answer_shown answer)) }
+fn tested<'g>(
+    graph: &'g PackageGraph,
+    ignored: &[String],
+    paths: &[String],
+) -> Result<Answer<'g>, Error>
+    ensures ok { IfOk result (λ answer. IsAffectedAnswer graph.now (map string_bytes ignored.now)
+        (map string_bytes paths.now) (answer_shown answer)) }
     ensures err { IsOkUnless result Error.OutOfMemory }
 {
-    let (ignored, paths) = parted(alloc, words)?;
-    let ids = affected(graph, paths.as_slice(), ignored.as_slice())?;
-    Ok(Answer::List(ids))
+    Ok(Answer::List(affected(graph, paths, ignored)?))
 }
 
 /// What the command answers of the graph, whose packages have these names.
@@ -309,6 +308,6 @@ pub fn answer_of<'g, F: Format>(
         Command::Verify => passed_on(verified(graph)),
         Command::PublishOrder { publishable } => passed_on(published(graph, *publishable)),
         Command::Dot(words) => dot::<F>(alloc, graph, names, words),
-        Command::Affected(words) => passed_on(tested(alloc, graph, words)),
+        Command::Affected { ignored, paths } => passed_on(tested(graph, ignored, paths)),
     }
 }

@@ -1,17 +1,17 @@
-//! What differs between programs: how they read their input, and what they call packages.
-ghost use Rattle.std.specs.Prelude.{◌≡◌, ◌∷◌, [], List, map, string_bytes, option_map, IfOk, IfErr, IsOkUnless};
+//! What differs between programs: what they are asked, how they read their input, and what they call packages.
+ghost use Rattle.std.specs.Prelude.{◌≡◌, ◌∷◌, [], List, map, string_bytes, IfOk, IfErr, IsOkUnless};
 ghost use Rattle.guppy_data.specs.declared.records.PackageRecord.{PackageRecord as PackageData};
 ghost use Rattle.guppy.specs.Ids.{IsKnown};
 ghost use Rattle.guppy_command.specs.Ids.{has_id};
-ghost use Rattle.guppy_program.specs.Format.{Format as FormatOf, IsReadingFault, IsUnclear};
+ghost use Rattle.guppy_program.specs.Format.{Format as FormatOf, IsAskingFault, IsReadingFault, IsUnclear};
 ghost use Rattle.guppy_command.specs.Shown.{asked_shown};
 
 use guppy::{Error, PackageGraph, PackageId};
-use guppy_command::{Asked, ProgramFault};
+use guppy_command::{Asked, Files, ProgramFault};
 use guppy_data::{PackageRecord, Records};
 use std::alloc::{AllocError, Global};
 
-/// How a program reads its input, and what it calls packages.
+/// What a program is asked, how it reads its input, and what it calls packages.
 pub trait Format {
     /// Why the program gives no answer.
     type Fault: ProgramFault;
@@ -19,16 +19,25 @@ pub trait Format {
     /// What the packages of a graph are called.
     type Names: Drop;
 
-    /// Which records an input says, or with which fault it is refused; what arguments ask; which text is
-    /// printed for a package, which packages a word may mean, and what is told of one that means none.
+    /// What arguments ask, or with which fault they are refused; which records an input says, or with which fault it is
+    /// refused; which text is printed for a package, which packages a word may mean, and what is told of one that means
+    /// none.
     ghost format: { FormatOf Self.Fault };
 
     /// The names are those of these packages.
     ghost are_names: { Self.Names → List PackageData → Type 0 };
 
-    /// What the arguments ask, if they give a command. Takes time linear in their lengths, and no memory.
-    fn asked_of(args: &[String]) -> Option<Asked<'_>>
-        ensures { option_map asked_shown result ≡ format.asks (map string_bytes args.now) };
+    /// What the arguments ask, with what the files that they name have, or why they ask nothing. Takes time linear in
+    /// both, and memory for what is asked. Nothing is read where the words alone are wrong.
+    fn asked_of<'a, D: Files>(
+        alloc: Global,
+        args: &'a [String],
+        files: &D,
+    ) -> Result<Asked<'a>, Self::Fault>
+        ensures asked { IfOk result (λ asked.
+            format.asks (D.has files.now) (map string_bytes args.now) (asked_shown asked)) }
+        ensures misread { IfErr result (λ fault. IsAskingFault format (D.has files.now)
+            (map string_bytes args.now) fault (Self.Fault.cause fault)) };
 
     /// The records that the input says.
     fn records_of(alloc: Global, input: &[u8]) -> Result<Records, Self::Fault>

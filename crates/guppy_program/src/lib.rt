@@ -3,19 +3,21 @@
 //! What the arguments ask, and what is read and written, is `guppy_command`'s, whose types are passed on. The modules above
 //! that, from the bottom up:
 //!
-//! - `format`: what differs between programs, how they read their input and what they call packages;
+//! - `files`: the files of the system;
+//! - `format`: what differs between programs, what they are asked, how they read their input and what they call packages;
 //! - `answer`: what a command answers of a package graph; `publish`: of the order in which members can be
 //!   published; `why`: of how one package depends on another;
 //! - `members`: the members of the workspace in that;
 //! - `print`: how it is printed;
 //! - `program`: a program;
 //! - `process`: a program with its fault told and its status;
-//! - `lines`: what `guppy-run` reads as a format, and that program.
+//! - `lines`: what `guppy-run` is asked and reads as a format, and that program.
 #![tactic(auto)]
 
 pub mod answer;
 pub mod dot;
 pub mod dot_text;
+pub mod files;
 pub mod format;
 pub mod lines;
 pub mod members;
@@ -26,10 +28,11 @@ mod publish;
 mod why;
 
 pub use answer::{Answer, Step};
+pub use files::IoFiles;
 pub use format::Format;
 pub use guppy_command::{
-    Asked, Command, DeviceFault, Ending, Fault, IoSink, IoSource, Kinds, Options, ProgramFault,
-    RunFault, Sink, Source, arguments, records_of,
+    Asked, Command, DeviceFault, Ending, Fault, FileFault, Files, IoSink, IoSource, Kinds, NoFiles,
+    Options, ProgramFault, RunFault, Sink, Source, arguments, records_of,
 };
 pub use lines::{Lines, run};
 pub use process::run_process;

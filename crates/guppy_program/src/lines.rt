@@ -1,18 +1,67 @@
-//! What `guppy-run` reads: lines, each of which says a package or a link. A package is called by its ID.
-ghost use Rattle.std.specs.Prelude.{◌≡◌, false, map, string_bytes};
+//! What `guppy-run` is asked, and reads: lines, each of which says a package or a link. A package is called by its ID.
+ghost use Rattle.std.specs.Prelude.{◌≡◌, false, map, string_bytes, IfNone, IfSome};
+ghost use Rattle.guppy_data.specs.declared.texts.error.Error.TheVariants.{OutOfMemory};
+ghost use Rattle.guppy_command.specs.declared.lines.fault.RunFault.TheVariants.{BadArguments, Library};
 ghost use Rattle.guppy_command.specs.RunFault.{cause_of};
-ghost use Rattle.guppy_program.specs.Lines.{lines_format};
+ghost use Rattle.guppy_command.specs.Shown.{misread_shown, program_shown};
+ghost use Rattle.guppy_program.specs.Lines.{lines_format, lines_program, has_none};
 ghost use Rattle.guppy_program.specs.Run.{IsRun};
 
 use crate::format::{Format, has_package};
 use crate::program::run_of;
 use guppy::{Error, PackageGraph, PackageId};
-use guppy_command::command::command_of;
+use guppy_command::found::asked_of;
 use guppy_command::lines::records::id_of;
-use guppy_command::options::options_of;
-use guppy_command::{Asked, RunFault, Sink, Source, records_of};
+use guppy_command::table::{CFGS, IDS, KINDS, PLATFORM, WORKSPACE};
+use guppy_command::{
+    Asked, Files, Misread, NoFiles, OptionRow, Program, RunFault, Sink, Source, records_of,
+};
 use guppy_data::{PackageRecord, Records};
 use std::alloc::{AllocError, Global};
+
+// What stands in front of a command. There is no help.
+const OPTIONS: &[OptionRow] = &[
+    (KINDS, Some("KINDS"), false, None, ""),
+    (PLATFORM, Some("TRIPLE"), true, None, ""),
+    (CFGS, Some("FILE"), true, None, ""),
+    (WORKSPACE, None, false, None, ""),
+    (IDS, None, false, None, ""),
+];
+
+const COMMANDS: &[&str] = &[
+    "reach",
+    "depends",
+    "why",
+    "order",
+    "roots",
+    "links",
+    "cycles",
+    "duplicates",
+    "verify",
+    "publish-order",
+    "dot",
+];
+
+fn program() -> Program
+    ensures { program_shown result ≡ lines_program }
+{
+    Program {
+        options: OPTIONS,
+        anywhere: false,
+        commands: COMMANDS,
+    }
+}
+
+// What is told where arguments ask nothing.
+fn fault_of(misread: Misread<'_>) -> RunFault
+    ensures misread { IfSome (misread_shown misread.entry) (λ _. result ≡ BadArguments) }
+    ensures memory { IfNone (misread_shown misread.entry) (result ≡ Library OutOfMemory) }
+{
+    match misread {
+        Misread::OutOfMemory => RunFault::Library(Error::OutOfMemory),
+        _ => RunFault::BadArguments,
+    }
+}
 
 /// Lines, each of which says a package or a link.
 #[derive(Clone, Copy, Debug)]
@@ -27,14 +76,15 @@ impl Format for Lines {
 
     ghost are_names = { λ names packages. Unit {0} };
 
-    fn asked_of(args: &[String]) -> Option<Asked<'_>> {
-        let (options, words) = options_of(args);
-        let command = command_of(words)?;
-        Some(Asked {
-            options,
-            words: args,
-            command,
-        })
+    fn asked_of<'a, D: Files>(
+        alloc: Global,
+        args: &'a [String],
+        files: &D,
+    ) -> Result<Asked<'a>, RunFault> {
+        match asked_of(alloc, &program(), args, files) {
+            Ok(asked) => Ok(asked),
+            Err(misread) => Err(fault_of(misread)),
+        }
     }
 
     fn records_of(alloc: Global, input: &[u8]) -> Result<Records, RunFault> {
@@ -65,7 +115,7 @@ impl Format for Lines {
 }
 
 /// Reads the whole input, lines of text, and writes what the command that `args` give prints of its package
-/// graph: see [`crate::run_with`], which this is.
+/// graph: see [`crate::run_with`], which this is without files.
 ///
 /// `BadLine` has the number of the first bad line, and `Library` the first fault of the records, the first
 /// unknown ID of the command, or what `verify` refuses. The statuses are those of [`RunFault::status`].
@@ -77,8 +127,8 @@ pub fn run<R: Source, W: Sink>(
 ) -> Result<(), RunFault>
     requires input_works { R.has_failed reader.old ≡ false }
     requires output_works { W.has_failed writer.old ≡ false }
-    ensures { IsRun lines_format cause_of R.left R.has_failed W.written W.has_failed
+    ensures { IsRun lines_format cause_of has_none R.left R.has_failed W.written W.has_failed
         (map string_bytes args.now) reader.old reader.new writer.old writer.new result }
 {
-    run_of::<Lines, R, W>(alloc, args, reader, writer)
+    run_of::<Lines, NoFiles, R, W>(alloc, args, &NoFiles, reader, writer)
 }

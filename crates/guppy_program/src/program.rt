@@ -1,13 +1,10 @@
 //! A program, over any source and sink.
-ghost use Rattle.std.specs.Prelude.{◌≡◌, ◌↔◌, ◌++◌, ℕ, List, Some, false, length, map, string_bytes, Err, OnOk, IfOk, IfErr, IsNone, Bool};
+ghost use Rattle.std.specs.Prelude.{◌≡◌, ◌++◌, ℕ, List, Some, false, length, map, string_bytes, Err, OnOk, IfOk, IfErr, Bool};
 ghost use Rattle.std.specs.Io.KnownBytes.{Appends};
-ghost use Rattle.std.specs.List.{AllZip};
-ghost use Rattle.guppy_data.specs.declared.texts.error.Error.TheVariants.{OutOfMemory};
 ghost use Rattle.guppy.specs.Ids.{DistinctBelow};
-ghost use Rattle.guppy_command.specs.Cause.{Cause, library, bad_arguments, output_failed, caused, is_input_fault, is_output_fault};
+ghost use Rattle.guppy_command.specs.Cause.{Cause, bad_arguments, output_failed, caused, is_input_fault, is_output_fault};
 ghost use Rattle.guppy_program.specs.Loaded.{IsLoaded, IsLoadFault};
 ghost use Rattle.guppy_program.specs.Answer.{IsAnswer, IsCommandFault};
-ghost use Rattle.guppy_command.specs.Platforms.{IsPlatform};
 ghost use Rattle.guppy_program.specs.Printed.{IsPrinted};
 ghost use Rattle.guppy_command.specs.Shown.{asked_shown};
 ghost use Rattle.guppy_program.specs.Run.{IsAnswerTo, IsAnswerOf, IsAnswerFault, IsFaultOf, IsSourceFault, IsAnswered, IsBegun, IsRun, IsRunFault, OfWholeInput, WritesNothing};
@@ -18,29 +15,11 @@ use crate::members::shown;
 use crate::print::printed;
 use guppy::{IntoGraph, PackageGraph};
 use guppy_command::fault::{passed_on, want_of_memory};
-use guppy_command::options::{keep_links, platforms_in};
-use guppy_command::platforms::platforms_of;
+use guppy_command::options::keep_links;
 use guppy_command::transfer::{read_all, write_text};
-use guppy_command::{Asked, Fault, ProgramFault, Sink, Source};
-use guppy_target::Platform;
+use guppy_command::{Asked, Files, Sink, Source};
 use std::alloc::Global;
 use std::mem;
-
-// The platforms that the options name.
-fn named_platforms<F: ProgramFault>(alloc: Global, asked: &Asked<'_>) -> Result<Vec<Platform>, F>
-    ensures ok { IfOk result
-        (λ named. AllZip IsPlatform (asked_shown asked.now).platforms named.items) }
-    ensures err { IfErr result (λ fault. F.cause fault ≡ library OutOfMemory) }
-{
-    let Ok(texts) = platforms_in(alloc, asked.words) else {
-        return Err(want_of_memory());
-    };
-    // Texts that say no platform are bad arguments, so that what is wanting here is memory.
-    match platforms_of(alloc, texts.as_slice()) {
-        Ok(named) => Ok(named),
-        Err(_) => Err(want_of_memory()),
-    }
-}
 
 // The graph of the records that the input says, with the links that the options keep, and the names of its packages.
 fn load<F: Format>(
@@ -49,14 +28,13 @@ fn load<F: Format>(
     input: &[u8],
 ) -> Result<(PackageGraph, F::Names), F::Fault>
     ensures ok { IfOk result (λ loaded. IsLoaded F.format asked.now.options.kinds
-        (asked_shown asked.now).platforms input.now loaded.0) }
+        (asked_shown asked.now).question input.now loaded.0) }
     ensures names { IfOk result (λ loaded. F.are_names loaded.1 loaded.0.packages) }
     ensures err { IfErr result (λ fault. IsLoadFault F.format asked.now.options.kinds
-        (asked_shown asked.now).platforms input.now fault (F.Fault.cause fault)) }
+        (asked_shown asked.now).question input.now fault (F.Fault.cause fault)) }
 {
     let mut records = F::records_of(alloc, input)?;
-    let platforms = named_platforms::<F::Fault>(alloc, asked)?;
-    keep_links(asked.options.kinds, platforms, &mut records.links);
+    keep_links(asked.options.kinds, &asked.platforms, &mut records.links);
     let Ok(names) = F::names_of(alloc, records.packages.as_slice()) else {
         return Err(want_of_memory());
     };
@@ -139,10 +117,10 @@ fn answer_source<F: Format, R: Source>(
 }
 
 /// Reads the whole input, and writes what is asked by `args` of its package graph, with the links that are asked
-/// for: those of some kinds, and of some platforms.
+/// for: those of some kinds, and on some platforms.
 ///
-/// `args` are the arguments without the program's own name. They are judged first: where they give
-/// no command, that is told, and nothing is read and no memory taken. Then all input is read, and kept; then
+/// `args` are the arguments without the program's own name. They are judged first, then the files that they name are
+/// read: where they ask nothing, that is told, and no input is read. Then all input is read, and kept; then
 /// its format is judged, then its records, then the packages that the command names, or for `verify` and
 /// `publish-order` the graph, and the first fault is given. Want of memory may come at any growth, in place
 /// of every fault not yet found. The answer is whole before its first byte is written, so a refusal writes
@@ -150,11 +128,12 @@ fn answer_source<F: Format, R: Source>(
 ///
 /// The graph is forgotten, not let go: its memory is given back when the process ends.
 ///
-/// Neither device may have failed before. Time grows with the input's length, and with the packages and
-/// links times the logarithm of the packages.
-pub fn run_with<F: Format, R: Source, W: Sink>(
+/// Neither device may have failed before. Time grows with the lengths of the files and of the input, and with the packages
+/// and links times the logarithm of the packages.
+pub fn run_with<F: Format, D: Files, R: Source, W: Sink>(
     alloc: Global,
     args: &[String],
+    files: &D,
     reader: &mut R,
     writer: &mut W,
 ) -> Result<(), F::Fault>
@@ -163,21 +142,20 @@ pub fn run_with<F: Format, R: Source, W: Sink>(
 
     // All input was read, and what was written is an answer to it.
     ensures ok { OnOk result (OfWholeInput (R.left reader.old) (R.left reader.new) (λ input.
-        IsAnswered F.format (map string_bytes args.now) input
+        IsAnswered F.format (D.has files.now) (map string_bytes args.now) input
         (Appends (W.written writer.old) (W.written writer.new)))) }
 
-    // The arguments give no command, and nothing was read.
-    ensures arguments { (caused F.Fault.cause result ≡ Some bad_arguments)
-        ↔ IsNone (F.format.asks (map string_bytes args.now)) }
+    // Where the arguments are blamed, no input was read.
     ensures arguments_read { caused F.Fault.cause result ≡ Some bad_arguments
         → reader.new ≡ reader.old }
 
-    // All input was read. The fault is why the input says no records, or the first fault of its records,
-    // or where they have none, the first word of the command that doesn't mean one package or, for
-    // `verify` and `publish-order` alone, a fault that the graph's `verify` may tell; or memory ran out.
+    // The fault is why the arguments ask nothing. Or they ask something, all input was read, and the fault is why the
+    // input says no records, or the first fault of its records, or where they have none, the first word of the command
+    // that doesn't mean one package or, for `verify` and `publish-order` alone, a fault that the graph's `verify` may tell.
+    // Or memory ran out.
     ensures fault { (fault : F.Fault) → result ≡ Err fault
-        → IsRunFault F.format (map string_bytes args.now) (R.left reader.old) (R.left reader.new)
-        fault (F.Fault.cause fault) }
+        → IsRunFault F.format (D.has files.now) (map string_bytes args.now) (R.left reader.old)
+        (R.left reader.new) fault (F.Fault.cause fault) }
 
     // The devices are blamed exactly where they failed.
     ensures input_failed { R.has_failed reader.new ≡ is_input_fault (caused F.Fault.cause result) }
@@ -188,51 +166,50 @@ pub fn run_with<F: Format, R: Source, W: Sink>(
     ensures refused { WritesNothing writer.old writer.new (caused F.Fault.cause result) }
     ensures begun { caused F.Fault.cause result ≡ Some output_failed
         → OfWholeInput (R.left reader.old) (R.left reader.new) (λ input.
-        IsBegun F.format (map string_bytes args.now) input
+        IsBegun F.format (D.has files.now) (map string_bytes args.now) input
         (Appends (W.written writer.old) (W.written writer.new))) }
 {
-    let Some(asked) = F::asked_of(args) else {
-        return Err(F::Fault::of(Fault::BadArguments));
-    };
+    let asked = F::asked_of(alloc, args, files)?;
     let text = answer_source::<F, R>(alloc, &asked, reader)?;
     write_text::<W, F::Fault>(writer, text.as_str())
 }
 
 // `run_with`, and what it says as one fact.
-pub(crate) fn run_of<F: Format, R: Source, W: Sink>(
+pub(crate) fn run_of<F: Format, D: Files, R: Source, W: Sink>(
     alloc: Global,
     args: &[String],
+    files: &D,
     reader: &mut R,
     writer: &mut W,
 ) -> Result<(), F::Fault>
     requires input_works { R.has_failed reader.old ≡ false }
     requires output_works { W.has_failed writer.old ≡ false }
-    ensures { IsRun F.format F.Fault.cause R.left R.has_failed W.written W.has_failed
-        (map string_bytes args.now) reader.old reader.new writer.old writer.new result }
+    ensures { IsRun F.format F.Fault.cause (D.has files.now) R.left R.has_failed W.written
+        W.has_failed (map string_bytes args.now) reader.old reader.new writer.old writer.new
+        result }
 {
-    run_with::<F, R, W>(alloc, args, reader, writer)
+    run_with::<F, D, R, W>(alloc, args, files, reader, writer)
 }
 
 /// What is printed for what is asked by `args` of the package graph that the input says, as [`run_with`] has it, for callers
 /// that have the input and want the text. All else is let go of.
 ///
-/// Where the arguments give no command, that is told, and no memory is taken. Time grows with the input's length, and with
+/// Where the arguments ask nothing, that is told. Time grows with the lengths of the files and of the input, and with
 /// the packages and links times the logarithm of the packages.
-pub fn answer_bytes<F: Format>(
+pub fn answer_bytes<F: Format, D: Files>(
     alloc: Global,
     args: &[String],
+    files: &D,
     input: &[u8],
 ) -> Result<String, F::Fault>
     // The text is an answer to the arguments and the input.
-    ensures ok { IfOk result (λ text. IsAnswered F.format (map string_bytes args.now) input.now
-        (λ output. output ≡ string_bytes text)) }
+    ensures ok { IfOk result (λ text. IsAnswered F.format (D.has files.now)
+        (map string_bytes args.now) input.now (λ output. output ≡ string_bytes text)) }
 
-    // The arguments give no command, or the fault is one of the input or of the command on its graph, or memory ran out.
-    ensures fault { IfErr result (λ fault. IsAnswerFault F.format (map string_bytes args.now)
-        input.now fault (F.Fault.cause fault)) }
+    // The fault is why the arguments ask nothing, or one of the input or of the command on its graph, or memory ran out.
+    ensures fault { IfErr result (λ fault. IsAnswerFault F.format (D.has files.now)
+        (map string_bytes args.now) input.now fault (F.Fault.cause fault)) }
 {
-    let Some(asked) = F::asked_of(args) else {
-        return Err(F::Fault::of(Fault::BadArguments));
-    };
+    let asked = F::asked_of(alloc, args, files)?;
     answer_asked::<F>(alloc, &asked, input)
 }

@@ -1,9 +1,27 @@
-//! A source and a sink in memory, and a reader and a writer of std, which fail when they are told to.
+//! Files, a source and a sink in memory, and a reader and a writer of std, which fail when they are told to.
 ghost use Rattle.std.specs.Prelude.{◌≡◌, false, [], Some};
 
-use guppy_program::{DeviceFault, Sink, Source};
+use guppy_program::{DeviceFault, FileFault, Files, Sink, Source};
 use std::alloc::Global;
 use std::io::{self, ErrorKind, Read, Write};
+
+/// Files by their names, each with what it has.
+#[derive(Clone, Copy, Debug)]
+pub struct Shelf(pub &'static [(&'static str, &'static [u8])]);
+
+impl Files for Shelf {
+    ghost has = { λ shelf name bytes. Unit {0} };
+
+    fn read(&self, alloc: Global, name: &str) -> Result<Vec<u8>, FileFault> {
+        let Some((_, bytes)) = self.0.iter().find(|file| file.0 == name) else {
+            return Err(FileFault::Unreadable);
+        };
+        match bytes.to_vec(alloc) {
+            Ok(bytes) => Ok(bytes),
+            Err(_) => Err(FileFault::OutOfMemory),
+        }
+    }
+}
 
 /// A source of given bytes, a piece at a time.
 #[derive(Drop)]

@@ -1,6 +1,6 @@
 //! Answers questions on a graph of packages, which it reads as lines.
 //!
-//! What it does is `guppy_program`'s `run_process`; here stand the standard streams, and tests of that crate's calls.
+//! What it does is `guppy_program`'s `run_process`; here stand the system's files and streams, and tests of that crate's calls.
 #![tactic(auto)]
 
 #[cfg(test)]
@@ -8,16 +8,17 @@ mod devices;
 #[cfg(test)]
 mod runs;
 
-use guppy_program::{IoSink, IoSource, Lines, arguments, run_process};
+use guppy_program::{IoFiles, IoSink, IoSource, Lines, arguments, run_process};
 use std::process::ExitCode;
 
 fn main(rt: HostRuntime) -> ExitCode {
     let mut reader = IoSource::new(rt.stdin());
     let mut writer = IoSink::new(rt.stdout());
     let mut errors = IoSink::new(rt.stderr());
-    let ending = run_process::<Lines, _, _, _>(
+    let ending = run_process::<Lines, _, _, _, _>(
         rt.alloc(),
         arguments(&rt),
+        &IoFiles(&rt),
         &mut reader,
         &mut writer,
         &mut errors,

@@ -1,8 +1,8 @@
 //! Runs of the program on answers and faults known from outside, and on devices that fail.
 ghost use Rattle.std.specs.Prelude.{◌≡◌, false};
 
-use crate::devices::{Feed, Full, Paper, Stumbling};
-use guppy_program::{IoSink, IoSource, Lines, RunFault, Sink, Source, run_process};
+use crate::devices::{Feed, Full, Paper, Shelf, Stumbling};
+use guppy_program::{IoSink, IoSource, Lines, NoFiles, RunFault, Sink, Source, run_process};
 use std::alloc::{AllocError, Global};
 use std::process::Abort;
 use std::test::Fail;
@@ -26,6 +26,14 @@ fn line_of(alloc: Global, fault: &str) -> Result<Vec<u8>, AllocError> {
     Ok(line)
 }
 
+// What is set on platforms, and a file with a line that says nothing of this.
+const FILES: Shelf = Shelf(&[
+    ("unix.cfgs", b"unix\n"),
+    ("a.cfgs", b"a=\"b\""),
+    ("empty.cfgs", b""),
+    ("bad.cfgs", b"unix\n\n"),
+]);
+
 // A run tells this fault, if there is one, and ends with this status.
 fn assert_ends<R: Source, W: Sink>(
     rt: &impl Abort,
@@ -41,7 +49,14 @@ fn assert_ends<R: Source, W: Sink>(
 {
     let args = words_of(alloc, line)?;
     let mut errors = Paper::new(alloc, MANY, MANY);
-    let ending = run_process::<Lines, _, _, _>(alloc, Ok(args), reader, writer, &mut errors);
+    let ending = run_process::<Lines, _, _, _, _>(
+        alloc,
+        Ok(args),
+        &FILES,
+        reader,
+        writer,
+        &mut errors,
+    );
     let told = line_of(alloc, fault)?;
     assert_eq!(rt; errors.bytes(), told.as_slice(), "{line}: {fault}");
     assert!(rt;
@@ -102,7 +117,7 @@ const SHORT_CUT: &[u8] = b"package a\npackage b\npackage c\npackage d\n\
 const TWO_SPACES: &[u8] = b"package a\npackage  b\n";
 
 // Case, command line, input, and what is printed.
-const ANSWERS: [(&str, &str, &[u8], &str); 60] = [
+const ANSWERS: [(&str, &str, &[u8], &str); 61] = [
     ("first_run", "reach forward a", FIRST, "a\nb\n"),
     (
         "no_last_newline",
@@ -233,21 +248,22 @@ const ANSWERS: [(&str, &str, &[u8], &str); 60] = [
         b"package a\nlink a z normal\n",
         "a\n",
     ),
+    ("kinds", "--kinds=normal depends B A", BACKS, "false\n"),
     (
         "platforms",
-        "--platform x\nunix\n --kinds dev depends B A",
+        "--platform x --cfgs unix.cfgs --kinds dev depends B A",
         BACKS,
         "true\n",
     ),
     (
         "platforms",
-        "--kinds normal --platform x\n --ids --platform y\na=\"b\" depends B A",
+        "--kinds normal --platform=x --ids --platform y --cfgs empty.cfgs --cfgs=a.cfgs depends B A",
         BACKS,
         "false\n",
     ),
     (
         "platforms",
-        "--platform x\n links forward",
+        "--cfgs empty.cfgs --platform x links forward",
         CHAIN,
         "a b\nb c\n",
     ),
@@ -408,7 +424,7 @@ const REFUSED: [(&str, &str, &[u8], &str); 12] = [
 ];
 
 // Case, command line, input, and the text of the fault of the arguments or a line.
-const MISREAD: [(&str, &str, &[u8], &str); 48] = [
+const MISREAD: [(&str, &str, &[u8], &str); 54] = [
     ("program_faults", "depends a b", TWO_SPACES, "bad line 2"),
     ("program_faults", "depends a", TWO_SPACES, "bad arguments"),
     (
@@ -457,21 +473,42 @@ const MISREAD: [(&str, &str, &[u8], &str); 48] = [
         FIRST,
         "bad arguments",
     ),
+    ("kinds", "--kinds= order", FIRST, "bad arguments"),
     ("platforms", "--platform order", FIRST, "bad arguments"),
     ("platforms", "--platform x order", FIRST, "bad arguments"),
     (
         "platforms",
-        "--platform x\nunix\n\n order",
+        "--cfgs unix.cfgs order",
         FIRST,
         "bad arguments",
     ),
     (
         "platforms",
-        "order --platform x\nunix",
+        "--platform x --cfgs bad.cfgs order",
+        FIRST,
+        "bad arguments",
+    ),
+    (
+        "platforms",
+        "--platform x --cfgs gone.cfgs order",
+        FIRST,
+        "bad arguments",
+    ),
+    (
+        "platforms",
+        "order --platform x --cfgs unix.cfgs",
         FIRST,
         "bad arguments",
     ),
     ("members", "--workspace", FIRST, "bad arguments"),
+    (
+        "members",
+        "--workspace --workspace order",
+        FIRST,
+        "bad arguments",
+    ),
+    ("members", "--workspace=yes order", FIRST, "bad arguments"),
+    ("affected", "affected a", FIRST, "bad arguments"),
     ("ids", "--id order", FIRST, "bad arguments"),
     ("wrong_bytes", "order", b"\n\r\nlink a\n", "bad line 3"),
     (
@@ -651,9 +688,10 @@ fn no_arguments(rt: HostRuntime) {
         let mut reader = Feed::new(FIRST, MANY, MANY);
         let mut writer = Paper::new(alloc, MANY, MANY);
         let mut errors = Paper::new(alloc, 1, writes);
-        let ending = run_process::<Lines, _, _, _>(
+        let ending = run_process::<Lines, _, _, _, _>(
             alloc,
             Err(RunFault::BadArguments),
+            &NoFiles,
             &mut reader,
             &mut writer,
             &mut errors,

@@ -255,17 +255,21 @@ impl PackageGraph {
     ///
     /// # Errors
     ///
-    /// [`Error::Refused`] where a path has a NUL, which none has.
+    /// [`Error::Refused`] where a path has a NUL, which none has, or an ignored folder is the whole workspace.
     pub fn affected<'a>(
         &self,
         paths: impl IntoIterator<Item = &'a str>,
         ignored: impl IntoIterator<Item = &'a str>,
     ) -> Result<Vec<PackageMetadata<'_>>, Error> {
         let mut words = vec!["--ids".to_owned(), "affected".to_owned()];
+        words.extend(paths.into_iter().map(|path| format!("./{path}")));
+        // The library refuses to be asked about no path.
+        if words.len() == 2 {
+            return Ok(Vec::new());
+        }
         for folder in ignored {
             words.extend(["--ignore".to_owned(), format!("./{folder}")]);
         }
-        words.extend(paths.into_iter().map(|path| format!("./{path}")));
         let answer = crate::answer(&self.json, words.iter().map(String::as_str))?;
         let ids = answer.lines().map(PackageId::new);
         ids.map(|id| self.metadata(&id)).collect()

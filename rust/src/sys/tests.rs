@@ -285,7 +285,7 @@ fn written(json: &str, args: &str, room: usize) -> [(u32, usize, Vec<u8>); 2] {
 fn a_text_is_written_where_there_is_room() {
     for (json, args, statuses) in [
         (JSON, "affected\0crates/core/x", [0, 0]),
-        (JSON, "affected\0--ids", [0, 0]),
+        (JSON, "affected\0--ids", [1, 0]),
         (JSON, "reach\0forward\0nobody", [1, 0]),
         (JSON, "", [1, 0]),
         ("[", "order", [1, 4]),

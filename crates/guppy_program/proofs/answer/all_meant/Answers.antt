@@ -1,7 +1,8 @@
-use Rattle.std.proofs.Common.{map, take, drop, string_bytes, ◌+◌}
+use Rattle.std.proofs.Common.{refl, ℕ, List, Bor, take, drop, ◌+◌}
 use Rattle.std.proofs.lemmas.List.Elements.{All-push}
 use Rattle.std.proofs.lemmas.Result.{err_from_is_err_and}
 use Rattle.guppy.specs.Ids.{IsKnown}
+use Rattle.guppy_command.specs.Shown.{texts}
 use Rattle.guppy_program.specs.Answer.{Means}
 use Rattle.guppy_program.proofs.Refusals.{all_clear, unclear_word}
 use Rattle.guppy_command.proofs.FirstItems.{cut_at, fits_with}
@@ -13,18 +14,16 @@ returns-in_err-id-clause-err g c =
     let packages = c.args.graph.now.packages in
     let words = c.args.words.now in
     let k = c.loop-word.word-index in
-    let word = c.word-item.result in
-    let unclear = rw c.as_str.ensures.value at c.in_err-id.ensures.unclear in
-    rw (passed_on.1, passed_on.2) (unclear_word g.F.Format.format packages (map string_bytes words) (map string_bytes (take k words)) (map string_bytes (drop (k + 1) words)) (string_bytes word)
-    (cut_at string_bytes words k word word c.loop-word-test.true c.word-item.is)
-    (all_clear (g.F.Format.format.meant packages) (map string_bytes (take k words)) c.loop-word.ids.items c.loop-word.invariant.named) _ _ unclear)
+    rw (passed_on.1, passed_on.2) (unclear_word g.F.Format.format packages (texts words) (texts (take k words)) (texts (drop (k + 1) words)) _
+    (cut_at (λ (text : Bor (List ℕ)). text.now) words k _ _ c.loop-word-test.true refl)
+    (all_clear (g.F.Format.format.meant packages) (texts (take k words)) c.loop-word.ids.items c.loop-word.invariant.named) _ _ c.in_err-id.ensures.unclear)
 
 pub loop-word-preserved : goal.loop-word-preserved
 loop-word-preserved g c =
     let packages = c.args.graph.now.packages in
     let pushed = c.in-Ok.ensures.items in
     rw pushed (record {
-      named = fits_with string_bytes c.args.words.now c.loop-word.word-index c.word-item.result c.word-item.result c.loop-word-test.true c.word-item.is (Means (g.F.Format.format.meant packages)) c.loop-word.ids.items c.in_ok-id.id c.loop-word.invariant.named
-          (rw c.as_str.ensures.value at c.in_ok-id.ensures.found);
+      named = fits_with (λ (text : Bor (List ℕ)). text.now) c.args.words.now c.loop-word.word-index _ _ c.loop-word-test.true refl (Means (g.F.Format.format.meant packages)) c.loop-word.ids.items c.in_ok-id.id c.loop-word.invariant.named
+          c.in_ok-id.ensures.found;
       known = All-push (IsKnown packages) c.loop-word.ids.items c.in_ok-id.id c.loop-word.invariant.known c.in_ok-id.ensures.known;
     })

@@ -1,5 +1,6 @@
-use Rattle.std.proofs.Common.{refl, map, string_bytes}
+use Rattle.std.proofs.Common.{refl}
 use Rattle.std.proofs.lemmas.Result.{err_from_is_err_and}
+use Rattle.guppy_command.specs.Shown.{texts}
 use Rattle.guppy_program.specs.Answer.{IsWordFault}
 use Rattle.guppy_program.specs.Dot.{drawing_shown}
 use Rattle.guppy_program.proofs.Refusals.{told_memory}
@@ -26,5 +27,5 @@ pub returns-in_err-drawing-clause-err : goal.returns-in_err-drawing-clause-err
 returns-in_err-drawing-clause-err g c =
     let passed_on = err_from_is_err_and c.from_residual-in_err-drawing.result c.from_residual-in_err-drawing.ensures.1 in
     rw (passed_on.1, passed_on.2) (told_memory c.drawing_of.result _
-    (IsWordFault g.F.Format.format c.args.graph.now.packages (map string_bytes c.args.words.now) _)
+    (IsWordFault g.F.Format.format c.args.graph.now.packages (texts c.args.words.now) _)
     c.drawing_of.ensures.err c.in_err-drawing.ensures.err tt)

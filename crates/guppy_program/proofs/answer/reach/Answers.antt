@@ -1,5 +1,5 @@
-use Rattle.std.proofs.Common.{map, string_bytes}
 use Rattle.std.proofs.lemmas.Result.{IfOk-weaker, err_from_is_err_and}
+use Rattle.guppy_command.specs.Shown.{texts}
 use Rattle.guppy_program.specs.Answer.{IsWordFault}
 use Rattle.guppy_program.proofs.Refusals.{passed_memory, passed_ok}
 use Rattle.guppy_program.proofs.answer.reach.Goals as goal
@@ -20,5 +20,5 @@ returns-in_err-ids-clause-err g c =
 
 pub returns-clause-err : goal.returns-clause-err
 returns-clause-err g c = passed_memory c.reach_from.result c.passed_on.result _
-    (IsWordFault g.F.Format.format c.args.graph.now.packages (map string_bytes c.args.words.now))
+    (IsWordFault g.F.Format.format c.args.graph.now.packages (texts c.args.words.now))
     c.reach_from.ensures.err c.passed_on.ensures.err (λ fault. tt)

@@ -16,13 +16,11 @@ returns-in_err-graph-clause-err g c =
     let kept = c.keep_links.new.links.items in
     let told = c.in_err-graph.ensures.err in
     let refused = subst (λ made. IfErr made (IsRefusal r.packages.items kept r.workspace)) told.1 c.into_graph.ensures.refused in
-    rw (passed_on.1, passed_on.2) (subst (IsLoadFault g.F.Format.format c.args.asked.now.options.kinds (asked_shown c.args.asked.now).platforms c.args.input.now c.in_err-graph.field-0.0) (sym told.2) (OrMemory-holds told.0 (record {
+    rw (passed_on.1, passed_on.2) (subst (IsLoadFault g.F.Format.format c.args.asked.now.options.kinds (asked_shown c.args.asked.now).question c.args.input.now c.in_err-graph.field-0.0) (sym told.2) (OrMemory-holds told.0 (record {
       packages = r.packages.items;
       links = r.links.items;
       workspace = r.workspace;
       said = c.in_ok-records.ensures.said;
-      meant = c.in_ok-platforms.platforms.items;
-      are_meant = c.in_ok-platforms.ensures.ok;
       holds = subst (λ links. IsRefusal r.packages.items links r.workspace told.0) c.keep_links.ensures refused;
     })))
 
@@ -36,8 +34,6 @@ returns-clause-ok g c =
       links = r.links.items;
       workspace = r.workspace;
       said = c.in_ok-records.ensures.said;
-      meant = c.in_ok-platforms.platforms.items;
-      are_meant = c.in_ok-platforms.ensures.ok;
       holds = subst (λ links. IsAccepted r.packages.items links r.workspace × Holds graph r.packages.items links r.workspace) c.keep_links.ensures (
         subst (λ made. OnOk made (IsAccepted r.packages.items kept r.workspace)) c.in_ok-graph.ensures.ok c.into_graph.ensures.accepted,
         subst (λ made. IfOk made (λ h. Holds h r.packages.items kept r.workspace)) c.in_ok-graph.ensures.ok c.into_graph.ensures.holds,

@@ -5,7 +5,6 @@ returns g c =
     let r = c.run_with.ensures in
     record {
       ok = r.ok;
-      arguments = r.arguments;
       arguments_read = r.arguments_read;
       fault = r.fault;
       input_fails = r.input_failed;

@@ -1,0 +1,162 @@
+//! The options and commands of `guppy-cargo`.
+ghost use Rattle.std.specs.Prelude.{◌≡◌};
+ghost use Rattle.guppy_command.specs.Shown.{program_shown};
+ghost use Rattle.guppy_arguments.specs.Table.{cargo_program, usage_of};
+
+use guppy_command::grammar::{OptionRow, Program};
+use guppy_command::table::{
+    CFGS, IDS, IGNORE, KINDS, PATHS_FROM, PLATFORM, PUBLISHABLE, WORKSPACE,
+};
+
+/// The options, each with its value, whether it may come again, the commands that take it, where not all do, and its help.
+pub const OPTIONS: &[OptionRow] = &[
+    (
+        KINDS,
+        Some("KINDS"),
+        false,
+        None,
+        "of links with a section of these kinds alone: some of normal,build,dev,\n      separated by commas",
+    ),
+    (
+        PLATFORM,
+        Some("TRIPLE"),
+        true,
+        None,
+        "of links that are on on this platform, or one of several, each with its --cfgs",
+    ),
+    (
+        CFGS,
+        Some("FILE"),
+        true,
+        None,
+        "what rustc --print cfg prints for the platform; the scripts ask rustc where none\n      is given",
+    ),
+    (
+        WORKSPACE,
+        None,
+        false,
+        None,
+        "prints members of the workspace alone",
+    ),
+    (IDS, None, false, None, "prints packages by their IDs"),
+    (
+        PUBLISHABLE,
+        None,
+        false,
+        Some(&["publish-order"]),
+        "prints those alone that can be published",
+    ),
+    (
+        IGNORE,
+        Some("FOLDER"),
+        true,
+        Some(&["affected"]),
+        "leaves out what lies in this folder",
+    ),
+    (
+        PATHS_FROM,
+        Some("FILE"),
+        true,
+        Some(&["affected"]),
+        "adds the paths in this file, each ended by a NUL, as git writes them with -z;\n      to the scripts - is standard input",
+    ),
+];
+
+/// What the commands are called.
+pub const COMMANDS: &[&str] = &[
+    "affected",
+    "publish-order",
+    "depends",
+    "why",
+    "reach",
+    "order",
+    "roots",
+    "links",
+    "cycles",
+    "duplicates",
+    "dot",
+    "verify",
+];
+
+/// The commands, each with what to give, and its help.
+pub const USAGES: &[(&str, &str, &str)] = &[
+    (
+        "affected",
+        "affected PATH..",
+        "the members to test when these files changed, what they depend on first; a PATH\n      \
+         is relative to the workspace's root, ./-x is one, -x is not; to the scripts\n      \
+         --since REVISION adds what git says changed since then",
+    ),
+    (
+        "publish-order",
+        "publish-order",
+        "the members, each after those that it needs",
+    ),
+    (
+        "depends",
+        "depends PACKAGE PACKAGE",
+        "whether the first depends on the second",
+    ),
+    (
+        "why",
+        "why PACKAGE PACKAGE",
+        "a shortest walk of links from the first to the second",
+    ),
+    (
+        "reach",
+        "reach forward|reverse PACKAGE..",
+        "these packages and what they need, or what needs them",
+    ),
+    ("order", "order", "all packages, dependents first"),
+    (
+        "roots",
+        "roots forward|reverse",
+        "the packages that no other one needs, or that need none",
+    ),
+    (
+        "links",
+        "links forward|reverse",
+        "the links from these roots on, the ends of each on a line",
+    ),
+    (
+        "cycles",
+        "cycles",
+        "the packages that need each other, a cycle a line",
+    ),
+    (
+        "duplicates",
+        "duplicates",
+        "packages whose name another one has, too, each with those that need it, on a\n      line",
+    ),
+    (
+        "dot",
+        "dot PACKAGE..",
+        "what these packages need, or all where none is given, as Graphviz draws it",
+    ),
+    (
+        "verify",
+        "verify",
+        "ok, where no cycle is over links that aren't dev-only",
+    ),
+];
+
+// What `guppy-cargo` takes: its options may stand anywhere.
+pub(crate) fn program() -> Program
+    ensures { program_shown result ≡ cargo_program }
+{
+    Program {
+        options: OPTIONS,
+        anywhere: true,
+        commands: COMMANDS,
+    }
+}
+
+// What to give of the command.
+pub(crate) fn usage_of(command: &str) -> &'static str
+    ensures { result.now ≡ usage_of command.now }
+{
+    match USAGES.iter().find(|row| row.0 == command) {
+        Some(row) => row.1,
+        None => "",
+    }
+}

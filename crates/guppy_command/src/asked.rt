@@ -1,0 +1,346 @@
+//! What arguments ask.
+ghost use Rattle.std.specs.Prelude.{◌≡◌, map, string_bytes, option_map, IfOk};
+ghost use Rattle.std.specs.List.{find, zip};
+ghost use Rattle.guppy_command.specs.Asked.{word_of, value_for, is_option, words_in, values_of, has, is_among, takes, may_repeat, command_in, judged, all_judged, kinds_in, platforms_in, options_in, has_paths, affected_of, asked_by, wanted_of, is_all};
+ghost use Rattle.guppy_command.specs.Command.{from_root};
+ghost use Rattle.guppy_command.specs.Shown.{argument_shown, row_shown, program_shown, command_shown, wanted_shown, texts, Gives};
+
+use crate::command::{Command, command_of, from_root};
+use crate::grammar::{Argument, Misread, OptionRow, Program, called};
+use crate::options::{Kinds, Options, kinds_of};
+use crate::table::{CFGS, IDS, IGNORE, KINDS, PATHS_FROM, PLATFORM, PUBLISHABLE, WORKSPACE};
+use guppy_data::PlatformSpec;
+use guppy_target::Platform;
+use std::alloc::{AllocError, Global};
+
+/// What arguments ask, before the files that they name are read.
+#[derive(Debug, Drop)]
+pub struct Wanted<'a> {
+    /// What is asked of every command.
+    pub options: Options,
+    /// The platforms by their names, each with the file that says what is set there.
+    pub platforms: Vec<(&'a str, &'a str)>,
+    /// The command.
+    pub command: Command<'a>,
+    /// The files that have more paths.
+    pub path_files: Vec<&'a str>,
+}
+
+/// What the program is asked.
+#[derive(Debug, Drop)]
+pub struct Asked<'a> {
+    /// What is asked of every command.
+    pub options: Options,
+    /// The platforms on which links count.
+    pub platforms: PlatformSpec<Platform>,
+    /// The command.
+    pub command: Command<'a>,
+}
+
+fn word_of<'a>(argument: &Argument<'a>) -> Option<&'a str>
+    ensures { option_map (λ text. text.now) result ≡ word_of (argument_shown argument.now) }
+{
+    match argument {
+        Argument::Word(text) => Some(text),
+        Argument::Option(..) => None,
+    }
+}
+
+// The value of the option, if the argument is that.
+fn value_for<'a>(name: &str, argument: &Argument<'a>) -> Option<&'a str>
+    ensures { option_map (λ text. text.now) result ≡ value_for name.now (argument_shown argument.now) }
+{
+    match argument {
+        Argument::Option(other, value) if *other == name => *value,
+        _ => None,
+    }
+}
+
+fn is_option(name: &str, argument: &Argument<'_>) -> bool
+    ensures { result ≡ is_option name.now (argument_shown argument.now) }
+{
+    match argument {
+        Argument::Option(other, _) => *other == name,
+        Argument::Word(_) => false,
+    }
+}
+
+// The words that are no option and no value.
+fn words_in<'a>(alloc: Global, given: &[Argument<'a>]) -> Result<Vec<&'a str>, AllocError>
+    ensures { IfOk result (λ words. texts words.items ≡ words_in (map argument_shown given.now)) }
+{
+    let mut words = Vec::with_capacity(alloc, given.len())?;
+    for argument in given {
+        if let Some(text) = word_of(argument) {
+            words.push(text)?;
+        }
+    }
+    Ok(words)
+}
+
+// The values of the option.
+fn values_of<'a>(
+    alloc: Global,
+    name: &str,
+    given: &[Argument<'a>],
+) -> Result<Vec<&'a str>, AllocError>
+    ensures { IfOk result (λ values. texts values.items
+        ≡ values_of name.now (map argument_shown given.now)) }
+{
+    let mut values = Vec::new(alloc);
+    for argument in given {
+        if let Some(value) = value_for(name, argument) {
+            values.push(value)?;
+        }
+    }
+    Ok(values)
+}
+
+// Whether the option is given.
+fn has(name: &str, given: &[Argument<'_>]) -> bool
+    ensures { result ≡ has name.now (map argument_shown given.now) }
+{
+    given.iter().any(|argument| is_option(name, argument))
+}
+
+// Whether the text is one of these.
+fn is_among(names: &[&str], text: &str) -> bool
+    ensures { result ≡ is_among (texts names.now) text.now }
+{
+    names.contains(&text)
+}
+
+// Whether the command takes the option.
+fn takes(options: &'static [OptionRow], command: &str, name: &str) -> bool
+    ensures { result ≡ takes (map row_shown options.now) command.now name.now }
+{
+    let Some(row) = called(options, name) else {
+        return false;
+    };
+    match row.3 {
+        Some(commands) => is_among(commands, command),
+        None => true,
+    }
+}
+
+// Whether the option may come again.
+fn may_repeat(options: &'static [OptionRow], name: &str) -> bool
+    ensures { result ≡ may_repeat (map row_shown options.now) name.now }
+{
+    match called(options, name) {
+        None => false,
+        Some((_, _, repeats, ..)) => *repeats,
+    }
+}
+
+// The command, which comes first, and the words behind it.
+fn command_in<'a, 'w>(
+    program: &Program,
+    words: &'w [&'a str],
+) -> Result<(&'a str, &'w [&'a str]), Misread<'a>>
+    ensures { Gives (λ found. (found.0.now, texts found.1.now))
+        (command_in (program_shown program.now) (texts words.now)) result }
+{
+    let [word, words @ ..] = words else {
+        return Err(Misread::NoCommand);
+    };
+    if is_among(program.commands, word) {
+        Ok((word, words))
+    } else {
+        Err(Misread::UnknownCommand(word))
+    }
+}
+
+// Whether an option is one that the command takes, and comes again behind it only if it may.
+fn judge<'a>(
+    program: &Program,
+    command: &'a str,
+    argument: &Argument<'a>,
+    behind: &[Argument<'a>],
+) -> Result<(), Misread<'a>>
+    ensures { Gives (λ x. x) (judged (map row_shown program.now.options.now) command.now
+        (argument_shown argument.now) (map argument_shown behind.now)) result }
+{
+    let Argument::Option(name, _) = argument else {
+        return Ok(());
+    };
+    if !takes(program.options, command, name) {
+        return Err(Misread::NotTaken(command, name));
+    }
+    if has(name, behind) && !may_repeat(program.options, name) {
+        return Err(Misread::Repeated(name));
+    }
+    Ok(())
+}
+
+// Whether each option is so.
+fn judge_all<'a>(
+    program: &Program,
+    command: &'a str,
+    given: &[Argument<'a>],
+) -> Result<(), Misread<'a>>
+    ensures { Gives (λ x. x) (all_judged (map row_shown program.now.options.now) command.now
+        (map argument_shown given.now)) result }
+{
+    let mut rest = given;
+    while let [argument, behind @ ..] = rest {
+        judge(program, command, argument, behind)?;
+        rest = behind;
+    }
+    Ok(())
+}
+
+// The kinds that are named, where any are.
+fn kinds_in<'a>(values: &[&'a str]) -> Result<Option<Kinds>, Misread<'a>>
+    ensures { Gives (λ kinds. kinds) (kinds_in (texts values.now)) result }
+{
+    let [value, ..] = values else {
+        return Ok(None);
+    };
+    match kinds_of(value) {
+        Some(kinds) => Ok(Some(kinds)),
+        None => Err(Misread::BadKinds(value)),
+    }
+}
+
+// Each of the first with that of the second which stands at the same place.
+fn paired<'a>(
+    alloc: Global,
+    firsts: &[&'a str],
+    seconds: &[&'a str],
+) -> Result<Vec<(&'a str, &'a str)>, AllocError>
+    ensures { IfOk result (λ pairs. map (λ named. (named.0.now, named.1.now)) pairs.items
+        ≡ zip (texts firsts.now) (texts seconds.now)) }
+{
+    let mut pairs = Vec::new(alloc);
+    for (first, second) in firsts.iter().zip(seconds.iter()) {
+        pairs.push((*first, *second))?;
+    }
+    Ok(pairs)
+}
+
+// The platforms, each with its file.
+fn platforms_in<'a>(
+    alloc: Global,
+    given: &[Argument<'a>],
+) -> Result<Vec<(&'a str, &'a str)>, Misread<'a>>
+    ensures { Gives (λ pairs. map (λ named. (named.0.now, named.1.now)) pairs.items)
+        (platforms_in (map argument_shown given.now)) result }
+{
+    let triples = values_of(alloc, PLATFORM, given)?;
+    let files = values_of(alloc, CFGS, given)?;
+    if triples.len() == files.len() {
+        Ok(paired(alloc, triples.as_slice(), files.as_slice())?)
+    } else {
+        Err(Misread::LonePlatform)
+    }
+}
+
+// How an answer is shown, and of which links.
+fn options_in<'a>(alloc: Global, given: &[Argument<'a>]) -> Result<Options, Misread<'a>>
+    ensures { Gives (λ options. options) (options_in (map argument_shown given.now)) result }
+{
+    let kinds = values_of(alloc, KINDS, given)?;
+    Ok(Options {
+        kinds: kinds_in(kinds.as_slice())?,
+        members_alone: has(WORKSPACE, given),
+        by_id: has(IDS, given),
+    })
+}
+
+// Whether the folder is the whole workspace.
+fn is_all(folder: &str) -> bool
+    ensures { result ≡ is_all folder.now }
+{
+    matches!(from_root(folder), "" | ".")
+}
+
+// The paths without a `./` at their fronts.
+fn from_roots(alloc: Global, paths: &[&str]) -> Result<Vec<String>, AllocError>
+    ensures { IfOk result (λ copies. map string_bytes copies.items
+        ≡ map from_root (texts paths.now)) }
+{
+    let mut copies = Vec::with_capacity(alloc, paths.len())?;
+    for path in paths {
+        copies.push(String::from_str(alloc, from_root(path))?)?;
+    }
+    Ok(copies)
+}
+
+// The first of the folders that is the whole workspace.
+fn first_all<'a>(folders: &[&'a str]) -> Option<&'a str>
+    ensures { option_map (λ folder. folder.now) result ≡ find is_all (texts folders.now) }
+{
+    folders.iter().find(|folder| is_all(folder)).copied()
+}
+
+// Whether paths are given, or files that have some.
+fn has_paths(given: &[Argument<'_>], paths: &[&str]) -> bool
+    ensures { result ≡ has_paths (map argument_shown given.now) (texts paths.now) }
+{
+    !paths.is_empty() || has(PATHS_FROM, given)
+}
+
+// The members that changes at these paths affect, with folders to leave out.
+fn affected_of<'a>(
+    alloc: Global,
+    given: &[Argument<'a>],
+    paths: &[&'a str],
+) -> Result<Command<'a>, Misread<'a>>
+    ensures { Gives command_shown (affected_of (map argument_shown given.now) (texts paths.now)) result }
+{
+    if !has_paths(given, paths) {
+        return Err(Misread::NoPaths);
+    }
+    let folders = values_of(alloc, IGNORE, given)?;
+    if let Some(folder) = first_all(folders.as_slice()) {
+        return Err(Misread::AllIgnored(folder));
+    }
+    Ok(Command::Affected {
+        ignored: from_roots(alloc, folders.as_slice())?,
+        paths: from_roots(alloc, paths)?,
+    })
+}
+
+// What the command asks with these words behind it.
+fn asked_by<'a>(
+    alloc: Global,
+    given: &[Argument<'a>],
+    command: &'a str,
+    words: &[&'a str],
+) -> Result<Command<'a>, Misread<'a>>
+    ensures { Gives command_shown
+        (asked_by (map argument_shown given.now) command.now (texts words.now)) result }
+{
+    if command == "affected" {
+        return affected_of(alloc, given, words);
+    }
+    match command_of(alloc, has(PUBLISHABLE, given), command, words)? {
+        Some(asked) => Ok(asked),
+        None => Err(Misread::BadWords(command)),
+    }
+}
+
+/// What the arguments ask, before the files that they name are read, or why they ask nothing. Takes time linear in them,
+/// times the options, and memory for a reference an argument.
+pub fn wanted_of<'a>(
+    alloc: Global,
+    program: &Program,
+    given: &[Argument<'a>],
+) -> Result<Wanted<'a>, Misread<'a>>
+    ensures { Gives wanted_shown
+        (wanted_of (program_shown program.now) (map argument_shown given.now)) result }
+{
+    let words = words_in(alloc, given)?;
+    let (command, words) = command_in(program, words.as_slice())?;
+    judge_all(program, command, given)?;
+    let options = options_in(alloc, given)?;
+    let platforms = platforms_in(alloc, given)?;
+    let command = asked_by(alloc, given, command, words)?;
+    Ok(Wanted {
+        options,
+        platforms,
+        command,
+        path_files: values_of(alloc, PATHS_FROM, given)?,
+    })
+}

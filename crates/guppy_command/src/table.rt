@@ -1,0 +1,18 @@
+//! What options are called.
+
+/// The kinds of links that count.
+pub const KINDS: &str = "--kinds";
+/// A platform on which links count.
+pub const PLATFORM: &str = "--platform";
+/// The file that says what is set on a platform.
+pub const CFGS: &str = "--cfgs";
+/// Members of the workspace are shown alone.
+pub const WORKSPACE: &str = "--workspace";
+/// Packages are called by their IDs.
+pub const IDS: &str = "--ids";
+/// Members that can be published are wanted alone.
+pub const PUBLISHABLE: &str = "--publishable";
+/// A folder whose paths count for nothing.
+pub const IGNORE: &str = "--ignore";
+/// A file that has more paths.
+pub const PATHS_FROM: &str = "--paths-from";
