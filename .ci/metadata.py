@@ -167,6 +167,32 @@ def try_asked(world):
     yield "no file is left", not world.left(), world.left()
 
 
+def try_flags(world):
+    """What is set by the flags that cargo gives rustc, of its settings or of the environment, beside what cargo tree follows."""
+    top, host = world.room / "a workspace", "x86_64-unknown-linux-gnu"
+    make(top)
+    world.build()
+    needs = '[target."cfg({})".dependencies]\nb.path = "../b"\n'
+    (top / ".cargo").mkdir()
+    for cfg, settings, flags in (
+        ("mine", '[build]\nrustflags = ["--cfg", "mine"]\n', ""),
+        ("mine", f'[target.{host}]\nrustflags = ["--cfg", "mine"]\n', ""),
+        ("mine", '[target."cfg(unix)"]\nrustflags = ["--cfg", "other"]\n', ""),
+        ("mine", "", "--cfg mine"),
+        ("mine", "", ""),
+        ('panic = \\"unwind\\"', "", "-C panic=abort"),
+        ('panic = \\"unwind\\"', "", ""),
+    ):
+        (top / "a/Cargo.toml").write_text(MANIFEST.format("a") + needs.format(cfg))
+        (top / ".cargo/config.toml").write_text(settings)
+        how = {"where": top, "environment": {"RUSTFLAGS": flags} if flags else {}}
+        tree = lines(world.run(["cargo", "tree", "-p", "a", "--target", host, "--prefix", "none", "--format", "{p}"], **how))
+        followed = sorted(it for it in tree if it in MEMBERS)
+        reached = lines(world.run(["guppy-cargo", "reach", "forward", "a", "--platform", host], **how))
+        yield f"{cfg}, {settings!r}, {flags!r}", reached == followed, (reached, tree)
+    yield "no file of flags is left", not world.left(), world.left()
+
+
 def try_given(world):
     """Metadata from a file and from standard input, and standard input that counts for nothing."""
     top = world.room / "a workspace"

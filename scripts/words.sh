@@ -130,7 +130,8 @@ answer() {
     manifest=$(eval "quote $(of_kind manifest)")
     features=$(eval "quote $(of_kind features)")
     others=$(eval "quote $(of_kind others)")
-    platforms=
+    platforms= asks_cargo=
+    [ -n "$metadata" ] || asks_cargo=1
     eval "take_platforms $(of_kind named)"
     # The command stands first: the program takes its options behind it too.
     eval "set -- $(of_kind left) $(of_kind asked) $platforms"
