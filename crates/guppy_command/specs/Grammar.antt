@@ -23,7 +23,7 @@ pub data Argument : Type 0 where
   option : List ℕ → Option (List ℕ) → Argument
   word : List ℕ → Argument
 
--- why arguments ask nothing: no option is called as the word says; the option lacks its value, takes none, comes again,
+-- why arguments ask nothing: no option is called so; the option lacks its value, takes none, comes again,
 -- or is not the command's; there is no command, or none is called so; the words behind the command don't fit it, or the
 -- value no kinds; a platform has no file with what is set there, or a file no platform; the folder to leave out is all;
 -- no path is given; the file of a platform can't be read, or has a bad line behind so many; a file with paths can't be
@@ -81,7 +81,7 @@ valued_at text (next ∷ words) = option_map_or (λ value. Ok (option (name_in t
 -- the option at the front of the words, and the words behind it
 abbrev pub option_at : List OptionRow → List ℕ → List (List ℕ) → Result (Argument × List (List ℕ)) Misread
 option_at options text words = option_map_or (λ row. if row.takes_value then valued_at text words else flag_at text words)
-    (called options (name_in text)) (Err (no_option text))
+    (called options (name_in text)) (Err (no_option (name_in text)))
 
 -- the argument at the front of the words, and the words behind it
 abbrev pub first_at : Program → List ℕ → List (List ℕ) → Result (Argument × List (List ℕ)) Misread

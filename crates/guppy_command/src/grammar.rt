@@ -39,7 +39,7 @@ pub enum Argument<'a> {
 /// Why arguments ask nothing.
 #[derive(Clone, Copy, Debug)]
 pub enum Misread<'a> {
-    /// No option is called as the word says.
+    /// No option is called so.
     NoOption(&'a str),
     /// Nothing stands behind the option, which takes a value.
     NoValue(&'a str),
@@ -161,7 +161,7 @@ fn option_at<'a>(
 {
     let (name, _) = parts_of(text);
     match called(program.options, name) {
-        None => Err(Misread::NoOption(text)),
+        None => Err(Misread::NoOption(name)),
         Some((_, Some(_), ..)) => valued_at(text, words),
         Some((_, None, ..)) => flag_at(text, words),
     }
