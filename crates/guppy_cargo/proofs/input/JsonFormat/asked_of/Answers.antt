@@ -17,4 +17,4 @@ misread has args (Metadata fault) tells = tells
 misread has args NoText tells = tells
 
 pub returns-clause-misread : goal.returns-clause-misread
-returns-clause-misread c = IfErr-weaker c.asked_of.result _ _ (misread _ (map string_bytes c.args.args.now)) c.asked_of.ensures.err
+returns-clause-misread g c = IfErr-weaker c.asked_of.result _ _ (misread _ (map string_bytes c.args.args.now)) c.asked_of.ensures.err
