@@ -1,4 +1,4 @@
--- How a program reads its input, and what it calls packages.
+-- What a program is asked, how it reads its input, and what it calls packages.
 use Rattle.std.specs.Prelude.{◌≡◌, ◌<◌, ℕ, List, [], length, map, codes}
 use Rattle.std.specs.List.{join_by}
 use Rattle.guppy_data.specs.declared.records.PackageRecord.{PackageRecord}

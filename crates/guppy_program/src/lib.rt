@@ -1,10 +1,11 @@
 //! The programs `guppy-run` and `guppy-cargo`, over any source and sink.
 //!
-//! What the arguments ask, and what is read and written, is `guppy_command`'s, whose types are passed on. The modules above
-//! that, from the bottom up:
+//! What the arguments ask, and what is read and written, is `guppy_command`'s, whose types are passed on. The modules
+//! above that, from the bottom up:
 //!
 //! - `files`: the files of the system;
-//! - `format`: what differs between programs, what they are asked, how they read their input and what they call packages;
+//! - `format`: what differs between programs: what they are asked, how they read their input and what they call
+//!   packages;
 //! - `answer`: what a command answers of a package graph; `publish`: of the order in which members can be
 //!   published; `why`: of how one package depends on another;
 //! - `members`: the members of the workspace in that;

@@ -128,8 +128,8 @@ fn answer_source<F: Format, R: Source>(
 ///
 /// The graph is forgotten, not let go: its memory is given back when the process ends.
 ///
-/// Neither device may have failed before. Time grows with the lengths of the files and of the input, and with the packages
-/// and links times the logarithm of the packages.
+/// Neither device may have failed before. Time grows with the lengths of the files and of the input, and with the
+/// packages and links times the logarithm of the packages.
 pub fn run_with<F: Format, D: Files, R: Source, W: Sink>(
     alloc: Global,
     args: &[String],
@@ -151,8 +151,8 @@ pub fn run_with<F: Format, D: Files, R: Source, W: Sink>(
 
     // The fault is why the arguments ask nothing. Or they ask something, all input was read, and the fault is why the
     // input says no records, or the first fault of its records, or where they have none, the first word of the command
-    // that doesn't mean one package or, for `verify` and `publish-order` alone, a fault that the graph's `verify` may tell.
-    // Or memory ran out.
+    // that doesn't mean one package or, for `verify` and `publish-order` alone, a fault that the graph's `verify` may
+    // tell. Or memory ran out.
     ensures fault { (fault : F.Fault) → result ≡ Err fault
         → IsRunFault F.format (D.has files.now) (map string_bytes args.now) (R.left reader.old)
         (R.left reader.new) fault (F.Fault.cause fault) }
@@ -191,8 +191,8 @@ pub(crate) fn run_of<F: Format, D: Files, R: Source, W: Sink>(
     run_with::<F, D, R, W>(alloc, args, files, reader, writer)
 }
 
-/// What is printed for what is asked by `args` of the package graph that the input says, as [`run_with`] has it, for callers
-/// that have the input and want the text. All else is let go of.
+/// What is printed for what is asked by `args` of the package graph that the input says, as [`run_with`] has it, for
+/// callers that have the input and want the text. All else is let go of.
 ///
 /// Where the arguments ask nothing, that is told. Time grows with the lengths of the files and of the input, and with
 /// the packages and links times the logarithm of the packages.
@@ -206,7 +206,8 @@ pub fn answer_bytes<F: Format, D: Files>(
     ensures ok { IfOk result (λ text. IsAnswered F.format (D.has files.now)
         (map string_bytes args.now) input.now (λ output. output ≡ string_bytes text)) }
 
-    // The fault is why the arguments ask nothing, or one of the input or of the command on its graph, or memory ran out.
+    // The fault is why the arguments ask nothing, or one of the input or of the command on its graph, or memory ran
+    // out.
     ensures fault { IfErr result (λ fault. IsAnswerFault F.format (D.has files.now)
         (map string_bytes args.now) input.now fault (F.Fault.cause fault)) }
 {
