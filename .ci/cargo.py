@@ -528,6 +528,12 @@ def try_help(graph):
     for command, own in (("order", []), ("publish-order", ["--publishable"]), ("affected", ["--ignore", "--paths-from"])):
         options = re.findall(r"^  (--[a-z-]+)", run(["help", command], b"")[1], re.M)
         yield f"help {command}, its options", ["--kinds", "--platform", "--cfgs", "--workspace", "--ids", *own], options
+    with open(os.path.join(HERE, "../docs/PROGRAM.md"), encoding="utf-8") as page:
+        rows = [it.split("|")[1] for it in page if it.startswith("| `")]
+    documented = [option for it in rows for option in re.findall("--[a-z-]+", it)]
+    helped = [it for words in COMMANDS for it in re.findall(r"^  (--[a-z-]+)", run(["help", words], b"")[1], re.M)]
+    yield "the options of PROGRAM", sorted(set(helped)), sorted(documented)
+    yield "the commands of PROGRAM", sorted(COMMANDS), sorted(re.findall(r"`([a-z][a-z-]*)", " ".join(rows)))
     for word in (it[1:] for it in COMMANDS):
         apart = {it: edits(word, it) for it in COMMANDS}
         wanted = {it for it in COMMANDS if apart[it] == min(apart.values())}
