@@ -166,10 +166,12 @@ def noted(world, changing, words=("--since", "HEAD"), others=(), **how):
     how["environment"] = environment | how.get("environment", {})
     ran = world.run(["guppy-cargo", "affected", *words], **how)
     # An untracked repository is given with a slash at its end.
-    first, *got = [it.removesuffix(b"/") for it in note.read_bytes().split(b"\0")]
+    # Behind the paths stands an empty file that may have more.
+    told = [it.removesuffix(b"/") for it in note.read_bytes().split(b"\0")][:-2]
+    got = told[1:-1]
     changed = [b"./" + it if it.startswith(b"-") else it for it in changing.changed()]
-    wanted = sorted([*changed, *others, b"--paths-from", b"/dev/null", b""])
-    is_right = ran[0] == 0 and first == b"affected" and sorted(got) == wanted
+    wanted = sorted([*changed, *others])
+    is_right = ran[0] == 0 and told[:1] + told[-1:] == [b"affected", b"--paths-from"] and sorted(got) == wanted
     return is_right, (ran, [it for it in got if it not in wanted], [it for it in wanted if it not in got])
 
 
