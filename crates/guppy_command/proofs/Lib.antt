@@ -2,9 +2,5 @@ pub mod FirstItems
 pub mod ShownItems
 pub mod Asking
 pub mod ReadArguments
-pub mod Cuts
-pub mod InputLines
-pub mod RecordLines
 pub mod Writes
 pub mod Paths
-pub mod EscapedTexts

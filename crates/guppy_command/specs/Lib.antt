@@ -9,10 +9,5 @@ pub mod Text
 pub mod Paths
 pub mod Asked
 pub mod Shown
-pub mod Stated
-pub mod RunFault
-pub mod Records
-pub mod Reading
 pub mod Process
 pub mod Printed
-pub mod Quoted

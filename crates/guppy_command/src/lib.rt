@@ -13,9 +13,8 @@
 //! - `asked`: what arguments ask;
 //! - `files`: the files that arguments name; `found`: what arguments ask, with what these have;
 //! - `process`: what a process is given, and how it ends;
-//! - `print` and `quoted`: lines, and texts in quotation marks, of which answers are printed;
-//! - `laws`: words read as arguments in one way;
-//! - `lines`: the records that lines of text say, as `guppy-run` reads them.
+//! - `print`: lines, of which answers are printed;
+//! - `laws`: words read as arguments in one way.
 #![tactic(auto)]
 
 pub mod asked;
@@ -26,12 +25,10 @@ pub mod files;
 pub mod found;
 pub mod grammar;
 pub mod laws;
-pub mod lines;
 pub mod options;
 pub mod platforms;
 pub mod print;
 pub mod process;
-pub mod quoted;
 pub mod table;
 pub mod transfer;
 
@@ -41,7 +38,5 @@ pub use device::{DeviceFault, IoSink, IoSource, Sink, Source};
 pub use fault::{Fault, ProgramFault};
 pub use files::{FileFault, Files, NoFiles};
 pub use grammar::{Argument, Misread, OptionRow, Program};
-pub use lines::fault::RunFault;
-pub use lines::input::records_of;
 pub use options::{Kinds, Options};
 pub use process::{Ending, arguments};

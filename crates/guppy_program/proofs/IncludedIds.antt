@@ -12,10 +12,6 @@ use Rattle.guppy.specs.Ids.{HasId}
 use Rattle.guppy.specs.Listed.{ids_at, positions_listed}
 use Rattle.guppy.specs.Query.{IncludesId, SetData}
 
--- where no item is left, all that were left at first were given
-pub all_given : {S A B : Type 0} (view : A → B) (rest : S → List B) (s t u : S) (given : List A) → Yields (YieldsFirstBy view rest) s given t → YieldsFirstBy view rest t None u → map view given ≡ rest s
-all_given view rest s t u given gave step = (YieldsList-end (YieldsList-from_first view rest {s = s} (rest s) refl) given t gave None u refl step).0
-
 -- an ID among those of one more package, if there is one, and of the rest
 module _ (packages : List PackageRecord) (id : List ℕ) where
   listed_first : (o : Option PackageRecord) (rest : List (List ℕ)) → IsSomeAnd o (λ r. r.id ≡ id) → Contains (cons_option (option_map (λ r. r.id) o) rest) id

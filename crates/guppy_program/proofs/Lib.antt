@@ -7,5 +7,4 @@ pub mod PackageLists
 pub mod PublishableMembers
 pub mod Runs
 pub mod WholeSet
-pub mod Drawings
 pub mod GrowingLines

@@ -27,21 +27,6 @@ use Rattle.guppy.proofs.CyclicComponents.{Contains-map, from_map}
 use Rattle.guppy.proofs.UnknownTexts.{NamesText-along, first_unknown-read}
 use Rattle.guppy_program.specs.Answer.{IsReached}
 
-module _ {S : Type 0} (steps : S → Option (Bor (List ℕ)) → S → Type 0) (s : S) (ids : List (List ℕ)) (road : YieldsList steps (λ r. r.now) s ids) where
-  -- what was given to the end is the list
-  pub drained_ids : (named : List (Bor (List ℕ))) → Drains steps s named → map (λ r. r.now) named ≡ ids
-  drained_ids named d = (YieldsList-end road named d.1.0 d.1.1 None d.0 refl d.1.2).0
-
-  -- the first unknown ID of what was given is that of the list
-  pub first_unknown-given : (packages : List PackageRecord) (e : Error)
-      → NamesId (ReadsTo steps text_now s (EndsInUnknown packages)) e
-      → NamesId (IsFirstUnknown packages ids) e
-  first_unknown-given packages e names =
-      NamesText-along named_id (ReadsTo steps text_now s (EndsInUnknown packages)) (IsFirstUnknown packages ids) e
-      (λ id n. subst (λ l. IsFirstUnknown packages l id) (take-append-drop (length n.0) ids)
-      (first_unknown-read (IsKnown packages) (take (length n.0) ids) (drop (length n.0) ids) id
-      (subst (λ l. EndsInUnknown packages l id) (YieldsList-so_far road n.0 n.1 n.2) n.3))) names
-
 -- what is reached from the named packages
 pub included_is_reached : (direction : DependencyDirection) (set : SetData) (g : GraphData) (ids : List (List ℕ)) (initials : List Bool) → IsSetOfIds g.packages ids initials → set.graph ≡ g
     → ((p : ℕ) → IsIn set.included p ↔ ReachedFrom (LinkStep direction g.links) (IsIn initials) p)
@@ -51,30 +36,10 @@ included_is_reached direction set g ids initials named same reaches id = (
   λ h. let from = h.2 in (h.0, subst (λ v. HasId v.packages id h.0) (sym same) h.1, (reaches h.0).1 (from.0, (named.members from.0).1 from.1, from.2)),
 )
 
--- where each ID is known, the error that names an unknown one tells that memory ran out
-pub none_unknown : (packages : List PackageRecord) (ids : List (List ℕ)) → All (IsKnown packages) ids → (error : Error) → NamesId (IsFirstUnknown packages ids) error → error ≡ OutOfMemory
-none_unknown packages ids known (UnknownPackageId id) first =
-    absurd (first.unknown (All-contains (IsKnown packages) ids id known (subst (λ l. Contains l id) (sym first.place) (Contains-append_right first.before (id ∷ first.after) id (zero, omega arith, refl)))))
-none_unknown packages ids known (PackageGraphConstructError fault) first = absurd first
-none_unknown packages ids known (UnknownFeatureId id feature) first = absurd first
-none_unknown packages ids known (UnknownWorkspacePath path) first = absurd first
-none_unknown packages ids known (UnknownWorkspaceName name) first = absurd first
-none_unknown packages ids known (PackageGraphInternalError fault) first = absurd first
-none_unknown packages ids known (FeatureGraphInternalError text) first = absurd first
-none_unknown packages ids known OutOfMemory first = refl
-
 pub two_hold : {X : Type 0} (P : X → Type 0) (x y : X) → P x → P y → All P (x ∷ y ∷ [])
 two_hold P x y px py zero d within = px
 two_hold P x y px py (suc zero) d within = py
 two_hold P x y px py (suc (suc k)) d within = absurd (omega arith)
-
--- two facts of a value make a third
-pub IfOk-both : {T E : Type 0} (result : Result T E) (P Q R : T → Type 0) → ((x : T) → P x → Q x → R x) → IfOk result P → IfOk result Q → IfOk result R
-IfOk-both (Ok x) P Q R both p q = both x p q
-IfOk-both (Err e) P Q R both p q = tt
-
-pub iff_trans : {A B C : Type 0} → A ↔ B → B ↔ C → A ↔ C
-iff_trans ab bc = (λ a. bc.0 (ab.0 a), λ c. ab.1 (bc.1 c))
 
 -- a list and what a sorted set keeps of it show the same IDs
 pub kept_ids : (eq : Bor (List ℕ) → Bor (List ℕ) → Bool) → ((x y : Bor (List ℕ)) → eq x y ≡ true → x.now ≡ y.now) → (xs ys : List (Bor (List ℕ))) → KeepsUpTo eq xs ys

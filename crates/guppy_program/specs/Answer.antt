@@ -3,7 +3,6 @@ use Rattle.std.specs.Prelude.{◌≡◌, ◌↔◌, ◌<◌, ℕ, Bool, true, Is
 use Rattle.std.specs.List.{AllZip, concat, filter, list_all, list_any}
 use Rattle.std.specs.Str.{bytes_eq}
 use Rattle.guppy_search.specs.declared.ix.direction.DependencyDirection.{DependencyDirection}
-use Rattle.guppy_search.specs.declared.ix.direction.DependencyDirection.TheVariants.{Forward}
 use Rattle.guppy_search.specs.declared.graph_core.link.Link.{Link}
 use Rattle.guppy_core.specs.Reach.{LinkStep, ReachedFrom}
 use Rattle.guppy_data.specs.declared.records.LinkRecord.{LinkRecord}
@@ -32,7 +31,7 @@ use Rattle.guppy_command.specs.declared.options.Kinds.{Kinds}
 use Rattle.guppy_command.specs.declared.options.Options.{Options}
 use Rattle.guppy_command.specs.Cause.{Cause, library, ambiguous, no_walk}
 use Rattle.guppy_command.specs.Command.{Command, reach, depends, why, order, roots, links, cycles, duplicates, verify, publish_order, dot, affected}
-use Rattle.guppy_program.specs.Dot.{Drawing, IsDrawing, among}
+use Rattle.guppy_dot.specs.Dot.{Drawing, IsDrawing, IsDrawn, IsNamed, among}
 use Rattle.guppy_program.specs.Format.{Format, alternatives}
 use Rattle.guppy_program.specs.Publish.{is_publishable}
 use Rattle.guppy_program.specs.Steps.{AreSteps}
@@ -52,10 +51,6 @@ pub data Answer : Type 0 where
 -- the word means the package with this ID alone, as `meant` tells which ones it may mean
 abbrev pub Means : (List ℕ → List (List ℕ)) → List ℕ → List ℕ → Type 0
 Means meant word id = meant word ≡ id ∷ []
-
--- the package at the position is one of those with these IDs
-abbrev pub IsNamed : GraphData → List (List ℕ) → ℕ → Type 0
-IsNamed g ids p = (id : List ℕ) × Contains ids id × HasId g.packages id p
 
 -- the ID is that of a package to which links lead in the direction from those named, or of one of
 -- these
@@ -172,12 +167,6 @@ pub record IsAffectedAnswer (g : GraphData) (ignored paths : List (List ℕ))
   pub ids : List (List ℕ)
   pub exact : AreAffectedIds g paths ignored ids
   pub told : answer ≡ package_list ids
-
--- the package at the position is drawn: each where no ID is given, else one of those named, or one to which
--- links lead from these
-abbrev pub IsDrawn : GraphData → List (List ℕ) → ℕ → Type 0
-IsDrawn g [] p = p < length g.packages
-IsDrawn g (id ∷ ids) p = ReachedFrom (LinkStep Forward g.links) (IsNamed g (id ∷ ids)) p
 
 -- the packages meant and those that they reach, or all where none is given, as they are drawn
 pub record IsDotAnswer (g : GraphData) (meant : List ℕ → List (List ℕ)) (words : List (List ℕ))

@@ -3,9 +3,6 @@ pub mod Format
 pub mod Loaded
 pub mod Steps
 pub mod Publish
-pub mod Dot
-pub mod DotText
 pub mod Answer
 pub mod Printed
 pub mod Run
-pub mod Lines

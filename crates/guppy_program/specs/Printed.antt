@@ -5,7 +5,7 @@ use Rattle.std.specs.Ordering.{nat_cmp}
 use Rattle.std.specs.Cmp.Lexicographic.{slice_cmp}
 use Rattle.guppy_command.specs.declared.options.Options.{Options}
 use Rattle.guppy_program.specs.Answer.{Answer, package_set, package_list, package_rows, package_steps, truth, all_well, drawing}
-use Rattle.guppy_program.specs.DotText.{dot_text}
+use Rattle.guppy_dot.specs.DotText.{dot_text}
 use Rattle.guppy_command.specs.Printed.{line_of, lines_of, joined, truth_line, kind_names}
 
 -- strictly ascending by bytes

@@ -5,7 +5,7 @@ use Rattle.guppy_program.specs.declared.answer.Answer.{Answer as GivenAnswer}
 use Rattle.guppy_program.specs.declared.answer.Answer.TheVariants.{Set, List, Pairs, Rows, Steps, Truth, AllWell, Drawing}
 use Rattle.guppy_program.specs.declared.answer.Step.{Step}
 use Rattle.guppy_program.specs.Answer.{Answer, package_set, package_list, package_rows, package_steps, truth, all_well, drawing}
-use Rattle.guppy_program.specs.Dot.{drawing_shown}
+use Rattle.guppy_dot.specs.Dot.{drawing_shown}
 
 -- the package by its ID, and the kinds
 abbrev pub step_shown : Step → ListOf ℕ × Kinds

@@ -12,7 +12,6 @@ ghost use Rattle.guppy_program.specs.Answer.{Means, IsReached, AreReached, IsRea
 ghost use Rattle.guppy_command.specs.Shown.{command_shown, texts};
 ghost use Rattle.guppy_program.specs.Shown.{answer_shown};
 
-use crate::dot::{Drawing, drawing_of};
 use crate::format::Format;
 use crate::publish::published;
 use crate::why::why;
@@ -21,6 +20,7 @@ use guppy::{CycleIds, Error, PackageGraph, PackageId, PackageLink, PackageSet};
 use guppy_affected::affected;
 use guppy_command::fault::{passed_on, want_of_memory};
 use guppy_command::{Command, Kinds, ProgramFault};
+use guppy_dot::{Drawing, drawing_of};
 use guppy_extras::duplicates;
 use std::alloc::{AllocError, Global};
 

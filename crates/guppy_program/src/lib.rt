@@ -11,16 +11,13 @@
 //! - `members`: the members of the workspace in that;
 //! - `print`: how it is printed;
 //! - `program`: a program;
-//! - `process`: a program with its fault told and its status;
-//! - `lines`: what `guppy-run` is asked and reads as a format, and that program.
+//! - `process`: a program with its fault told and its status.
 #![tactic(auto)]
 
 pub mod answer;
-pub mod dot;
 pub mod dot_text;
 pub mod files;
 pub mod format;
-pub mod lines;
 pub mod members;
 pub mod print;
 pub mod process;
@@ -33,8 +30,7 @@ pub use files::IoFiles;
 pub use format::Format;
 pub use guppy_command::{
     Asked, Command, DeviceFault, Ending, Fault, FileFault, Files, IoSink, IoSource, Kinds, NoFiles,
-    Options, ProgramFault, RunFault, Sink, Source, arguments, records_of,
+    Options, ProgramFault, Sink, Source, arguments,
 };
-pub use lines::{Lines, run};
 pub use process::run_process;
 pub use program::{answer_bytes, run_with};

@@ -2,13 +2,13 @@
 ghost use Rattle.std.specs.Prelude.{◌≡◌, ◌&&◌, ◌∷◌, [], IfOk, IsOkUnless, map};
 ghost use Rattle.std.specs.List.{filter, list_all};
 ghost use Rattle.guppy_program.specs.Answer.{AreMembers, is_member, of_members, shown};
-ghost use Rattle.guppy_program.specs.Dot.{edge_shown, node_shown};
+ghost use Rattle.guppy_dot.specs.Dot.{edge_shown, node_shown};
 ghost use Rattle.guppy_program.specs.Shown.{answer_shown, step_shown};
 
 use crate::answer::{Answer, Step};
-use crate::dot::{Edge, Node};
 use guppy::{Error, PackageGraph, PackageId, PackageSet};
 use guppy_command::Options;
+use guppy_dot::{Edge, Node};
 
 // Whether the package with the ID is one of the members.
 fn is_member(members: &PackageSet<'_>, id: &PackageId) -> bool

@@ -9,7 +9,8 @@ mod devices;
 #[cfg(test)]
 mod runs;
 
-use guppy_program::{IoFiles, IoSink, IoSource, Lines, arguments, run_process};
+use guppy_lines::Lines;
+use guppy_program::{IoFiles, IoSink, IoSource, arguments, run_process};
 use std::process::ExitCode;
 
 fn main(rt: HostRuntime) -> ExitCode {

@@ -2,7 +2,8 @@
 ghost use Rattle.std.specs.Prelude.{◌≡◌, false};
 
 use crate::devices::{Feed, Full, Paper, Shelf, Stumbling};
-use guppy_program::{IoSink, IoSource, Lines, NoFiles, RunFault, Sink, Source, run_process};
+use guppy_lines::{Lines, RunFault};
+use guppy_program::{IoSink, IoSource, NoFiles, Sink, Source, run_process};
 use std::alloc::{AllocError, Global};
 use std::process::Abort;
 use std::test::Fail;

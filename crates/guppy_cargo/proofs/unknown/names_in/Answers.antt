@@ -1,10 +1,10 @@
-use Rattle.std.proofs.Common.{◌∙◌, sym, ap, subst, List, [], ◌∷◌, ◌++◌, map, Bor, ℕ}
+use Rattle.std.proofs.Common.{◌∙◌, refl, sym, ap, subst, List, [], ◌∷◌, ◌++◌, map, Bor, ℕ, None}
 use Rattle.std.specs.List.Sorted.{IsPermutation}
+use Rattle.std.proofs.lemmas.Iterator.Consumers.{YieldsList-from_first, YieldsList-end}
 use Rattle.std.proofs.lemmas.List.{map_push}
 use Rattle.std.proofs.lemmas.List.Sorted.{IsPermutation-map}
 use Rattle.guppy.specs.Iterators.{packages_left, packages_of}
 use Rattle.guppy.specs.Views.{graph_packages, package_position, package_seen}
-use Rattle.guppy_program.proofs.IncludedIds.{all_given}
 use Rattle.guppy_arguments.specs.Names.{name_of}
 use Rattle.guppy_cargo.proofs.PackageNames.{name_seen, name_at, names_seen}
 use Rattle.guppy_cargo.proofs.unknown.names_in.Goals as goal
@@ -27,7 +27,8 @@ returns c =
     let g = c.args.graph in
     let gave = rw c.into_iter-package-iterator.ensures.into_iter_gives at c.loop-package.yielded_by in
     let items = c.packages-package-items.result in
-    let given = all_given package_seen packages_left items _ c.next.new.self _ gave c.in-None.ensures.steps in
+    let road = YieldsList-from_first package_seen packages_left {s = items} (packages_left items) refl in
+    let given = (YieldsList-end road c.loop-package.yielded c.loop-package.package-iterator gave None c.next.new.self refl c.in-None.ensures.steps).0 in
     let names = c.loop-package.invariant ∙ ap (map name_seen) given in
     subst (λ (all : List (List ℕ)). IsPermutation (map name_of g.now.packages) all) (sym names)
     (subst (λ (all : List (List ℕ)). IsPermutation all (map name_seen (packages_left items))) (names_seen g)

@@ -2,7 +2,7 @@ use Rattle.std.proofs.Common.{refl}
 use Rattle.std.proofs.lemmas.Result.{err_from_is_err_and}
 use Rattle.guppy_command.specs.Shown.{texts}
 use Rattle.guppy_program.specs.Answer.{IsWordFault}
-use Rattle.guppy_program.specs.Dot.{drawing_shown}
+use Rattle.guppy_dot.specs.Dot.{drawing_shown}
 use Rattle.guppy_program.proofs.Refusals.{told_memory}
 use Rattle.guppy_program.proofs.answer.dot.Goals as goal
 

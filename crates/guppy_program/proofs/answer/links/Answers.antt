@@ -4,7 +4,7 @@ use Rattle.guppy.specs.Query.{SetData}
 use Rattle.guppy.specs.Views.{link_data}
 use Rattle.guppy.specs.Walked.{AreWalkedLinks, walked_left}
 use Rattle.guppy_program.specs.Answer.{end_ids, package_rows}
-use Rattle.guppy_program.proofs.IncludedIds.{all_given}
+use Rattle.guppy_dot.proofs.GivenIds.{all_given}
 use Rattle.guppy_program.proofs.PackageLists.{seen_push}
 use Rattle.guppy_program.proofs.WholeSet.{set_is_all}
 use Rattle.guppy_program.proofs.answer.links.Goals as goal

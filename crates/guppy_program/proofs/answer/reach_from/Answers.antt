@@ -5,7 +5,7 @@ use Rattle.std.proofs.lemmas.Iterator.Consumers.{YieldsList-from_first}
 use Rattle.guppy.specs.Listed.{listed_ids_left}
 use Rattle.guppy.specs.Query.{IncludesId}
 use Rattle.guppy_program.proofs.IncludedIds.{listed_is_included}
-use Rattle.guppy_program.proofs.ReachedIds.{iff_trans, none_unknown}
+use Rattle.guppy_dot.proofs.GivenIds.{iff_trans, none_unknown}
 use Rattle.guppy_program.proofs.answer.reach_from.Goals as goal
 
 pub returns-in_err-set-clause-err : goal.returns-in_err-set-clause-err

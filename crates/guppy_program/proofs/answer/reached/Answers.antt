@@ -5,7 +5,8 @@ use Rattle.guppy_core.specs.IxSet.{IsIn}
 use Rattle.guppy_core.specs.Reach.{LinkStep, ReachedFrom}
 use Rattle.guppy.specs.Query.{IncludesId, SetData}
 use Rattle.guppy_program.specs.Answer.{IsReached}
-use Rattle.guppy_program.proofs.ReachedIds.{drained_ids, first_unknown-given, included_is_reached, IfOk-both}
+use Rattle.guppy_program.proofs.ReachedIds.{included_is_reached}
+use Rattle.guppy_dot.proofs.GivenIds.{drained_ids, first_unknown-given, IfOk-both}
 use Rattle.guppy_program.proofs.answer.reached.Goals as goal
 
 pub returns-in_err-query_directed-clause-err : goal.returns-in_err-query_directed-clause-err

@@ -2,7 +2,7 @@ use Rattle.std.proofs.Common.{◌∙◌, ap, rules, map}
 use Rattle.std.specs.Prelude.{◌&&◌}
 use Rattle.std.proofs.lemmas.Fn.{filter_same}
 use Rattle.guppy_program.specs.Answer.{is_member}
-use Rattle.guppy_program.specs.Dot.{Edge, edge_shown}
+use Rattle.guppy_dot.specs.Dot.{Edge, edge_shown}
 use Rattle.guppy_program.proofs.Membership.{filter-seen}
 use Rattle.guppy_program.proofs.members.keep_edges.Goals as goal
 

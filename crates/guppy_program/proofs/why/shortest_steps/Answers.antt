@@ -4,7 +4,8 @@ use Rattle.std.proofs.lemmas.Result.{err_from_is_err_and}
 use Rattle.guppy.specs.Ids.{IsKnown}
 use Rattle.guppy.specs.Views.{link_number}
 use Rattle.guppy_extras.specs.Walk.{NoneShorter, Between}
-use Rattle.guppy_program.proofs.ReachedIds.{none_unknown, two_hold}
+use Rattle.guppy_program.proofs.ReachedIds.{two_hold}
+use Rattle.guppy_dot.proofs.GivenIds.{none_unknown}
 use Rattle.guppy_program.proofs.why.shortest_steps.Goals as goal
 
 pub returns-in_err-walk-clause-err : goal.returns-in_err-walk-clause-err

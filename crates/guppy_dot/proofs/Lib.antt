@@ -1,0 +1,3 @@
+pub mod GivenIds
+pub mod Drawings
+pub mod EscapedTexts

@@ -1,0 +1,3 @@
+pub mod Cuts
+pub mod InputLines
+pub mod RecordLines

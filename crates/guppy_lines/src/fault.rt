@@ -1,0 +1,106 @@
+//! Why the program gives no answer.
+ghost use Rattle.std.specs.Prelude.{◌≡◌, Some};
+ghost use Rattle.guppy_data.specs.declared.texts.error.Error.TheVariants.{OutOfMemory};
+ghost use Rattle.guppy_lines.specs.declared.fault.RunFault.TheVariants.{Library};
+ghost use Rattle.guppy_lines.specs.RunFault.{cause_of, fault_text, status_of};
+
+use guppy_command::{Fault, ProgramFault};
+use guppy_data::Error;
+use std::alloc::{AllocError, AllocFailed};
+use std::fmt;
+
+/// Why the program gives no answer.
+#[derive(Debug, Drop)]
+pub enum RunFault {
+    /// The library refused the records or the command, or found no memory.
+    Library(Error),
+    /// The arguments are no command.
+    BadArguments,
+    /// No links lead from the package with the first ID to that with the second.
+    NoWalk {
+        /// The first ID.
+        from: String,
+        /// The second ID.
+        to: String,
+    },
+    /// This line is the first bad one, where all lines are counted from 1.
+    BadLine(u64),
+    /// The input could not be read.
+    InputFailed,
+    /// The output could not be written.
+    OutputFailed,
+}
+
+impl RunFault {
+    /// The status that the program ends with: 1 for a fault of the library and where no links lead from one
+    /// package to another, else 2. Takes constant time.
+    pub fn status(&self) -> u8
+        ensures { result ≡ status_of self.now }
+    {
+        match self {
+            RunFault::Library(_) | RunFault::NoWalk { .. } => 1,
+            _ => 2,
+        }
+    }
+}
+
+impl fmt::Display for RunFault {
+    ghost output = { λ e. Some (fault_text e) };
+
+    fn fmt<W: fmt::Write>(&self, f: &mut fmt::Formatter<W>) -> fmt::Result {
+        match self {
+            RunFault::Library(error) => write!(f, "{error}"),
+            RunFault::BadArguments => write!(f, "bad arguments"),
+            RunFault::NoWalk { from, to } => write!(f, "no links lead from {from} to {to}"),
+            RunFault::BadLine(number) => write!(f, "bad line {number}"),
+            RunFault::InputFailed => write!(f, "input failed"),
+            RunFault::OutputFailed => write!(f, "output failed"),
+        }
+    }
+}
+
+impl std::error::Error for RunFault {}
+
+impl ProgramFault for RunFault {
+    ghost cause = { cause_of };
+
+    ghost ending = { status_of };
+
+    fn of(fault: Fault) -> Self {
+        match fault {
+            Fault::Library(error) => RunFault::Library(error),
+            Fault::BadArguments => RunFault::BadArguments,
+            Fault::NoWalk { from, to } => RunFault::NoWalk { from, to },
+            Fault::InputFailed => RunFault::InputFailed,
+            Fault::OutputFailed => RunFault::OutputFailed,
+        }
+    }
+
+    fn ending(&self) -> u8 {
+        self.status()
+    }
+}
+
+impl From<Error> for RunFault {
+    ghost from_gives = { λ error fault. fault ≡ Library error };
+
+    fn from(error: Error) -> Self {
+        RunFault::Library(error)
+    }
+}
+
+impl From<AllocError> for RunFault {
+    ghost from_gives = { λ _ fault. fault ≡ Library OutOfMemory };
+
+    fn from(_error: AllocError) -> Self {
+        RunFault::Library(Error::OutOfMemory)
+    }
+}
+
+impl<T: Drop> From<AllocFailed<T>> for RunFault {
+    ghost from_gives = { λ _ fault. fault ≡ Library OutOfMemory };
+
+    fn from(_error: AllocFailed<T>) -> Self {
+        RunFault::Library(Error::OutOfMemory)
+    }
+}

@@ -1,0 +1,116 @@
+//! What `guppy-run` is asked, and reads: lines, each of which says a package or a link. A package is called by its ID.
+ghost use Rattle.std.specs.Prelude.{◌≡◌, IfNone, IfSome};
+ghost use Rattle.guppy_data.specs.declared.texts.error.Error.TheVariants.{OutOfMemory};
+ghost use Rattle.guppy_lines.specs.declared.fault.RunFault.TheVariants.{BadArguments, Library};
+ghost use Rattle.guppy_command.specs.Shown.{misread_shown, program_shown};
+ghost use Rattle.guppy_lines.specs.Lines.{lines_format, lines_program};
+
+use crate::fault::RunFault;
+use crate::input::records_of;
+use crate::records::id_of;
+use guppy::{Error, PackageGraph, PackageId};
+use guppy_command::found::asked_of;
+use guppy_command::table::{CFGS, IDS, KINDS, PLATFORM, WORKSPACE};
+use guppy_command::{Asked, Files, Misread, OptionRow, Program};
+use guppy_data::{PackageRecord, Records};
+use guppy_program::Format;
+use guppy_program::format::has_package;
+use std::alloc::{AllocError, Global};
+
+// What stands in front of a command. There is no help.
+const OPTIONS: &[OptionRow] = &[
+    (KINDS, Some("KINDS"), false, None, ""),
+    (PLATFORM, Some("TRIPLE"), true, None, ""),
+    (CFGS, Some("FILE"), true, None, ""),
+    (WORKSPACE, None, false, None, ""),
+    (IDS, None, false, None, ""),
+];
+
+const COMMANDS: &[&str] = &[
+    "reach",
+    "depends",
+    "why",
+    "order",
+    "roots",
+    "links",
+    "cycles",
+    "duplicates",
+    "verify",
+    "publish-order",
+    "dot",
+];
+
+fn program() -> Program
+    ensures { program_shown result ≡ lines_program }
+{
+    Program {
+        options: OPTIONS,
+        anywhere: false,
+        commands: COMMANDS,
+    }
+}
+
+// What is told where arguments ask nothing.
+fn fault_of(misread: Misread<'_>) -> RunFault
+    ensures misread { IfSome (misread_shown misread.entry) (λ _. result ≡ BadArguments) }
+    ensures memory { IfNone (misread_shown misread.entry) (result ≡ Library OutOfMemory) }
+{
+    match misread {
+        Misread::OutOfMemory => RunFault::Library(Error::OutOfMemory),
+        _ => RunFault::BadArguments,
+    }
+}
+
+/// Lines, each of which says a package or a link: with it `run_process` is the program.
+///
+/// `BadLine` has the number of the first bad line, and `Library` the first fault of the records, the first unknown ID of
+/// the command, or what `verify` refuses. The statuses are those of [`RunFault::status`].
+#[derive(Clone, Copy, Debug)]
+pub struct Lines;
+
+impl Format for Lines {
+    type Fault = RunFault;
+
+    type Names = ();
+
+    ghost format = { lines_format };
+
+    ghost are_names = { λ names packages. Unit {0} };
+
+    fn asked_of<'a, D: Files>(
+        alloc: Global,
+        args: &'a [String],
+        files: &D,
+    ) -> Result<Asked<'a>, RunFault> {
+        match asked_of(alloc, &program(), args, files) {
+            Ok(asked) => Ok(asked),
+            Err(misread) => Err(fault_of(misread)),
+        }
+    }
+
+    fn records_of(alloc: Global, input: &[u8]) -> Result<Records, RunFault> {
+        records_of(alloc, input)
+    }
+
+    fn names_of(_alloc: Global, _packages: &[PackageRecord]) -> Result<(), AllocError> {
+        Ok(())
+    }
+
+    fn text_of<'a>(_names: &'a (), id: &'a PackageId) -> &'a str {
+        id.repr()
+    }
+
+    fn find(
+        alloc: Global,
+        graph: &PackageGraph,
+        _names: &(),
+        word: &str,
+    ) -> Result<PackageId, RunFault> {
+        let id = id_of(alloc, word)?;
+        if has_package(graph, &id)? {
+            Ok(id)
+        } else {
+            Err(RunFault::Library(Error::UnknownPackageId(id)))
+        }
+    }
+}

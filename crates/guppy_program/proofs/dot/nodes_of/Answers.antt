@@ -1,9 +1,0 @@
-use Rattle.guppy.specs.Views.{package_data}
-use Rattle.guppy_program.specs.Dot.{IsNode, node_shown}
-use Rattle.guppy_program.proofs.Drawings.{fits_push}
-use Rattle.guppy_program.proofs.dot.nodes_of.Goals as goal
-
-pub loop-metadata-preserved : goal.loop-metadata-preserved
-loop-metadata-preserved c =
-    fits_push IsNode package_data node_shown c.loop-metadata.yielded c.loop-metadata.nodes.items c.push.new.self.items c.in-Some.metadata c.node_of.result
-    c.in_ok-push.ensures.items c.loop-metadata.invariant c.node_of.ensures
