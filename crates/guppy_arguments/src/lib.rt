@@ -1,4 +1,5 @@
-//! What the arguments of `guppy-cargo` say, what it calls packages, and why there is no answer, before there is a graph.
+//! What the arguments of `guppy-cargo` say, what it calls packages, and why there is no answer, before there is a
+//! graph.
 //!
 //! The modules, from the bottom up:
 //!

@@ -8,7 +8,8 @@ use guppy_command::table::{
     CFGS, IDS, IGNORE, KINDS, PATHS_FROM, PLATFORM, PUBLISHABLE, WORKSPACE,
 };
 
-/// The options, each with its value, whether it may come again, the commands that take it, where not all do, and its help.
+/// The options, each with its value, whether it may come again, the commands that take it, where not all do, and its
+/// help.
 pub const OPTIONS: &[OptionRow] = &[
     (
         KINDS,

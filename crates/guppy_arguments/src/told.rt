@@ -188,11 +188,11 @@ fn told(alloc: Global, misread: Misread<'_>) -> Result<ArgumentsFault, AllocErro
     }
 }
 
-/// What the arguments ask, of which the files that they name have some: a command, and options anywhere among its words.
-/// Where they ask nothing, the fault tells why, with the nearest option or command to a word that is none.
+/// What the arguments ask, of which the files that they name have some: a command, and options anywhere among its
+/// words. Where they ask nothing, the fault tells why, with the nearest option or command to a word that is none.
 ///
-/// Takes time linear in their lengths, times the options, and in what the files have. Takes memory for a reference or two
-/// a word, and for what the files have.
+/// Takes time linear in their lengths, times the options, and in what the files have. Takes memory for a reference or
+/// two a word, and for what the files have.
 pub fn asked_of<'a, D: Files>(
     alloc: Global,
     args: &'a [String],

@@ -1,14 +1,13 @@
 -- What `guppy-cargo` reads, and what it calls packages.
-use Rattle.std.specs.Prelude.{◌≡◌, ℕ, false, List, None, IsSomeAnd, codes}
+use Rattle.std.specs.Prelude.{◌≡◌, ◌↔◌, ℕ, false, List, None, IsSomeAnd}
 use Rattle.std.specs.Str.{IsUtf8}
 use Rattle.json.specs.Json.{document}
 use Rattle.guppy_data.specs.declared.records.PackageRecord.{PackageRecord}
 use Rattle.guppy_data.specs.declared.records.LinkRecord.{LinkRecord}
 use Rattle.guppy_data.specs.declared.records.WorkspaceRecord.{WorkspaceRecord}
 use Rattle.guppy_metadata.specs.declared.fault.MetadataFault.{MetadataFault}
-use Rattle.guppy_metadata.specs.Fault.{IsNotJson, IsNotResolved, IsOutOfMemory}
-use Rattle.guppy_metadata.specs.Members.{present}
-use Rattle.guppy_metadata.specs.Records.{AreRecordsWith, SaysNoRecordsWith}
+use Rattle.guppy_metadata.specs.Fault.{IsNotJson, IsNotResolved}
+use Rattle.guppy_metadata.specs.Records.{AreRecordsWith, IsUnresolved, SaysNoRecordsWith}
 use Rattle.guppy_program.specs.Format.{Format}
 use Rattle.guppy_arguments.specs.declared.fault.CargoFault.{CargoFault}
 use Rattle.guppy_arguments.specs.declared.fault.CargoFault.TheVariants.{Metadata, NoText}
@@ -23,13 +22,12 @@ abbrev pub SaysRecords : List ℕ → List PackageRecord → List LinkRecord →
 SaysRecords input packages links workspace =
     IsSomeAnd (document input) (λ d. AreRecordsWith false d packages links workspace)
 
--- the fault of the JSON is told where it may be: that it is none where it is none, that no dependencies are
--- resolved where none are, and any but want of memory where it says no records, not even without details
+-- that the input is no JSON is told exactly where it is none, that no dependencies are resolved exactly where it is an
+-- object that says nothing of them, and any fault only where it says no records, not even without details
 pub record IsMisread (input : List ℕ) (fault : MetadataFault) : Type 0 where
-  pub no_json : IsNotJson fault → document input ≡ None
-  pub not_resolved : IsNotResolved fault
-      → IsSomeAnd (document input) (λ d. present (codes "resolve") d ≡ None)
-  pub no_records : ¬ IsOutOfMemory fault → SaysNoRecordsWith false input
+  pub no_json : IsNotJson fault ↔ (document input ≡ None)
+  pub not_resolved : IsNotResolved fault ↔ IsUnresolved input
+  pub no_records : SaysNoRecordsWith false input
 
 -- the input is no UTF-8, or the JSON has the fault
 abbrev pub IsInputFault : List ℕ → CargoFault → Type 0

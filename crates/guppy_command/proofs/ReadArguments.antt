@@ -1,6 +1,7 @@
 -- Arguments that are read one after another.
-use Rattle.std.proofs.Common.{◌≡◌, ◌∙◌, refl, sym, ap, subst, ℕ, List, [], ◌∷◌, ◌++◌, true, false, map, Result, Ok, Err, append_assoc}
+use Rattle.std.proofs.Common.{◌≡◌, ◌∙◌, ⊎_elim, refl, sym, ap, subst, ℕ, List, [], ◌∷◌, ◌++◌, true, false, map, Result, Ok, Err, append_assoc}
 use Rattle.std.proofs.lemmas.List.{append-nil}
+use Rattle.guppy_command.specs.Asked.{◌>>=◌, Asked, Asks, IsMisread, IsUnfound, Wanted, wanted_of}
 use Rattle.guppy_command.specs.Grammar.{Program, Argument, Misread, Reads, word, first_at, goes_on, all_before, ended, others, one, stuck}
 
 -- one more in front of those that are read further on
@@ -45,3 +46,13 @@ reads_alike p (text ∷ words) a b (one goes is more) (stuck goes' is') = cc (is
 reads_alike p (text ∷ words) a b (stuck goes is) (others ends) = cc (ends, goes)
 reads_alike p (text ∷ words) a b (stuck goes is) (one goes' is' more) = cc (is, is')
 reads_alike p (text ∷ words) a b (stuck goes is) (stuck goes' is') = cc (is, is')
+
+-- where words ask something, a misread is one of a file
+pub misread_in_file : (has : List ℕ → List ℕ → Type 0) (p : Program) (words : List (List ℕ)) (asked : Asked) (misread : Misread) → Asks has p words asked → IsMisread has p words misread → (wants : Wanted) × IsUnfound has wants misread
+misread_in_file has p words asked misread asks is =
+    let same : is.outcome ≡ Ok asks.given = reads_alike p words is.outcome (Ok asks.given) is.reads asks.reads in
+    let wanted : (is.outcome >>= wanted_of p) ≡ Ok asks.wants = ap (λ (o : Result (List Argument) Misread). o >>= wanted_of p) same ∙ asks.is_wanted in
+    ⊎_elim
+    (λ refused. absurd (let both : Ok asks.wants ≡ Err misread = sym wanted ∙ refused in cc both))
+    (λ unfound. (unfound.0, unfound.2))
+    is.is

@@ -321,8 +321,8 @@ fn asked_by<'a>(
     }
 }
 
-/// What the arguments ask, before the files that they name are read, or why they ask nothing. Takes time linear in them,
-/// times the options, and memory for a reference an argument.
+/// What the arguments ask, before the files that they name are read, or why they ask nothing. Takes time linear in
+/// them, times the options, and memory for a reference an argument.
 pub fn wanted_of<'a>(
     alloc: Global,
     program: &Program,

@@ -65,7 +65,8 @@ pub fn want_of_memory<F: ProgramFault>() -> F
     F::of(Fault::Library(Error::OutOfMemory))
 }
 
-/// That no links lead from the one word's package to the other's, unless memory is wanted. Takes memory for copies of the words.
+/// That no links lead from the one word's package to the other's, unless memory is wanted. Takes memory for copies of
+/// the words.
 pub fn no_walk<F: ProgramFault>(alloc: Global, from: &str, to: &str) -> F
     ensures { (F.cause result ≡ no_walk from.now to.now) ⊎ (F.cause result ≡ library OutOfMemory) }
 {

@@ -183,9 +183,9 @@ fn found<'a, D: Files>(
 
 /// What the arguments ask, of which the files that they name have some, or why they ask nothing.
 ///
-/// The arguments are read once, from front to end; where they ask nothing, that is told before a file is read. Takes time
-/// linear in the arguments, times the options, and in the files, and memory for a reference an argument, for copies of
-/// paths, and for the files.
+/// The arguments are read once, from front to end; where they ask nothing, that is told before a file is read. Takes
+/// time linear in the arguments, times the options, and in the files, and memory for a reference an argument, for
+/// copies of paths, and for the files.
 pub fn asked_of<'a, D: Files>(
     alloc: Global,
     program: &Program,

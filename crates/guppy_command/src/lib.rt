@@ -1,4 +1,5 @@
-//! What the programs `guppy-run` and `guppy-cargo` are asked, and what they read from and write to, before there is a graph.
+//! What the programs `guppy-run` and `guppy-cargo` are asked, and what they read from and write to, before there is a
+//! graph.
 //!
 //! The modules, from the bottom up:
 //!
@@ -14,7 +15,7 @@
 //! - `files`: the files that arguments name; `found`: what arguments ask, with what these have;
 //! - `process`: what a process is given, and how it ends;
 //! - `print`: lines, of which answers are printed;
-//! - `laws`: words read as arguments in one way.
+//! - `laws`: words read as arguments in one way, and ask something or are misread.
 #![tactic(auto)]
 
 pub mod asked;
