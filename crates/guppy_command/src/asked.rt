@@ -103,8 +103,8 @@ fn has(name: &str, given: &[Argument<'_>]) -> bool
     given.iter().any(|argument| is_option(name, argument))
 }
 
-// Whether the text is one of these.
-fn is_among(names: &[&str], text: &str) -> bool
+/// Whether the text is one of these. Takes time linear in them, and no memory.
+pub fn is_among(names: &[&str], text: &str) -> bool
     ensures { result ≡ is_among (texts names.now) text.now }
 {
     names.contains(&text)

@@ -1,5 +1,5 @@
 -- What a command answers of a package graph, when it is refused, and what is shown of the answer.
-use Rattle.std.specs.Prelude.{◌≡◌, ◌↔◌, ◌<◌, ℕ, Bool, true, IsTrue, Option, Some, None, List, [], ◌∷◌, length, map, slice_get, replicate, All, Contains, ◌&&◌, is_some, if◌then◌else◌}
+use Rattle.std.specs.Prelude.{◌≡◌, ◌↔◌, ◌<◌, ℕ, Bool, true, false, IsTrue, Option, Some, None, List, [], ◌∷◌, length, map, slice_get, replicate, All, Contains, ◌&&◌, is_some, if◌then◌else◌}
 use Rattle.std.specs.List.{AllZip, concat, filter, list_all, list_any}
 use Rattle.std.specs.Str.{bytes_eq}
 use Rattle.guppy_search.specs.declared.ix.direction.DependencyDirection.{DependencyDirection}
@@ -37,12 +37,14 @@ use Rattle.guppy_program.specs.Publish.{is_publishable}
 use Rattle.guppy_program.specs.Steps.{AreSteps}
 
 -- an answer, each package in it by its ID: a set of packages, packages in an order, rows of packages
--- in an order, as the ends of links or cycles, the packages of a walk, each with the kinds of the link
--- that leads to it, whether something holds, that all is well, or packages and links as they are drawn
+-- in an order, as the ends of links or cycles, rows of a package and those that need it, the packages of a walk, each
+-- with the kinds of the link that leads to it, whether something holds, that all is well, or packages and links as they
+-- are drawn
 pub data Answer : Type 0 where
   package_set : List (List ℕ) → Answer
   package_list : List (List ℕ) → Answer
   package_rows : List (List (List ℕ)) → Answer
+  package_needs : List (List (List ℕ)) → Answer
   package_steps : List (List ℕ × Kinds) → Answer
   truth : Bool → Answer
   all_well : Answer
@@ -144,7 +146,7 @@ pub record IsCyclesAnswer (g : GraphData) (answer : Answer) : Type 0 where
 pub record IsDuplicatesAnswer (g : GraphData) (answer : Answer) : Type 0 where
   pub rows : List (List (List ℕ))
   pub exact : AreDuplicates g rows
-  pub told : answer ≡ package_rows rows
+  pub told : answer ≡ package_needs rows
 
 -- the graph is a verified graph, and no cycle is over links that aren't dev-only
 pub record IsVerifyAnswer (g : GraphData) (answer : Answer) : Type 0 where
@@ -257,12 +259,20 @@ is_member packages id = list_any (λ r. bytes_eq id r.id && is_some (member_path
 abbrev pub AreMembers : SetData → Type 0
 AreMembers s = IsSetWhere s.graph.packages (IsMember s.graph.packages) s.included
 
--- of a set, a list or a walk the members, and of rows those of members alone, as of links that are drawn
+-- the row is of a package that passes the test, and those that need it
+abbrev pub is_of : (List ℕ → Bool) → List (List ℕ) → Bool
+is_of test [] = false
+is_of test (id ∷ ids) = test id
+
+-- of a set, a list or a walk the members, of rows those of members alone, as of links that are drawn, and of members
+-- all that need them
 abbrev pub of_members : List PackageRecord → Answer → Answer
 of_members packages (package_set ids) = package_set (filter (is_member packages) ids)
 of_members packages (package_list ids) = package_list (filter (is_member packages) ids)
 of_members packages (package_rows rows) =
     package_rows (filter (list_all (is_member packages)) rows)
+of_members packages (package_needs rows) =
+    package_needs (filter (is_of (is_member packages)) rows)
 of_members packages (package_steps steps) =
     package_steps (filter (λ step. is_member packages step.0) steps)
 of_members packages (drawing drawn) = drawing (among (is_member packages) drawn)

@@ -4,7 +4,7 @@ use Rattle.std.specs.List.Sorted.{IsStrictlySortedBy}
 use Rattle.std.specs.Ordering.{nat_cmp}
 use Rattle.std.specs.Cmp.Lexicographic.{slice_cmp}
 use Rattle.guppy_command.specs.declared.options.Options.{Options}
-use Rattle.guppy_program.specs.Answer.{Answer, package_set, package_list, package_rows, package_steps, truth, all_well, drawing}
+use Rattle.guppy_program.specs.Answer.{Answer, package_set, package_list, package_rows, package_needs, package_steps, truth, all_well, drawing}
 use Rattle.guppy_dot.specs.DotText.{dot_text}
 use Rattle.guppy_command.specs.Printed.{line_of, lines_of, joined, truth_line, kind_names}
 
@@ -28,6 +28,7 @@ abbrev pub IsPrinted : (List ℕ → List ℕ) → Answer → List ℕ → Type 
 IsPrinted text (package_set ids) output = AreSortedLines (map text ids) output
 IsPrinted text (package_list ids) output = output ≡ lines_of (map text ids)
 IsPrinted text (package_rows rows) output = output ≡ lines_of (map (λ ids. joined (map text ids)) rows)
+IsPrinted text (package_needs rows) output = output ≡ lines_of (map (λ ids. joined (map text ids)) rows)
 IsPrinted text (package_steps steps) output =
     output ≡ lines_of (map (λ step. joined (text step.0 ∷ kind_names step.1)) steps)
 IsPrinted text (truth holds) output = output ≡ truth_line holds

@@ -2,9 +2,9 @@
 use Rattle.std.specs.Prelude.{ℕ, List as ListOf, map, ◌∷◌, []}
 use Rattle.guppy_command.specs.declared.options.Kinds.{Kinds}
 use Rattle.guppy_program.specs.declared.answer.Answer.{Answer as GivenAnswer}
-use Rattle.guppy_program.specs.declared.answer.Answer.TheVariants.{Set, List, Pairs, Rows, Steps, Truth, AllWell, Drawing}
+use Rattle.guppy_program.specs.declared.answer.Answer.TheVariants.{Set, List, Pairs, Rows, Needs, Steps, Truth, AllWell, Drawing}
 use Rattle.guppy_program.specs.declared.answer.Step.{Step}
-use Rattle.guppy_program.specs.Answer.{Answer, package_set, package_list, package_rows, package_steps, truth, all_well, drawing}
+use Rattle.guppy_program.specs.Answer.{Answer, package_set, package_list, package_rows, package_needs, package_steps, truth, all_well, drawing}
 use Rattle.guppy_dot.specs.Dot.{drawing_shown}
 
 -- the package by its ID, and the kinds
@@ -16,6 +16,7 @@ answer_shown (Set ids) = package_set (map (λ id. id.now) ids.items)
 answer_shown (List ids) = package_list (map (λ id. id.now) ids.items)
 answer_shown (Pairs pairs) = package_rows (map (λ pair. pair.0.now ∷ pair.1.now ∷ []) pairs.items)
 answer_shown (Rows rows) = package_rows (map (λ row. map (λ id. id.now) row.items) rows.items)
+answer_shown (Needs rows) = package_needs (map (λ row. map (λ id. id.now) row.items) rows.items)
 answer_shown (Steps steps) = package_steps (map step_shown steps.items)
 answer_shown (Truth holds) = truth holds
 answer_shown AllWell = all_well

@@ -44,6 +44,8 @@ pub enum Answer<'g> {
     Pairs(Vec<(&'g PackageId, &'g PackageId)>),
     /// Packages that belong together, as those of a cycle.
     Rows(Vec<Vec<&'g PackageId>>),
+    /// Packages, each with those that need it.
+    Needs(Vec<Vec<&'g PackageId>>),
     /// The packages of a walk.
     Steps(Vec<Step<'g>>),
     /// Whether something holds.
@@ -233,7 +235,7 @@ fn repeated(graph: &PackageGraph) -> Result<Answer<'_>, Error>
     ensures ok { IfOk result (λ answer. IsDuplicatesAnswer graph.now (answer_shown answer)) }
     ensures err { IsOkUnless result Error.OutOfMemory }
 {
-    Ok(Answer::Rows(duplicates(graph)?))
+    Ok(Answer::Needs(duplicates(graph)?))
 }
 
 fn verified(graph: &PackageGraph) -> Result<Answer<'_>, Error>

@@ -1,7 +1,7 @@
 //! The members of the workspace among the packages of an answer.
 ghost use Rattle.std.specs.Prelude.{◌≡◌, ◌&&◌, ◌∷◌, [], IfOk, IsOkUnless, map};
 ghost use Rattle.std.specs.List.{filter, list_all};
-ghost use Rattle.guppy_program.specs.Answer.{AreMembers, is_member, of_members, shown};
+ghost use Rattle.guppy_program.specs.Answer.{AreMembers, is_member, is_of, of_members, shown};
 ghost use Rattle.guppy_dot.specs.Dot.{edge_shown, node_shown};
 ghost use Rattle.guppy_program.specs.Shown.{answer_shown, step_shown};
 
@@ -59,6 +59,28 @@ fn keep_rows(members: &PackageSet<'_>, rows: &mut Vec<Vec<&PackageId>>)
     rows.retain(|row| are_members(members, row.as_slice()));
 }
 
+// Whether the first package of the row is one of the members.
+fn is_of_member(members: &PackageSet<'_>, row: &[&PackageId]) -> bool
+    requires { AreMembers members.now }
+    ensures { result
+        ≡ is_of (is_member members.now.graph.packages) (map (λ id. id.now) row.now) }
+{
+    match row {
+        [id, ..] => is_member(members, id),
+        [] => false,
+    }
+}
+
+// Leaves the rows of other packages out.
+fn keep_needs(members: &PackageSet<'_>, rows: &mut Vec<Vec<&PackageId>>)
+    requires { AreMembers members.now }
+    ensures { map (λ row. map (λ id. id.now) row.items) rows.new.items
+        ≡ filter (is_of (is_member members.now.graph.packages))
+        (map (λ row. map (λ id. id.now) row.items) rows.old.items) }
+{
+    rows.retain(|row| is_of_member(members, row.as_slice()));
+}
+
 // Leaves the others out.
 fn keep_steps(members: &PackageSet<'_>, steps: &mut Vec<Step<'_>>)
     requires { AreMembers members.now }
@@ -110,6 +132,10 @@ fn among<'g>(members: &PackageSet<'_>, answer: Answer<'g>) -> Answer<'g>
         Answer::Rows(mut rows) => {
             keep_rows(members, &mut rows);
             Answer::Rows(rows)
+        }
+        Answer::Needs(mut rows) => {
+            keep_needs(members, &mut rows);
+            Answer::Needs(rows)
         }
         Answer::Steps(mut steps) => {
             keep_steps(members, &mut steps);

@@ -155,6 +155,7 @@ pub fn printed<F: Format>(
         }
         Answer::Pairs(pairs) => lines_of_pairs::<F>(alloc, options, names, pairs.as_slice()),
         Answer::Rows(rows) => lines_of_rows::<F>(alloc, options, names, rows.as_slice()),
+        Answer::Needs(rows) => lines_of_rows::<F>(alloc, options, names, rows.as_slice()),
         Answer::Steps(steps) => lines_of_steps::<F>(alloc, options, names, steps.as_slice()),
         Answer::Truth(holds) => String::from_str(alloc, truth_line(*holds)),
         Answer::Drawing(drawing) => dot_text::<F>(alloc, options, names, drawing),
