@@ -34,21 +34,27 @@ abbrev pub ◌>>=◌ : {A B : Type 0} → Result A Misread → (A → Result B M
 Ok x >>= f = f x
 Err misread >>= f = Err misread
 
--- the words that are no option and no value
+-- a word that is no option and no value
 abbrev pub word_of : Argument → Option (List ℕ)
 word_of (option name value) = None
 word_of (word text) = Some text
 
-abbrev pub words_in : List Argument → List (List ℕ)
-words_in given = filter_map word_of given
-
--- the values of the option
+-- the value of the option
 abbrev pub value_for : List ℕ → Argument → Option (List ℕ)
 value_for name (option other value) = if bytes_eq other name then value else None
 value_for name (word text) = None
 
+abbrev pub picked : Option (List ℕ) → Argument → Option (List ℕ)
+picked None argument = word_of argument
+picked (Some name) argument = value_for name argument
+
+-- the words that are no option and no value
+abbrev pub words_in : List Argument → List (List ℕ)
+words_in given = filter_map (picked None) given
+
+-- the values of the option
 abbrev pub values_of : List ℕ → List Argument → List (List ℕ)
-values_of name given = filter_map (value_for name) given
+values_of name given = filter_map (picked (Some name)) given
 
 -- the option is given
 abbrev pub is_option : List ℕ → Argument → Bool

@@ -49,23 +49,19 @@ abbrev pub lone_direction_of : List (List ℕ) → Option DependencyDirection
 lone_direction_of (word ∷ []) = direction_of word
 lone_direction_of _ = None
 
--- `order`, `cycles`, `duplicates` or `verify`
-abbrev pub plain_command_of : List ℕ → Option Command
-plain_command_of word = if bytes_eq word (codes "order") then Some order
+-- `order`, `cycles`, `duplicates` or `verify`, with no word behind it
+abbrev pub plain_command_of : List ℕ → List (List ℕ) → Option Command
+plain_command_of word [] = if bytes_eq word (codes "order") then Some order
     else (if bytes_eq word (codes "cycles") then Some cycles
     else (if bytes_eq word (codes "duplicates") then Some duplicates
     else (if bytes_eq word (codes "verify") then Some verify else None)))
+plain_command_of word _ = None
 
 -- nothing, or `--publishable` behind the command, where it is no option
 abbrev pub publish_of : Bool → List (List ℕ) → Option Command
 publish_of publishable [] = Some (publish_order publishable)
 publish_of publishable (word ∷ []) = if bytes_eq word PUBLISHABLE.now then Some (publish_order true) else None
 publish_of _ _ = None
-
--- the command, with no word behind it
-abbrev pub alone : Option Command → List (List ℕ) → Option Command
-alone command [] = command
-alone command _ = None
 
 -- the command with these words behind it, if it takes them, where those alone that can be published may be wanted
 abbrev pub command_of : Bool → List ℕ → List (List ℕ) → Option Command
@@ -76,7 +72,7 @@ command_of publishable word words = if bytes_eq word (codes "reach") then reach_
     else (if bytes_eq word (codes "links") then option_map links (lone_direction_of words)
     else (if bytes_eq word (codes "publish-order") then publish_of publishable words
     else (if bytes_eq word (codes "dot") then Some (dot words)
-    else alone (plain_command_of word) words))))))
+    else plain_command_of word words))))))
 
 -- the path without a `./` at its front
 abbrev pub from_root : List ℕ → List ℕ

@@ -66,21 +66,18 @@ value_in text = if nat_lt (position_or_len is_equals text) (length text)
 abbrev pub called : List OptionRow → List ℕ → Option OptionRow
 called options name = find (λ row. bytes_eq row.name name) options
 
--- an option that takes no value, and the words behind it
-abbrev pub flag_at : List ℕ → List (List ℕ) → Result (Argument × List (List ℕ)) Misread
-flag_at text words =
+-- an option alone, or with its value, in the same word or the next, and the words behind it
+abbrev pub valued_at : Bool → List ℕ → List (List ℕ) → Result (Argument × List (List ℕ)) Misread
+valued_at false text words =
     option_map_or (λ value. Err (needless_value (name_in text))) (value_in text) (Ok (option (name_in text) None, words))
-
--- an option with its value, in the same word or the next, and the words behind it
-abbrev pub valued_at : List ℕ → List (List ℕ) → Result (Argument × List (List ℕ)) Misread
-valued_at text [] =
+valued_at true text [] =
     option_map_or (λ value. Ok (option (name_in text) (Some value), [])) (value_in text) (Err (no_value (name_in text)))
-valued_at text (next ∷ words) = option_map_or (λ value. Ok (option (name_in text) (Some value), next ∷ words))
+valued_at true text (next ∷ words) = option_map_or (λ value. Ok (option (name_in text) (Some value), next ∷ words))
     (value_in text) (Ok (option (name_in text) (Some next), words))
 
 -- the option at the front of the words, and the words behind it
 abbrev pub option_at : List OptionRow → List ℕ → List (List ℕ) → Result (Argument × List (List ℕ)) Misread
-option_at options text words = option_map_or (λ row. if row.takes_value then valued_at text words else flag_at text words)
+option_at options text words = option_map_or (λ row. valued_at row.takes_value text words)
     (called options (name_in text)) (Err (no_option (name_in text)))
 
 -- the argument at the front of the words, and the words behind it

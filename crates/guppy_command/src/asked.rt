@@ -1,7 +1,7 @@
 //! What arguments ask.
 ghost use Rattle.std.specs.Prelude.{◌≡◌, map, string_bytes, option_map, IfOk};
-ghost use Rattle.std.specs.List.{find, zip};
-ghost use Rattle.guppy_command.specs.Asked.{word_of, value_for, is_option, words_in, values_of, has, is_among, takes, may_repeat, command_in, judged, all_judged, kinds_in, platforms_in, options_in, has_paths, affected_of, asked_by, wanted_of, is_all};
+ghost use Rattle.std.specs.List.{filter_map, find, zip};
+ghost use Rattle.guppy_command.specs.Asked.{word_of, value_for, picked, is_option, values_of, has, is_among, takes, may_repeat, command_in, judged, all_judged, kinds_in, platforms_in, options_in, has_paths, affected_of, asked_by, wanted_of, is_all};
 ghost use Rattle.guppy_command.specs.Command.{from_root};
 ghost use Rattle.guppy_command.specs.Shown.{argument_shown, row_shown, program_shown, command_shown, wanted_shown, texts, Gives};
 
@@ -65,17 +65,33 @@ fn is_option(name: &str, argument: &Argument<'_>) -> bool
     }
 }
 
-// The words that are no option and no value.
-fn words_in<'a>(alloc: Global, given: &[Argument<'a>]) -> Result<Vec<&'a str>, AllocError>
-    ensures { IfOk result (λ words. texts words.items ≡ words_in (map argument_shown given.now)) }
+// The value of the option, if the argument is that, or where none is named the word.
+fn picked<'a>(name: Option<&str>, argument: &Argument<'a>) -> Option<&'a str>
+    ensures { option_map (λ text. text.now) result
+        ≡ picked (option_map (λ name. name.now) name) (argument_shown argument.now) }
 {
-    let mut words = Vec::with_capacity(alloc, given.len())?;
+    match name {
+        Some(name) => value_for(name, argument),
+        None => word_of(argument),
+    }
+}
+
+// The values of the option, or where none is named the words that are no option and no value.
+fn all_picked<'a>(
+    alloc: Global,
+    name: Option<&str>,
+    given: &[Argument<'a>],
+) -> Result<Vec<&'a str>, AllocError>
+    ensures { IfOk result (λ values. texts values.items
+        ≡ filter_map (picked (option_map (λ name. name.now) name)) (map argument_shown given.now)) }
+{
+    let mut values = Vec::new(alloc);
     for argument in given {
-        if let Some(text) = word_of(argument) {
-            words.push(text)?;
+        if let Some(value) = picked(name, argument) {
+            values.push(value)?;
         }
     }
-    Ok(words)
+    Ok(values)
 }
 
 // The values of the option.
@@ -87,13 +103,7 @@ fn values_of<'a>(
     ensures { IfOk result (λ values. texts values.items
         ≡ values_of name.now (map argument_shown given.now)) }
 {
-    let mut values = Vec::new(alloc);
-    for argument in given {
-        if let Some(value) = value_for(name, argument) {
-            values.push(value)?;
-        }
-    }
-    Ok(values)
+    all_picked(alloc, Some(name), given)
 }
 
 // Whether the option is given.
@@ -331,7 +341,7 @@ pub fn wanted_of<'a>(
     ensures { Gives wanted_shown
         (wanted_of (program_shown program.now) (map argument_shown given.now)) result }
 {
-    let words = words_in(alloc, given)?;
+    let words = all_picked(alloc, None, given)?;
     let (command, words) = command_in(program, words.as_slice())?;
     judge_all(program, command, given)?;
     let options = options_in(alloc, given)?;

@@ -1,6 +1,6 @@
 //! The commands.
 ghost use Rattle.std.specs.Prelude.{◌≡◌, option_map, IfOk};
-ghost use Rattle.guppy_command.specs.Command.{roots, links, command_of, direction_of, lone_direction_of, reach_of, depends_of, why_of, plain_command_of, publish_of, alone, from_root};
+ghost use Rattle.guppy_command.specs.Command.{roots, links, command_of, direction_of, lone_direction_of, reach_of, depends_of, why_of, plain_command_of, publish_of, from_root};
 ghost use Rattle.guppy_command.specs.Shown.{command_shown, texts};
 
 use crate::table::PUBLISHABLE;
@@ -111,10 +111,13 @@ fn links_of<'a>(words: &[&str]) -> Option<Command<'a>>
     Some(Command::Links(lone_direction_of(words)?))
 }
 
-// The command of this one word.
-fn plain_command_of<'a>(word: &str) -> Option<Command<'a>>
-    ensures { option_map command_shown result ≡ plain_command_of word.now }
+// The command of this one word, where no words are behind it.
+fn plain_command_of<'a>(word: &str, words: &[&str]) -> Option<Command<'a>>
+    ensures { option_map command_shown result ≡ plain_command_of word.now (texts words.now) }
 {
+    let [] = words else {
+        return None;
+    };
     if word == "order" {
         Some(Command::Order)
     } else if word == "cycles" {
@@ -137,21 +140,6 @@ fn publish_of<'a>(publishable: bool, words: &[&str]) -> Option<Command<'a>>
         [word] if *word == PUBLISHABLE => Some(Command::PublishOrder { publishable: true }),
         _ => None,
     }
-}
-
-// The command, where no words are behind it.
-fn alone<'a>(command: Option<Command<'a>>, words: &[&str]) -> Option<Command<'a>>
-    ensures { option_map command_shown result
-        ≡ alone (option_map command_shown command.entry) (texts words.now) }
-{
-    if words.is_empty() { command } else { None }
-}
-
-// The command of this one word, where no words are behind it.
-fn lone_command_of<'a>(word: &str, words: &[&str]) -> Option<Command<'a>>
-    ensures { option_map command_shown result ≡ alone (plain_command_of word.now) (texts words.now) }
-{
-    alone(plain_command_of(word), words)
 }
 
 /// The command that is called so with these words behind it, if it takes them; of `publish-order`, those alone that
@@ -180,7 +168,7 @@ pub fn command_of<'a>(
     } else if word == "dot" {
         Some(Command::Dot(words.to_vec(alloc)?))
     } else {
-        lone_command_of(word, words)
+        plain_command_of(word, words)
     })
 }
 

@@ -1,7 +1,7 @@
 //! Arguments, read from front to end: options, each with its value where it takes one, and other words.
 ghost use Rattle.std.specs.Prelude.{◌≡◌, ◌≤◌, ◌++◌, length, map, string_bytes, option_map, IfOk, OnOk};
 ghost use Rattle.guppy_command.specs.declared.grammar.Misread.TheVariants.{OutOfMemory};
-ghost use Rattle.guppy_command.specs.Grammar.{word, is_dashed, name_in, value_in, called, flag_at, valued_at, option_at, first_at, goes_on, Reads};
+ghost use Rattle.guppy_command.specs.Grammar.{word, is_dashed, name_in, value_in, called, valued_at, option_at, first_at, goes_on, Reads};
 ghost use Rattle.guppy_command.specs.Shown.{row_shown, program_shown, argument_shown, Gives, Unless};
 
 use std::alloc::{AllocError, AllocFailed, Global};
@@ -116,35 +116,25 @@ pub(crate) fn called(options: &'static [OptionRow], name: &str) -> Option<&'stat
     options.iter().find(|row| row.0 == name)
 }
 
-// An option that takes no value, and the words behind it.
-fn flag_at<'a>(
-    text: &'a str,
-    words: &'a [String],
-) -> Result<(Argument<'a>, &'a [String]), Misread<'a>>
-    ensures short { IfOk result (λ first. length first.1.now ≤ length words.now) }
-    ensures first { Gives (λ first. (argument_shown first.0, map string_bytes first.1.now))
-        (flag_at text.now (map string_bytes words.now)) result }
-{
-    match parts_of(text) {
-        (name, None) => Ok((Argument::Option(name, None), words)),
-        (name, Some(_)) => Err(Misread::NeedlessValue(name)),
-    }
-}
-
-// An option with its value, in the same word or the next, and the words behind it.
+// An option alone, or with its value, in the same word or the next, and the words behind it.
 fn valued_at<'a>(
+    takes_value: bool,
     text: &'a str,
     words: &'a [String],
 ) -> Result<(Argument<'a>, &'a [String]), Misread<'a>>
     ensures short { IfOk result (λ first. length first.1.now ≤ length words.now) }
     ensures first { Gives (λ first. (argument_shown first.0, map string_bytes first.1.now))
-        (valued_at text.now (map string_bytes words.now)) result }
+        (valued_at takes_value text.now (map string_bytes words.now)) result }
 {
     let (name, value) = parts_of(text);
-    match (value, words) {
-        (Some(value), _) => Ok((Argument::Option(name, Some(value)), words)),
-        (None, [next, behind @ ..]) => { Ok((Argument::Option(name, Some(next.as_str())), behind)) }
-        (None, []) => Err(Misread::NoValue(name)),
+    match (takes_value, value, words) {
+        (false, None, _) => Ok((Argument::Option(name, None), words)),
+        (false, Some(_), _) => Err(Misread::NeedlessValue(name)),
+        (true, Some(value), _) => Ok((Argument::Option(name, Some(value)), words)),
+        (true, None, [next, behind @ ..]) => {
+            Ok((Argument::Option(name, Some(next.as_str())), behind))
+        }
+        (true, None, []) => Err(Misread::NoValue(name)),
     }
 }
 
@@ -162,8 +152,7 @@ fn option_at<'a>(
     let (name, _) = parts_of(text);
     match called(program.options, name) {
         None => Err(Misread::NoOption(name)),
-        Some((_, Some(_), ..)) => valued_at(text, words),
-        Some((_, None, ..)) => flag_at(text, words),
+        Some(row) => valued_at(row.1.is_some(), text, words),
     }
 }
 
