@@ -1,13 +1,7 @@
 //! Answers questions on a graph of packages, which it reads as lines.
 //!
-//! What it does is `guppy_program`'s `run_process`; here stand the system's files and streams, and tests of that crate's
-//! calls.
+//! What it does is `guppy_program`'s `run_process`; here stand the system's files and streams.
 #![tactic(auto)]
-
-#[cfg(test)]
-mod devices;
-#[cfg(test)]
-mod runs;
 
 use guppy_lines::Lines;
 use guppy_program::{IoFiles, IoSink, IoSource, arguments, run_process};
