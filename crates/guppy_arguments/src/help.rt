@@ -1,6 +1,7 @@
 //! What the program says of itself.
 
 use crate::table::{OPTIONS, USAGES};
+use guppy_command::asked::takes;
 use guppy_command::grammar::OptionRow;
 use std::alloc::{AllocError, Global};
 
@@ -34,14 +35,6 @@ fn asks_for_help(word: &str) -> bool {
     matches!(word, "--help" | "-h" | "help")
 }
 
-// Whether the command takes the option.
-fn takes(row: &OptionRow, command: &str) -> bool {
-    match row.3 {
-        Some(commands) => commands.contains(&command),
-        None => true,
-    }
-}
-
 // Adds what the option is called, and its help.
 fn add_option(text: &mut String, row: &OptionRow) -> Result<(), AllocError> {
     let (name, value, _, _, help) = *row;
@@ -54,7 +47,7 @@ fn add_option(text: &mut String, row: &OptionRow) -> Result<(), AllocError> {
 // Adds the options that every command takes, and those of the command.
 fn add_options(text: &mut String, command: &str) -> Result<(), AllocError> {
     for row in OPTIONS {
-        if takes(row, command) {
+        if takes(OPTIONS, command, row.0) {
             add_option(text, row)?;
         }
     }

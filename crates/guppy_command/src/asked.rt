@@ -120,8 +120,9 @@ pub fn is_among(names: &[&str], text: &str) -> bool
     names.contains(&text)
 }
 
-// Whether the command takes the option.
-fn takes(options: &'static [OptionRow], command: &str, name: &str) -> bool
+/// Whether the command takes the option, which is one of these. Takes time linear in the options and in the commands
+/// that take it, and no memory.
+pub fn takes(options: &'static [OptionRow], command: &str, name: &str) -> bool
     ensures { result ≡ takes (map row_shown options.now) command.now name.now }
 {
     let Some(row) = called(options, name) else {
