@@ -1,8 +1,8 @@
 #!/usr/bin/env python3
-"""Writes what other languages declare of crates/guppy_c: rust/src/exports.rs and rust/guppy.h.
+"""Writes what other languages declare of crates/guppy_c, rust/src/exports.rs and rust/guppy.h, and the table in
+rust/README.md of the clauses that each export's contract has.
 
-Both are made of the signatures and structs in the sources. With --check it writes nothing, and fails where a file is not
-what it would write. It refuses to change the structs or functions that the header declares as long as the number of the
+All are made of the sources. With --check it writes nothing, and fails where a file is not what it would write. It refuses to change the structs or functions that the header declares as long as the number of the
 interface is the same.
 """
 
@@ -14,12 +14,18 @@ TOP = Path(__file__).resolve().parent.parent
 SOURCES = sorted((TOP / "crates/guppy_c/src").glob("*.rt")) + [TOP / "crates/guppy_flat/src/flat.rt"]
 RUST = TOP / "rust/src/exports.rs"
 HEADER = TOP / "rust/guppy.h"
+README = TOP / "rust/README.md"
 C_TYPES = {"u8": "uint8_t", "u32": "uint32_t", "usize": "size_t", "bool": "bool"}
 DOCS = r"((?:^ *///[^\n]*\n)*)"
 STRUCT = re.compile(DOCS + r"#\[repr\(C\)\]\n#\[derive\([^\n]*\)\]\npub struct (\w+) \{\n(.*?)^\}", re.M | re.S)
 FIELD = re.compile(DOCS + r" *pub (\w+): (\w+),\n", re.M)
 EXPORT = re.compile(DOCS + r'#\[unsafe\(no_mangle\)\]\npub extern "C" fn (\w+)\(([^)]*)\) -> (\w+)', re.M)
 SLICE = re.compile(r"&(mut )?\[(\w+)\]")
+CONTRACT = re.compile(r'pub extern "C" fn (\w+)\([^)]*\) -> \w+\n((?: {4,}[^\n]*\n)+)\{$', re.M)
+CLAUSE = re.compile(r"^    ensures (\w+) \{(.*?)\}$(?=\n    ensures|\Z)", re.M | re.S)
+# What holds of an answer: where the status is 0, or always, where there is none.
+OF_ANSWER = re.compile(r" \(?result\.(outcome\.)?status ≡ 0\b.*→| result ≡ ", re.S)
+TABLE = re.compile(r"(?<=\n\| export \| its answer \| its other statuses \|\n\|---\|---\|---\|\n)(\|[^\n]*\n)*")
 ANSWERED = re.compile(r"fn guppy_version\(\) -> u32\n +ensures number \{ result ≡ (\d+) \}")
 NUMBER = re.compile(r"#define GUPPY_C_VERSION (\d+)\n")
 HEAD = """// Made by scripts/exports.py of crates/guppy_c; not to be edited.
@@ -149,6 +155,28 @@ def header_of(structs, exports, number):
     return "".join([*lines, END])
 
 
+def clauses():
+    """The names of the clauses of each export, those of its answer first."""
+    exports = {}
+    for file in SOURCES:
+        for name, contract in CONTRACT.findall(file.read_text(encoding="utf-8")):
+            found = CLAUSE.findall(contract.rstrip("\n"))
+            if len(found) != contract.count("ensures"):
+                sys.exit(f"exports: a clause of {name} has no name, or another form than the others")
+            of_answer = [clause for clause, said in found if OF_ANSWER.match(said)]
+            exports[name] = of_answer, [clause for clause, _ in found if clause not in of_answer]
+    return exports
+
+
+def readme_of(page, exports):
+    """The page, with the table of the exports' clauses."""
+    cell = lambda names: ", ".join(f"`{name}`" for name in names)
+    contracts = clauses()
+    rows = [f"| `{name}` | {' | '.join(map(cell, contracts[name]))} |\n" for name, *_ in exports]
+    new, found = TABLE.subn("".join(rows).replace("|  |", "| |"), page)
+    return new if found == 1 else sys.exit("exports: rust/README.md has no table of the clauses")
+
+
 def is_other_with_one_number(old, new):
     """Whether two headers declare other structs or functions, under one number."""
     declared = ["".join(re.sub(r"//[^\n]*", "", text).split()) for text in (old, new)]
@@ -157,7 +185,9 @@ def is_other_with_one_number(old, new):
 
 
 def main():
-    made = {RUST: rust_of(*read()), HEADER: header_of(*read())}
+    declared = read()
+    readme = readme_of(README.read_text(encoding="utf-8"), declared[1])
+    made = {RUST: rust_of(*declared), HEADER: header_of(*declared), README: readme}
     old = {file: file.read_text(encoding="utf-8") if file.exists() else "" for file in made}
     if sys.argv[1:] == ["--check"]:
         for file, text in made.items():

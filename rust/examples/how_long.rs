@@ -1,6 +1,6 @@
-//! Prints how many milliseconds it takes to read the graph of a file and list its packages in their order, and to
-//! resolve what a member needs, with no resolver and with one, whose walk is judged, the least of nine times each:
-//! `how_long metadata.json`.
+//! Prints how many milliseconds it takes to read the graph of a file and list its packages in their order, to read all
+//! details of packages and links, too, and to resolve what a member needs, with no resolver and with one, whose walk is
+//! judged, the least of nine times each: `how_long metadata.json`.
 
 use guppy_proved::graph::{DependencyDirection, PackageGraph};
 use guppy_proved::CargoMetadata;
@@ -41,6 +41,20 @@ fn main() -> Result<(), Box<dyn Error>> {
         "{} packages read and ordered: {read:.3}",
         graph.package_count()
     );
+    let whole = least(
+        || json.clone(),
+        |json| {
+            let graph = CargoMetadata::try_from(json)?.build_graph()?;
+            let of_packages = graph.packages().map(|package| {
+                let has_table = !package.metadata_table().is_null();
+                package.authors().len() + package.build_targets().count() + usize::from(has_table)
+            });
+            let links = graph.packages().flat_map(|package| package.direct_links());
+            let of_links = links.map(|link| link.version_req().comparators.len());
+            Ok::<_, guppy_proved::Error>((of_packages.sum::<usize>(), of_links.sum::<usize>()))
+        },
+    );
+    println!("read with all details: {whole:.3}");
     let member = graph.workspace().iter().next().ok_or("no member")?;
     let resolved = least(
         || [member.id()],

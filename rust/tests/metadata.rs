@@ -85,6 +85,36 @@ fn what_makes_no_graph_is_refused() {
     }
 }
 
+// Rules of docs/RULES.md that JSON can break, though Cargo's never does.
+#[test]
+fn records_that_break_a_rule_are_refused() {
+    let sound = json_of(2, &[]);
+    assert!(PackageGraph::from_json(&sound).is_ok());
+    let (first, second) = ("path+file:///w/p0#1.0.0", "path+file:///w/p1#1.0.0");
+    let defaults = format!("\"workspace_default_members\":[\"{first}\"");
+    for (old, new, said) in [
+        (second, first, first),
+        (
+            &*defaults,
+            "\"workspace_default_members\":[\"nobody\"",
+            "nobody",
+        ),
+        ("/w/p1/Cargo.toml", "/w/p0/Cargo.toml", "path p0"),
+        (
+            "\"name\":\"p1\",\"version\"",
+            "\"name\":\"p0\",\"version\"",
+            "name p0",
+        ),
+    ] {
+        let broken = sound.replace(old, new);
+        assert_ne!(broken, sound, "{old}");
+        match PackageGraph::from_json(broken).unwrap_err() {
+            Error::PackageGraphConstructError(why) => assert!(why.contains(said), "{why}"),
+            other => panic!("{new}: {other:?}"),
+        }
+    }
+}
+
 // As guppy's documentation says of `--no-deps`: no links, and nothing of packages that are no members.
 #[test]
 fn light_metadata_make_a_graph_without_links() {

@@ -120,10 +120,10 @@ impl Parts<'_> {
             let id = self.text();
             let from = match last {
                 Some((last, from)) if last == id => from,
-                _ => position(positions, id)?,
+                _ => position(positions, id, "link")?,
             };
             last = Some((id, from));
-            let to = position(positions, self.text())?;
+            let to = position(positions, self.text(), "link")?;
             ends.push(Ends { from, to });
             links.push(self.link());
         }
@@ -131,9 +131,9 @@ impl Parts<'_> {
     }
 }
 
-// The position of the end of a link.
-fn position(positions: &Positions, id: &str) -> Result<u32, Error> {
-    let unknown = || Error::PackageGraphConstructError(format!("a link of unknown package {id}"));
+// The position of the package that something names.
+fn position(positions: &Positions, id: &str, of: &str) -> Result<u32, Error> {
+    let unknown = || Error::PackageGraphConstructError(format!("a {of} of unknown package {id}"));
     positions.get(id).copied().ok_or_else(unknown)
 }
 
@@ -159,7 +159,8 @@ impl Decoded {
         let (ends, links) = parts.links(&positions)?;
         let table = Later::of(parts.field());
         let defaults = workspace.default_members.iter();
-        let defaults = defaults.map(|id| Ok(position(&positions, id.of(&text))? as usize));
+        let defaults =
+            defaults.map(|id| Ok(position(&positions, id.of(&text), "default member")? as usize));
         Ok(Decoded {
             default_members: defaults.collect::<Result<_, Error>>()?,
             workspace,

@@ -79,6 +79,24 @@ pub struct PackageGraph {
     details: OnceLock<Details>,
 }
 
+// The members by what names each, which is no other's.
+fn sorted_by<K: Ord + fmt::Display>(
+    what: &str,
+    members: &[usize],
+    key: impl Fn(usize) -> K,
+) -> Result<Vec<usize>, Error> {
+    let mut sorted = members.to_vec();
+    sorted.sort_by_key(|at| key(*at));
+    let same = sorted.windows(2).find(|pair| key(pair[0]) == key(pair[1]));
+    match same {
+        Some(pair) => Err(Error::PackageGraphConstructError(format!(
+            "two members have the {what} {}",
+            key(pair[0])
+        ))),
+        None => Ok(sorted),
+    }
+}
+
 /// Making a graph.
 impl PackageGraph {
     /// The graph of what the command prints.
@@ -98,7 +116,8 @@ impl PackageGraph {
     ///
     /// # Errors
     ///
-    /// [`Error::PackageGraphConstructError`] where two packages have one ID, or an ordered pair of them two links.
+    /// [`Error::PackageGraphConstructError`] where two packages have one ID, or an ordered pair of them two links, where a
+    /// link or default member is of no package, or two members have one path or one name.
     pub fn from_metadata(metadata: CargoMetadata) -> Result<Self, Error> {
         let (json, records) = metadata.into_parts();
         let decoded = Decoded::of(records)?;
@@ -106,11 +125,9 @@ impl PackageGraph {
         let count = packages.len();
         let components =
             proved::components(ends, &decoded.firm, count).map_err(|fault| decoded.told(fault))?;
-        let members = (0..count).filter(|at| packages[*at].is_member());
-        let (mut members_by_path, mut members_by_name): (Vec<_>, Vec<_>) =
-            members.map(|at| (at, at)).unzip();
-        members_by_path.sort_by_key(|at| decoded.path(*at));
-        members_by_name.sort_by_key(|at| decoded.part(packages[*at].name));
+        let members: Vec<_> = (0..count).filter(|at| packages[*at].is_member()).collect();
+        let members_by_path = sorted_by("path", &members, |at| decoded.path(at))?;
+        let members_by_name = sorted_by("name", &members, |at| decoded.part(packages[at].name))?;
         Ok(PackageGraph {
             json,
             all: vec![true; ends.len()],

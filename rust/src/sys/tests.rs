@@ -330,3 +330,29 @@ fn a_text_that_finds_no_memory_is_not_written() {
     // Where memory is wanting while the records are read one by one, they are read as a whole.
     assert!(refusals.iter().all(|it| *it > 5), "{refusals:?}");
 }
+
+// Where the library finds no memory the process ends as where std finds none. This test is run a second time, in a
+// process in which one request after the other is refused, until a call can't do without.
+#[test]
+fn without_memory_the_process_ends() {
+    const FIND_NONE: &str = "GUPPY_FINDS_NO_MEMORY";
+    if std::env::var_os(FIND_NONE).is_some() {
+        for granted in 0..100 {
+            GRANTED.set(granted);
+            let _ = crate::proved::records("{}", false);
+        }
+        panic!("each time there is an answer");
+    }
+    let name = "sys::tests::without_memory_the_process_ends";
+    let again = std::process::Command::new(std::env::current_exe().unwrap())
+        .args(["--exact", name, "--nocapture"])
+        .env(FIND_NONE, "1")
+        .output()
+        .unwrap();
+    let told = String::from_utf8_lossy(&again.stderr);
+    assert!(
+        told.contains("memory allocation of 2 bytes failed"),
+        "{told}"
+    );
+    assert_eq!(again.status.code(), None, "a signal ends it");
+}
