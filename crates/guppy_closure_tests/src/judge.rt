@@ -137,7 +137,12 @@ fn are_marked(closed: &Closed, marks: &[bool]) -> bool {
 
 /// Whether exactly what holds is closed, with the looks that the clauses ask for and a derivation of each fact, and is
 /// known of names.
-pub(crate) fn is_right(rt: &impl Abort, alloc: Global, clauses: &[Clause<usize>], count: usize) -> bool {
+pub(crate) fn is_right(
+    rt: &impl Abort,
+    alloc: Global,
+    clauses: &[Clause<usize>],
+    count: usize,
+) -> bool {
     if count >= 1000 || clauses.len() >= 1000 || !are_within(clauses, count) {
         return false;
     }

@@ -97,7 +97,10 @@ fn chain_of_names(rt: HostRuntime) {
     };
     assert_eq!(rt; steps.len(), LENGTH, "steps");
     for (fact, number) in steps.iter().enumerate() {
-        assert!(rt; fact < LENGTH && *number == LENGTH - 1 - fact, "the clause of {fact}");
+        assert!(rt;
+            fact < LENGTH && *number == LENGTH - 1 - fact,
+            "the clause of {fact}"
+        );
     }
 }
 
