@@ -1,5 +1,5 @@
 -- What is known of clauses over facts of any ordered type.
-use Rattle.std.proofs.Common.{◌≡◌, ◌↔◌, ℕ, Bool, true, List, Option, Some, None, IsTrue, is_some, Result, Ok, Err, Vec, Global, refl, subst}
+use Rattle.std.proofs.Common.{◌≡◌, ◌↔◌, ℕ, Bool, List, Option, Some, None, IsTrue, is_some, Result, Ok, Err, Vec, Global, refl, subst}
 use Rattle.std.specs.Prelude.{Contains, MatchOption, IfOk}
 use Rattle.std.specs.List.Sorted.{IsStrictlySortedBy}
 use Rattle.std.specs.Cmp.{IsTotalOrder}

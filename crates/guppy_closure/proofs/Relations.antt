@@ -1,5 +1,5 @@
 -- What holds by the clauses of a list, and by those of a relation.
-use Rattle.std.proofs.Common.{◌≡◌, ◌⊎◌, ◌↔◌, ℕ, List, [], Option, Some, None, inl, inr, refl, ap}
+use Rattle.std.proofs.Common.{◌≡◌, ◌↔◌, List, [], Option, Some, None, inl, inr, refl, ap}
 use Rattle.std.specs.Prelude.{Contains, option_to_list}
 use Rattle.std.proofs.lemmas.List.Elements.{Contains-append_cases}
 use Rattle.guppy_search.proofs.Lists.{nothing_in, Contains-cons_cases}

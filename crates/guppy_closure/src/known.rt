@@ -60,8 +60,8 @@ impl<F: Ord + Copy> Known<F> {
     /// What follows from the clauses, which are fewer than 2^30. Facts that compare as equal have to be the same.
     ///
     /// Time grows with the clauses, times the logarithm of how many there are, by which facts are sorted and found.
-    /// Takes memory for three facts a clause, and beside them 48 bytes a clause and eight a fact, of which what is
-    /// answered keeps all but eight a clause. Fails with `TooManyClauses` only where there are more of them, and else
+    /// Takes memory for three facts a clause, and beside them 48 bytes a clause, and eight and a bit a fact, of which
+    /// what is answered keeps all but eight a clause and four a fact. Fails with `TooManyClauses` only where there are more of them, and else
     /// with `OutOfMemory` only where there is none.
     pub fn new(alloc: Global, clauses: Vec<Clause<F>>) -> Result<Self, ClosureFault>
         requires exact { IsExact F.cmp }

@@ -1,5 +1,3 @@
-use Rattle.std.proofs.Common.{◌↔◌, IsTrue, is_some, subst}
-use Rattle.guppy_closure.specs.Clauses.{Holds}
 use Rattle.guppy_closure.proofs.KnownFacts.{told_by}
 use Rattle.guppy_closure.proofs.known.Known.holds.Goals as goal
 

@@ -1,6 +1,4 @@
-use Rattle.std.proofs.Common.{◌≡◌, ◌∙◌, sym, length, subst, arith}
-use Rattle.std.specs.Prelude.{All, flat_map, Contains}
-use Rattle.guppy_closure.specs.Named.{facts_of, StandsAt, AreSame}
+use Rattle.std.proofs.Common.{◌≡◌, ◌∙◌, length, arith}
 use Rattle.guppy_closure.proofs.Places.{within_places, named_places, same_places}
 use Rattle.guppy_closure.proofs.known.Known.new.Goals as goal
 
