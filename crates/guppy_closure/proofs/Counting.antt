@@ -42,12 +42,12 @@ pub held_count-none : (n : ℕ) (facts : List (Option ℕ)) → held_count (repl
 held_count-none n [] = refl
 held_count-none n (fact ∷ facts) = let one = one_in-none n fact in let rest = held_count-none n facts in omega arith
 
-pub head_of-found : (clauses : List Clause) (n : ℕ) (c : Clause) → slice_get clauses n ≡ Some c → head_of clauses n ≡ c.head
+pub head_of-found : (clauses : List (Clause ℕ)) (n : ℕ) (c : Clause ℕ) → slice_get clauses n ≡ Some c → head_of clauses n ≡ c.head
 head_of-found [] n c e = absurd (cc)
-head_of-found (d ∷ clauses) zero c e = let same : d ≡ c = cc in ap (λ (z : Clause). z.head) same
+head_of-found (d ∷ clauses) zero c e = let same : d ≡ c = cc in ap (λ (z : Clause ℕ). z.head) same
 head_of-found (d ∷ clauses) (suc n) c e = head_of-found clauses n c e
 
-pub owed-push : (clauses : List Clause) (facts : List (Option ℕ)) (ns : List ℕ) (n : ℕ) → owed clauses facts (ns ++ n ∷ []) ≡ owed clauses facts ns + fact_count facts (head_of clauses n)
+pub owed-push : (clauses : List (Clause ℕ)) (facts : List (Option ℕ)) (ns : List ℕ) (n : ℕ) → owed clauses facts (ns ++ n ∷ []) ≡ owed clauses facts ns + fact_count facts (head_of clauses n)
 owed-push clauses facts [] n = omega arith
 owed-push clauses facts (m ∷ ns) n = let rest = owed-push clauses facts ns n in omega arith
 
@@ -58,7 +58,7 @@ one_in-few s (Some f) = elim (cases_Bool (has s f)) [
   | inr e ↦ rw e (omega arith)
 ]
 
-given_in : (s : List Bool) (c : Clause) → is_given c ≡ true → one_in s c.first + one_in s c.second ≡ 0
+given_in : (s : List Bool) (c : Clause ℕ) → is_given c ≡ true → one_in s c.first + one_in s c.second ≡ 0
 given_in s c h = cases c.first c.second h
   where
     cases : (a b : Option ℕ) → is_none a && is_none b ≡ true → one_in s a + one_in s b ≡ 0
@@ -67,7 +67,7 @@ given_in s c h = cases c.first c.second h
     cases (Some f) b h = absurd (cc)
 
 -- a clause that is not given has a fact in its body
-pub not_given : (c : Clause) → is_given c ≡ false → (b : ℕ) × InBody c b
+pub not_given : (c : Clause ℕ) → is_given c ≡ false → (b : ℕ) × InBody c b
 not_given c h = cases c.first c.second h
   where
     cases : (a d : Option ℕ) → is_none a && is_none d ≡ false → (b : ℕ) × ((a ≡ Some b) ⊎ (d ≡ Some b))
@@ -76,7 +76,7 @@ not_given c h = cases c.first c.second h
     cases (Some f) d h = (f, inl refl)
 
 -- the looks of all clauses are those of the given ones, and those of the facts of bodies
-pub looks_are : (s : List Bool) (cs : List Clause) → sum_by (looks_of s) cs ≡ given_count cs + held_count s (slots cs)
+pub looks_are : (s : List Bool) (cs : List (Clause ℕ)) → sum_by (looks_of s) cs ≡ given_count cs + held_count s (slots cs)
 looks_are s [] = refl
 looks_are s (c ∷ cs) =
     let rest = looks_are s cs in
@@ -86,7 +86,7 @@ looks_are s (c ∷ cs) =
     ])
 
 -- and no more than two each
-pub looks_few : (s : List Bool) (cs : List Clause) → given_count cs + held_count s (slots cs) ≤ 2 * length cs
+pub looks_few : (s : List Bool) (cs : List (Clause ℕ)) → given_count cs + held_count s (slots cs) ≤ 2 * length cs
 looks_few s [] = omega arith
 looks_few s (c ∷ cs) =
     let rest = looks_few s cs in
@@ -98,12 +98,12 @@ looks_few s (c ∷ cs) =
     ]
 
 -- the clause k, before those after it
-pub given_next : (cs : List Clause) (k : ℕ) (spare : Clause) → k < length cs → is_given (get_or cs k spare) ≡ true → given_count (drop k cs) ≡ 1 + given_count (drop (k + 1) cs)
+pub given_next : (cs : List (Clause ℕ)) (k : ℕ) (spare : Clause ℕ) → k < length cs → is_given (get_or cs k spare) ≡ true → given_count (drop k cs) ≡ 1 + given_count (drop (k + 1) cs)
 given_next cs k spare h given =
     let e : drop k cs ≡ get_or cs k spare ∷ drop (k + 1) cs = rw add-one (drop-cons cs k spare h) in
     rw (e, given) refl
 
-pub not_given_next : (cs : List Clause) (k : ℕ) (spare : Clause) → k < length cs → is_given (get_or cs k spare) ≡ false → given_count (drop k cs) ≡ given_count (drop (k + 1) cs)
+pub not_given_next : (cs : List (Clause ℕ)) (k : ℕ) (spare : Clause ℕ) → k < length cs → is_given (get_or cs k spare) ≡ false → given_count (drop k cs) ≡ given_count (drop (k + 1) cs)
 not_given_next cs k spare h fails =
     let e : drop k cs ≡ get_or cs k spare ∷ drop (k + 1) cs = rw add-one (drop-cons cs k spare h) in
     rw (e, fails) refl

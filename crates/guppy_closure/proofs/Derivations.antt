@@ -9,7 +9,7 @@ use Rattle.guppy_closure.specs.Clauses.{Holds, by}
 use Rattle.guppy_closure.specs.Derived.{HasClause, IsDerived, Follows, IsDerivation}
 use Rattle.guppy_closure.proofs.MetBodies.{same_clause}
 
-module _ (clauses : List Clause) (P : Clause → Type 0) where
+module _ (clauses : List (Clause ℕ)) (P : Clause ℕ → Type 0) where
   -- what is there is there with more behind
   pub HasClause-left : (ns ms : List ℕ) → HasClause clauses ns P → HasClause clauses (ns ++ ms) P
   HasClause-left ns ms h = (h.0, h.1, Contains-append_left ns ms h.0 h.2, h.3, h.4)
@@ -19,24 +19,24 @@ module _ (clauses : List Clause) (P : Clause → Type 0) where
   HasClause-right ms ns h = (h.0, h.1, Contains-append_right ms ns h.0 h.2, h.3, h.4)
 
   -- the last one
-  pub HasClause-push : (ns : List ℕ) (n : ℕ) (c : Clause) → slice_get clauses n ≡ Some c → P c → HasClause clauses (ns ++ n ∷ []) P
+  pub HasClause-push : (ns : List ℕ) (n : ℕ) (c : Clause ℕ) → slice_get clauses n ≡ Some c → P c → HasClause clauses (ns ++ n ∷ []) P
   HasClause-push ns n c found p = (n, c, Contains-push ns n, found, p)
 
   -- one of those before, or the last one
-  pub HasClause-push_cases : (ns : List ℕ) (n : ℕ) (c : Clause) → slice_get clauses n ≡ Some c → HasClause clauses (ns ++ n ∷ []) P → HasClause clauses ns P ⊎ P c
+  pub HasClause-push_cases : (ns : List ℕ) (n : ℕ) (c : Clause ℕ) → slice_get clauses n ≡ Some c → HasClause clauses (ns ++ n ∷ []) P → HasClause clauses ns P ⊎ P c
   HasClause-push_cases ns n c found h = elim (Contains-push_cases ns n h.0 h.2) [
     | inl before ↦ inl (h.0, h.1, before, h.3, h.4)
     | inr last ↦ inr (subst P (same_clause clauses n h.0 c h.1 found h.3 (sym last)) h.4)
   ]
 
   -- the first one, or one of those behind
-  pub HasClause-cons_cases : (n : ℕ) (ns : List ℕ) (c : Clause) → slice_get clauses n ≡ Some c → HasClause clauses (n ∷ ns) P → P c ⊎ HasClause clauses ns P
+  pub HasClause-cons_cases : (n : ℕ) (ns : List ℕ) (c : Clause ℕ) → slice_get clauses n ≡ Some c → HasClause clauses (n ∷ ns) P → P c ⊎ HasClause clauses ns P
   HasClause-cons_cases n ns c found h = elim (Contains-cons_cases n h.0 ns h.2) [
     | inl first ↦ inl (subst P (same_clause clauses n h.0 c h.1 found h.3 (sym first)) h.4)
     | inr later ↦ inr (h.0, h.1, later, h.3, h.4)
   ]
 
-module _ (clauses : List Clause) where
+module _ (clauses : List (Clause ℕ)) where
   -- what a derivation derives holds
   pub derived_holds : (ns : List ℕ) → IsDerivation clauses ns → (f : ℕ) → IsDerived clauses ns f → Holds clauses f
   derived_holds ns each = EachAfter-along (Follows clauses) (λ before. (f : ℕ) → IsDerived clauses before f → Holds clauses f)
@@ -54,13 +54,13 @@ module _ (clauses : List Clause) where
   ]
 
   -- no head from some place on is derived before it
-  pub not_before : (before after : List ℕ) (m : ℕ) (d : Clause) → IsDerivation clauses (before ++ after) → Contains after m → slice_get clauses m ≡ Some d → ¬ IsDerived clauses before d.head
+  pub not_before : (before after : List ℕ) (m : ℕ) (d : Clause ℕ) → IsDerivation clauses (before ++ after) → Contains after m → slice_get clauses m ≡ Some d → ¬ IsDerived clauses before d.head
   not_before before after m d each h found derived =
       let parts = member_split after m h in
       let whole : before ++ after ≡ (before ++ parts.0) ++ m ∷ parts.1 = ap (λ ks. before ++ ks) parts.2 ∙ sym (append_assoc before parts.0 (m ∷ parts.1)) in
       let follows = each (before ++ parts.0) m parts.1 whole in
       let same : d ≡ follows.clause = same_clause clauses m m follows.clause d follows.found found refl in
-      follows.new (HasClause-left clauses (λ c. c.head ≡ follows.clause.head) before parts.0 (subst (λ (z : Clause). IsDerived clauses before z.head) same derived))
+      follows.new (HasClause-left clauses (λ c. c.head ≡ follows.clause.head) before parts.0 (subst (λ (z : Clause ℕ). IsDerived clauses before z.head) same derived))
 
   -- each of its numbers is that of a clause
   pub numbered : (ns : List ℕ) → IsDerivation clauses ns → (n : ℕ) → Contains ns n → n < length clauses

@@ -4,3 +4,7 @@ pub mod Derivations
 pub mod Counting
 pub mod Steps
 pub mod NeededSteps
+pub mod Renamed
+pub mod Places
+pub mod Relations
+pub mod KnownFacts

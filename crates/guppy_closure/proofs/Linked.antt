@@ -12,7 +12,7 @@ use Rattle.guppy_closure.specs.Places.{slots, Leads, IsRow, AreLinked}
 use Rattle.guppy_closure.specs.Counts.{one_is, fact_count}
 
 -- what stands in a list with one more element behind
-slice_get-push_cases : {X : Type 0} (xs : List X) (x : X) (p : ℕ) (y : X) → slice_get (xs ++ x ∷ []) p ≡ Some y → (slice_get xs p ≡ Some y) ⊎ ((p ≡ length xs) × (x ≡ y))
+pub slice_get-push_cases : {X : Type 0} (xs : List X) (x : X) (p : ℕ) (y : X) → slice_get (xs ++ x ∷ []) p ≡ Some y → (slice_get xs p ≡ Some y) ⊎ ((p ≡ length xs) × (x ≡ y))
 slice_get-push_cases [] x zero y e = inr (refl, cc)
 slice_get-push_cases [] x (suc p) y e = absurd (cc)
 slice_get-push_cases (z ∷ xs) x zero y e = inl e
@@ -116,20 +116,20 @@ module _ (facts : List (Option ℕ)) (last earlier : List ℕ) where
         (cases_eq f g);
   }
 
-pub slots-push : (cs : List Clause) (c : Clause) → slots (cs ++ c ∷ []) ≡ (slots cs ++ c.first ∷ []) ++ c.second ∷ []
+pub slots-push : (cs : List (Clause ℕ)) (c : Clause ℕ) → slots (cs ++ c ∷ []) ≡ (slots cs ++ c.first ∷ []) ++ c.second ∷ []
 slots-push [] c = refl
 slots-push (d ∷ cs) c = ap (λ ss. d.first ∷ d.second ∷ ss) (slots-push cs c)
 
-pub length-slots : (cs : List Clause) → length (slots cs) ≡ 2 * length cs
+pub length-slots : (cs : List (Clause ℕ)) → length (slots cs) ≡ 2 * length cs
 length-slots [] = refl
 length-slots (c ∷ cs) = let rest = length-slots cs in omega arith
 
 -- a fact of a body has a place in its clause
-pub slots_at : (cs : List Clause) (n : ℕ) (c : Clause) (b : ℕ) → slice_get cs n ≡ Some c → InBody c b → (p : ℕ) × (slice_get (slots cs) p ≡ Some (Some b)) × (p / 2 ≡ n)
+pub slots_at : (cs : List (Clause ℕ)) (n : ℕ) (c : Clause ℕ) (b : ℕ) → slice_get cs n ≡ Some c → InBody c b → (p : ℕ) × (slice_get (slots cs) p ≡ Some (Some b)) × (p / 2 ≡ n)
 slots_at [] n c b found i = absurd (cc)
 slots_at (d ∷ cs) zero c b found i =
     let same : c ≡ d = cc in
-    elim (subst (λ (z : Clause). InBody z b) same i) [
+    elim (subst (λ (z : Clause ℕ). InBody z b) same i) [
       | inl e ↦ (0, ap Some e, refl)
       | inr e ↦ (1, ap Some e, refl)
     ]

@@ -21,12 +21,12 @@ ok_both (Ok x) P Q R follows p q = follows x p q
 ok_both (Err e) P Q R follows p q = tt
 
 -- the clause n, which is c, was found at the place p
-pub record FoundAt (clauses : List Clause) (found : List ℕ) (p n : ℕ) (c : Clause) : Type 0 where
+pub record FoundAt (clauses : List (Clause ℕ)) (found : List ℕ) (p n : ℕ) (c : Clause ℕ) : Type 0 where
   pub inside : p < length found
   pub number : n ≡ get_or found p 0
   pub clause : slice_get clauses n ≡ Some c
 
-module _ (clauses : List Clause) (facts : List Bool) (found : List ℕ) (all : IsFound clauses facts found) where
+module _ (clauses : List (Clause ℕ)) (facts : List Bool) (found : List ℕ) (all : IsFound clauses facts found) where
   -- what was found at a place is a clause
   pub number_low : (p n : ℕ) → p < length found → n ≡ get_or found p 0 → n < length clauses
   number_low p n inside number = numbered clauses found all.order n (subst (Contains found) (sym number) (Contains-get_or found p 0 inside))
@@ -39,32 +39,32 @@ module _ (clauses : List Clause) (facts : List Bool) (found : List ℕ) (all : I
   }
 
   -- the clause at the place follows from those before it
-  follows_at : (p n : ℕ) (c : Clause) → FoundAt clauses found p n c → Follows clauses (take p found) n
+  follows_at : (p n : ℕ) (c : Clause ℕ) → FoundAt clauses found p n c → Follows clauses (take p found) n
   follows_at p n c at =
       let whole : found ≡ take p found ++ get_or found p 0 ∷ drop (p + 1) found = sym (take-append-drop p found) ∙ ap (λ ns. take p found ++ ns) (drop_more found p 0 at.inside) in
       subst (Follows clauses (take p found)) (sym at.number) (all.order (take p found) (get_or found p 0) (drop (p + 1) found) whole)
 
   -- its body is derived before
-  body_before : (p n : ℕ) (c : Clause) → FoundAt clauses found p n c → (b : ℕ) → InBody c b → IsDerived clauses (take p found) b
+  body_before : (p n : ℕ) (c : Clause ℕ) → FoundAt clauses found p n c → (b : ℕ) → InBody c b → IsDerived clauses (take p found) b
   body_before p n c at b i =
       let follows = follows_at p n c at in
       let same : c ≡ follows.clause = same_clause clauses n n follows.clause c follows.found at.clause refl in
-      follows.body b (subst (λ (z : Clause). InBody z b) same i)
+      follows.body b (subst (λ (z : Clause ℕ). InBody z b) same i)
 
   -- so that it is among the facts
-  pub body_in : (p n : ℕ) (c : Clause) → FoundAt clauses found p n c → (b : ℕ) → InBody c b → IsIn facts b
+  pub body_in : (p n : ℕ) (c : Clause ℕ) → FoundAt clauses found p n c → (b : ℕ) → InBody c b → IsIn facts b
   body_in p n c at b i =
       (all.derived b).1 (subst (λ ns. IsDerived clauses ns b) (take-append-drop p found) (HasClause-left clauses (λ d. d.head ≡ b) (take p found) (drop p found) (body_before p n c at b i)))
 
   -- and below the count
-  pub body_low : (count p n : ℕ) (c : Clause) → count ≡ length facts → FoundAt clauses found p n c → (b : ℕ) → InBody c b → (b < count) × (b < 2 ^ 32)
+  pub body_low : (count p n : ℕ) (c : Clause ℕ) → count ≡ length facts → FoundAt clauses found p n c → (b : ℕ) → InBody c b → (b < count) × (b < 2 ^ 32)
   body_low count p n c same at b i =
       let there = body_in p n c at b i in
       let low = IsIn-below facts b there in
       (omega arith, all.small b there)
 
   -- the head of a clause that was found is among the facts
-  pub head_low : (count p n : ℕ) (c : Clause) → count ≡ length facts → FoundAt clauses found p n c → c.head < count
+  pub head_low : (count p n : ℕ) (c : Clause ℕ) → count ≡ length facts → FoundAt clauses found p n c → c.head < count
   head_low count p n c same at =
       let member : Contains found n = subst (Contains found) (sym at.number) (Contains-get_or found p 0 at.inside) in
       let low = IsIn-below facts c.head ((all.derived c.head).1 (n, c, member, at.clause, refl)) in
@@ -83,7 +83,7 @@ module _ (clauses : List Clause) (facts : List Bool) (found : List ℕ) (all : I
           needed = λ h i. inl (sym (only_member (length facts) f h i));
         })
 
-    module _ (p q n : ℕ) (c : Clause) (s : List Bool) (at : FoundAt clauses found p n c) (next : q ≡ p + 1) (before : Needs clauses (drop q found) f facts s) where
+    module _ (p q n : ℕ) (c : Clause ℕ) (s : List Bool) (at : FoundAt clauses found p n c) (next : q ≡ p + 1) (before : Needs clauses (drop q found) f facts s) where
       rest_is : drop p found ≡ n ∷ drop q found
       rest_is = rw (next, at.number) (drop_more found p 0 at.inside)
 
@@ -93,7 +93,7 @@ module _ (clauses : List Clause) (facts : List Bool) (found : List ℕ) (all : I
         fact = before.fact;
         within = before.within;
         bodies = λ m d member found' i. elim (Contains-cons_cases n m (drop q found) member) as (λ _. IsMet d s) [
-          | inl e ↦ absurd (out (subst (λ (z : Clause). IsIn s z.head) (same_clause clauses n m c d at.clause found' (sym e)) i))
+          | inl e ↦ absurd (out (subst (λ (z : Clause ℕ). IsIn s z.head) (same_clause clauses n m c d at.clause found' (sym e)) i))
           | inr later ↦ before.bodies m d later found' i
         ];
         needed = λ h i. elim (before.needed h i) [
@@ -112,7 +112,7 @@ module _ (clauses : List Clause) (facts : List Bool) (found : List ℕ) (all : I
         ];
         bodies = λ m d member found' i. elim ((members d.head).0 i) as (λ _. IsMet d s') [
           | inl was ↦ elim (Contains-cons_cases n m (drop q found) member) as (λ _. IsMet d s') [
-            | inl e ↦ λ b in_body. (members b).1 (inr (subst (λ (z : Clause). InBody z b) (same_clause clauses n m c d at.clause found' (sym e)) in_body))
+            | inl e ↦ λ b in_body. (members b).1 (inr (subst (λ (z : Clause ℕ). InBody z b) (same_clause clauses n m c d at.clause found' (sym e)) in_body))
             | inr later ↦ λ b in_body. (members b).1 (inl (before.bodies m d later found' was b in_body))
           ]
           | inr new ↦ absurd (not_before clauses (take p found) (drop p found) m d (rw take-append-drop all.order) (rw rest_is member) found' (body_before p n c at d.head new))
@@ -127,7 +127,7 @@ module _ (clauses : List Clause) (facts : List Bool) (found : List ℕ) (all : I
       })
 
   -- the clause at place i, of which the steps of those before it are there
-  module _ (s : List Bool) (bodies : HasBodies clauses found s) (steps : List ℕ) (i n : ℕ) (c : Clause) (at : FoundAt clauses found i n c) (order : IsDerivation clauses steps) (are : AreSteps clauses (take i found) s steps) where
+  module _ (s : List Bool) (bodies : HasBodies clauses found s) (steps : List ℕ) (i n : ℕ) (c : Clause ℕ) (at : FoundAt clauses found i n c) (order : IsDerivation clauses steps) (are : AreSteps clauses (take i found) s steps) where
     take_is : take (i + 1) found ≡ take i found ++ n ∷ []
     take_is = rw at.number (take_more found i 0 at.inside)
 
@@ -144,14 +144,14 @@ module _ (clauses : List Clause) (facts : List Bool) (found : List ℕ) (all : I
                 let d = body_before i n c at b in_body in
                 let there = bodies n c member at.clause in_now b in_body in
                 (d.0, d.1, (are d.0 d.1 d.3).1 (d.2, subst (IsIn s) (sym d.4) there), d.3, d.4);
-            new = λ d. follows.new (subst (λ (z : Clause). IsDerived clauses (take i found) z.head) (sym same) (d.0, d.1, ((are d.0 d.1 d.3).0 d.2).0, d.3, d.4));
+            new = λ d. follows.new (subst (λ (z : Clause ℕ). IsDerived clauses (take i found) z.head) (sym same) (d.0, d.1, ((are d.0 d.1 d.3).0 d.2).0, d.3, d.4));
           }),
           λ m d found'. (
             λ there. elim (Contains-push_cases steps n m there) [
               | inl before ↦ let was = (are m d found').0 before in (rw take_is (Contains-append_left (take i found) (n ∷ []) m was.0), was.1)
               | inr e ↦ (
                 rw take_is (subst (Contains (take i found ++ n ∷ [])) e (Contains-push (take i found) n)),
-                subst (λ (z : Clause). IsIn s z.head) (same_clause clauses m n d c found' at.clause e) in_now,
+                subst (λ (z : Clause ℕ). IsIn s z.head) (same_clause clauses m n d c found' at.clause e) in_now,
               )
             ],
             λ both. elim (Contains-push_cases (take i found) n m (rw take_is at both.0)) [
@@ -167,7 +167,7 @@ module _ (clauses : List Clause) (facts : List Bool) (found : List ℕ) (all : I
       λ there. let was = (are m d found').0 there in (rw take_is (Contains-append_left (take i found) (n ∷ []) m was.0), was.1),
       λ both. elim (Contains-push_cases (take i found) n m (rw take_is at both.0)) as (λ _. Contains steps m) [
         | inl before ↦ (are m d found').1 (before, both.1)
-        | inr e ↦ absurd (out (subst (λ (z : Clause). IsIn s z.head) (same_clause clauses n m c d at.clause found' (sym e)) both.1))
+        | inr e ↦ absurd (out (subst (λ (z : Clause ℕ). IsIn s z.head) (same_clause clauses n m c d at.clause found' (sym e)) both.1))
       ],
     )
 
@@ -199,11 +199,11 @@ module _ (clauses : List Clause) (facts : List Bool) (found : List ℕ) (all : I
               let whole : steps ≡ parts.0 ++ w.0 ∷ (parts.1 ++ n ∷ []) = ends ∙ (ap (λ ns. ns ++ n ∷ []) parts.2 ∙ append_assoc parts.0 (w.0 ∷ parts.1) (n ∷ [])) in
               let there = order parts.0 w.0 (parts.1 ++ n ∷ []) whole in
               let same : w.1 ≡ there.clause = same_clause clauses w.0 w.0 there.clause w.1 there.found w.3 refl in
-              let derived = there.body h (subst (λ (z : Clause). InBody z h) same w.4) in
+              let derived = there.body h (subst (λ (z : Clause ℕ). InBody z h) same w.4) in
               follows.new (rw parts.2 (HasClause-left clauses (λ d. d.head ≡ h) parts.0 (w.0 ∷ parts.1) derived))
           | inr e ↦
               let same : w.1 ≡ follows.clause = same_clause clauses n w.0 follows.clause w.1 follows.found w.3 (sym e) in
-              follows.new (follows.body h (subst (λ (z : Clause). InBody z h) same w.4))
+              follows.new (follows.body h (subst (λ (z : Clause ℕ). InBody z h) same w.4))
         ]
 
     pub steps_last : EndsWith clauses steps f

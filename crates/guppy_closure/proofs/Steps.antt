@@ -19,10 +19,10 @@ use Rattle.guppy_closure.proofs.Linked.{length-slots, slots_at}
 use Rattle.guppy_closure.proofs.Counting.{held_count-set, held_count-none, head_of-found, owed-push, looks_few}
 
 -- what a look leaves the same
-pub looks_size : (c : Clause) (n : ℕ) (s : List Bool) (w : List ℕ) (s' : List Bool) (w' : List ℕ) → LooksAt c n s w s' w' → length s' ≡ length s
+pub looks_size : (c : Clause ℕ) (n : ℕ) (s : List Bool) (w : List ℕ) (s' : List Bool) (w' : List ℕ) → LooksAt c n s w s' w' → length s' ≡ length s
 looks_size c n s w s' w' h = elim h [ inl k ↦ ap length k.1 | inr k ↦ ap length k.2 ∙ length-set s c.head true ]
 
-module _ (clauses : List Clause) where
+module _ (clauses : List (Clause ℕ)) where
   -- nothing is in the set, and each clause is left
   pub closing_none : (count : ℕ) (IsLeft : ℕ → Type 0) → ((n : ℕ) → IsLeft n) → (spent : ℕ) → spent ≡ given_count clauses → Closing clauses (replicate count false) [] 0 spent IsLeft
   closing_none count IsLeft left spent same = record {
@@ -53,7 +53,7 @@ module _ (clauses : List Clause) where
 
     module _ (IsLeft' : ℕ → Type 0) where
       -- fewer clauses are left, of which each other one had its head there, or one of its body was still to be followed
-      closing_less : ((m : ℕ) (d : Clause) → slice_get clauses m ≡ Some d → IsMet d s → IsLeft m → IsIn s d.head ⊎ (IsLeft' m ⊎ ((b : ℕ) × InBody d b × IsDerived clauses (drop next w) b)))
+      closing_less : ((m : ℕ) (d : Clause ℕ) → slice_get clauses m ≡ Some d → IsMet d s → IsLeft m → IsIn s d.head ⊎ (IsLeft' m ⊎ ((b : ℕ) × InBody d b × IsDerived clauses (drop next w) b)))
           → (spent' : ℕ) → spent' ≡ spent → Closing clauses s w next spent' IsLeft'
       closing_less left spent' same = record {
         order = a.order;
@@ -68,29 +68,29 @@ module _ (clauses : List Clause) where
       }
 
       -- none is left
-      pub closing_done : ((m : ℕ) (d : Clause) → slice_get clauses m ≡ Some d → ¬ IsLeft m) → (spent' : ℕ) → spent' ≡ spent → Closing clauses s w next spent' IsLeft'
+      pub closing_done : ((m : ℕ) (d : Clause ℕ) → slice_get clauses m ≡ Some d → ¬ IsLeft m) → (spent' : ℕ) → spent' ≡ spent → Closing clauses s w next spent' IsLeft'
       closing_done none = closing_less (λ m d found met here. absurd (none m d found here))
 
       -- clause n is no longer left: one of its body is still to be followed, where all of it is there
-      pub closing_skipped : (n : ℕ) (c : Clause) → slice_get clauses n ≡ Some c → ((m : ℕ) → IsLeft m → (m ≡ n) ⊎ IsLeft' m) → ((b : ℕ) × InBody c b) → ((f : ℕ) → IsIn s f → IsDerived clauses (drop next w) f)
+      pub closing_skipped : (n : ℕ) (c : Clause ℕ) → slice_get clauses n ≡ Some c → ((m : ℕ) → IsLeft m → (m ≡ n) ⊎ IsLeft' m) → ((b : ℕ) × InBody c b) → ((f : ℕ) → IsIn s f → IsDerived clauses (drop next w) f)
           → (spent' : ℕ) → spent' ≡ spent → Closing clauses s w next spent' IsLeft'
       closing_skipped n c found step one all = closing_less (λ m d found' met here. elim (step m here) [
         | inl e ↦
             let same : d ≡ c = same_clause clauses n m c d found found' e in
-            let in_body : InBody d one.0 = subst (λ (z : Clause). InBody z one.0) (sym same) one.1 in
+            let in_body : InBody d one.0 = subst (λ (z : Clause ℕ). InBody z one.0) (sym same) one.1 in
             inr (inr (one.0, in_body, all one.0 (met one.0 in_body)))
         | inr h ↦ inr (inl h)
       ])
 
       -- clause n was looked at
-      pub closing_looked : (n : ℕ) (c : Clause) (s' : List Bool) (w' : List ℕ) → slice_get clauses n ≡ Some c → ((m : ℕ) → IsLeft m → (m ≡ n) ⊎ IsLeft' m) → c.head < length s → LooksAt c n s w s' w'
+      pub closing_looked : (n : ℕ) (c : Clause ℕ) (s' : List Bool) (w' : List ℕ) → slice_get clauses n ≡ Some c → ((m : ℕ) → IsLeft m → (m ≡ n) ⊎ IsLeft' m) → c.head < length s → LooksAt c n s w s' w'
           → (spent' : ℕ) → spent' ≡ spent → Closing clauses s' w' next spent' IsLeft'
       closing_looked n c s' w' found step below looks spent' same = elim looks [
         | inl k ↦ rw (k.1, k.2) (closing_less
             (λ m d found' met here. elim (step m here) [
               | inl e ↦
                   let one : d ≡ c = same_clause clauses n m c d found found' e in
-                  inl (subst (λ (z : Clause). IsIn s z.head) (sym one) (k.0 (subst (λ (z : Clause). IsMet z s) one met)))
+                  inl (subst (λ (z : Clause ℕ). IsIn s z.head) (sym one) (k.0 (subst (λ (z : Clause ℕ). IsMet z s) one met)))
               | inr h ↦ inr (inl h)
             ])
             spent' same)
@@ -122,7 +122,7 @@ module _ (clauses : List Clause) where
                     | inl here ↦ elim (step m here) [
                       | inl e ↦
                           let one : d ≡ c = same_clause clauses n m c d found found' e in
-                          inl (subst (λ (z : Clause). IsIn (set s c.head true) z.head) (sym one) in_now)
+                          inl (subst (λ (z : Clause ℕ). IsIn (set s c.head true) z.head) (sym one) in_now)
                       | inr h ↦ inr (inl h)
                     ]
                     | inr wait ↦ inr (inr (wait.0, wait.1, rw later (HasClause-left clauses (λ d. d.head ≡ wait.0) (drop next w) (n ∷ []) wait.2)))
@@ -143,7 +143,7 @@ module _ (clauses : List Clause) where
       ]
 
   -- the fact found at the place next is followed, whose row is left
-  pub closing_followed : (s : List Bool) (w earlier : List ℕ) (next spent mark : ℕ) (c : Clause) → next < length w → slice_get clauses (get_or w next 0) ≡ Some c → IsRow (slots clauses) earlier c.head mark
+  pub closing_followed : (s : List Bool) (w earlier : List ℕ) (next spent mark : ℕ) (c : Clause ℕ) → next < length w → slice_get clauses (get_or w next 0) ≡ Some c → IsRow (slots clauses) earlier c.head mark
       → Closing clauses s w next spent IsNone → Following clauses s w earlier (next + 1) spent mark
   closing_followed s w earlier next spent mark c inside found row a =
       let first : drop next w ≡ get_or w next 0 ∷ drop (next + 1) w = drop_more w next 0 inside in
@@ -235,9 +235,9 @@ leads_on earlier mark (p ∷ rest) some h =
       leads = rw same h.3;
     }
 
-module _ (clauses : List Clause) (s : List Bool) (w earlier : List ℕ) (next looks mark : ℕ) (f : Following clauses s w earlier next looks mark) where
+module _ (clauses : List (Clause ℕ)) (s : List Bool) (w earlier : List ℕ) (next looks mark : ℕ) (f : Following clauses s w earlier next looks mark) where
   -- the clause of the mark was looked at
-  pub following_looked : 0 < mark → (c : Clause) (s' : List Bool) (w' : List ℕ) → slice_get clauses ((mark - 1) / 2) ≡ Some c → c.head < length s → LooksAt c ((mark - 1) / 2) s w s' w'
+  pub following_looked : 0 < mark → (c : Clause ℕ) (s' : List Bool) (w' : List ℕ) → slice_get clauses ((mark - 1) / 2) ≡ Some c → c.head < length s → LooksAt c ((mark - 1) / 2) s w s' w'
       → Following clauses s' w' earlier next (looks + 1) (get_or earlier (mark - 1) 0)
   following_looked some c s' w' found below looked =
       let on = leads_on earlier mark f.left some f.leads in

@@ -4,3 +4,5 @@ pub mod Places
 pub mod Counts
 pub mod Closing
 pub mod Needs
+pub mod Named
+pub mod Relations

@@ -4,7 +4,7 @@ use Rattle.guppy_closure.specs.declared.clause.Clause.{Clause}
 use Rattle.guppy_closure.specs.Counts.{fact_count}
 
 -- the facts of the bodies by their places, two a clause
-abbrev pub slots : List Clause → List (Option ℕ)
+abbrev pub slots : List (Clause ℕ) → List (Option ℕ)
 slots [] = []
 slots (c ∷ cs) = c.first ∷ c.second ∷ slots cs
 

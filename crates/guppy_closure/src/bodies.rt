@@ -1,3 +1,4 @@
+//! The places in bodies where each fact stands.
 ghost use Rattle.std.specs.Prelude.{◌≡◌, ℕ, ◌+◌, ◌*◌, ◌<◌, ◌^◌, ◌∷◌, [], ◌++◌, Option, Some, List, length, IfOk, All, vec_len, vec_capacity};
 ghost use Rattle.guppy_closure.specs.Clauses.{IsWithin};
 ghost use Rattle.guppy_closure.specs.Places.{slots, AreLinked};
@@ -17,7 +18,11 @@ pub(crate) struct Bodies {
 
 impl Bodies {
     /// The places of these clauses. Takes memory for a number a fact and two a clause.
-    pub(crate) fn new(alloc: Global, clauses: &[Clause], count: usize) -> Result<Self, AllocError>
+    pub(crate) fn new(
+        alloc: Global,
+        clauses: &[Clause<usize>],
+        count: usize,
+    ) -> Result<Self, AllocError>
         requires within { All (IsWithin count) clauses.now }
         requires few { length clauses.now < 2 ^ 31 }
         ensures count { IfOk result (λ bodies. length bodies.last.items ≡ count) }

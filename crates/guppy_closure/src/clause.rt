@@ -1,3 +1,4 @@
+//! Clauses, and which facts they name.
 ghost use Rattle.std.specs.Prelude.{◌≡◌, ◌↔◌, ℕ, ◌<◌, Some, length, All, IsTrue};
 ghost use Rattle.guppy_closure.specs.Clauses.{IsWithin, is_given, is_met, is_there};
 
@@ -6,16 +7,16 @@ use guppy_search::IxSet;
 
 /// The head holds where the whole body does, which has at most two facts. With an empty body it always does.
 #[derive(Clone, Copy, Debug, PartialEq, Eq)]
-pub struct Clause {
+pub struct Clause<F> {
     /// A fact of the body.
-    pub first: Option<usize>,
+    pub first: Option<F>,
     /// Another one.
-    pub second: Option<usize>,
+    pub second: Option<F>,
     /// What follows.
-    pub head: usize,
+    pub head: F,
 }
 
-impl Clause {
+impl Clause<usize> {
     /// Whether each fact that it names is below the count.
     pub fn is_within(&self, count: usize) -> bool
         ensures { IsTrue result ↔ IsWithin count self.now }
@@ -46,7 +47,7 @@ impl Clause {
 }
 
 /// Whether each fact that the clauses name is below the count. Time grows with the clauses.
-pub fn are_within(clauses: &[Clause], count: usize) -> bool
+pub fn are_within(clauses: &[Clause<usize>], count: usize) -> bool
     ensures { IsTrue result ↔ All (IsWithin count) clauses.now }
 {
     clauses.iter().all(|clause| clause.is_within(count))

@@ -1,3 +1,4 @@
+//! The facts that hold, found one after another.
 ghost use Rattle.std.specs.Prelude.{◌≡◌, ◌↔◌, ℕ, ◌+◌, ◌*◌, ◌<◌, ◌≤◌, ◌^◌, length, sum_by, IfOk, All, vec_len, vec_capacity};
 ghost use Rattle.guppy_search.specs.IxSet.{has, IsIn};
 ghost use Rattle.guppy_closure.specs.Clauses.{IsWithin, Holds};
@@ -33,7 +34,7 @@ pub struct Closed {
 /// twice; beside these looks, each is read for the places of its facts, and for whether its body is empty. Time grows
 /// with the facts and the clauses. All memory is taken before the first look: a bit and two numbers of four bytes a
 /// fact, and two a clause, of which what is answered keeps a bit and a number a fact. Fails only where there is none.
-pub fn closure(alloc: Global, clauses: &[Clause], count: usize) -> Result<Closed, AllocError>
+pub fn closure(alloc: Global, clauses: &[Clause<usize>], count: usize) -> Result<Closed, AllocError>
     requires within { All (IsWithin count) clauses.now }
     requires few_facts { count < 2 ^ 32 }
     requires few_clauses { length clauses.now < 2 ^ 31 }
@@ -63,7 +64,7 @@ impl Closed {
     }
 
     // What the clauses with an empty body give, of which nothing is followed yet.
-    fn begin(alloc: Global, clauses: &[Clause], count: usize) -> Result<Self, AllocError>
+    fn begin(alloc: Global, clauses: &[Clause<usize>], count: usize) -> Result<Self, AllocError>
         requires within { All (IsWithin count) clauses.now }
         requires few_facts { count < 2 ^ 32 }
         requires few_clauses { length clauses.now < 2 ^ 31 }
@@ -89,7 +90,7 @@ impl Closed {
     }
 
     // Looks at the clauses in whose body the fact stands that was found at this place.
-    fn follow(&mut self, clauses: &[Clause], bodies: &Bodies, place: usize)
+    fn follow(&mut self, clauses: &[Clause<usize>], bodies: &Bodies, place: usize)
         requires within { All (IsWithin (length self.old.facts)) clauses.now }
         requires few_facts { length self.old.facts < 2 ^ 32 }
         requires few_clauses { length clauses.now < 2 ^ 31 }
@@ -114,7 +115,7 @@ impl Closed {
     }
 
     // Looks at the clause of this number: puts its head in, where the whole body is in the set and the head isn't.
-    fn look(&mut self, clause: &Clause, number: usize)
+    fn look(&mut self, clause: &Clause<usize>, number: usize)
         requires within { IsWithin (length self.old.facts) clause.now }
         requires few { length self.old.facts < 2 ^ 32 }
         requires number { number < 2 ^ 32 }

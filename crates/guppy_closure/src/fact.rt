@@ -1,3 +1,4 @@
+//! Facts as numbers, and the type of their sets.
 use guppy_search::{GraphSpec, IndexType};
 
 /// A fact, as a number of a type of its own.

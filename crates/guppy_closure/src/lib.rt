@@ -9,6 +9,8 @@
 //! - `bodies`: the places in bodies where each fact stands;
 //! - `closing`: the facts that hold;
 //! - `reasons`: why one of them does;
+//! - `named`: facts of any ordered type, as numbers;
+//! - `known`: which of them hold, and why;
 //! - `laws` on what holds.
 #![tactic(auto)]
 
@@ -16,10 +18,13 @@ mod bodies;
 pub mod clause;
 pub mod closing;
 pub mod fact;
+pub mod known;
 pub mod laws;
+mod named;
 pub mod reasons;
 
 pub use clause::{Clause, are_within};
 pub use closing::{Closed, closure};
 pub use fact::{FactIx, Facts};
+pub use known::{ClosureFault, Known};
 pub use reasons::derivation;

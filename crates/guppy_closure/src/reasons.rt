@@ -1,3 +1,4 @@
+//! Why a fact holds.
 ghost use Rattle.std.specs.Prelude.{◌≡◌, ◌⊎◌, ◌↔◌, ℕ, ◌<◌, ◌^◌, Some, length, IfOk};
 ghost use Rattle.guppy_search.specs.IxSet.{IsIn};
 ghost use Rattle.guppy_closure.specs.Clauses.{InBody};
@@ -19,7 +20,7 @@ use std::alloc::{AllocError, Global};
 /// is none.
 pub fn derivation(
     alloc: Global,
-    clauses: &[Clause],
+    clauses: &[Clause<usize>],
     closed: &Closed,
     fact: usize,
 ) -> Result<Vec<usize>, AllocError>
@@ -36,7 +37,7 @@ pub fn derivation(
 // The fact and what it needs: of each clause found whose head is in, the body.
 fn needed_for(
     alloc: Global,
-    clauses: &[Clause],
+    clauses: &[Clause<usize>],
     closed: &Closed,
     fact: usize,
 ) -> Result<IxSet<Facts>, AllocError>
@@ -58,7 +59,7 @@ fn needed_for(
 }
 
 // Puts the facts of the body in.
-fn add_body(set: &mut IxSet<Facts>, clause: &Clause)
+fn add_body(set: &mut IxSet<Facts>, clause: &Clause<usize>)
     requires { (f : ℕ) → InBody clause.now f → (f < length set.old) × (f < 2 ^ 32) }
     ensures count { length set.new ≡ length set.old }
     ensures members { (f : ℕ) → IsIn set.new f ↔ (IsIn set.old f ⊎ InBody clause.now f) }
@@ -81,7 +82,7 @@ fn add(set: &mut IxSet<Facts>, fact: Option<usize>)
 // The clauses found whose heads are in the set, in their order.
 fn steps_of(
     alloc: Global,
-    clauses: &[Clause],
+    clauses: &[Clause<usize>],
     closed: &Closed,
     needed: &IxSet<Facts>,
 ) -> Result<Vec<usize>, AllocError>

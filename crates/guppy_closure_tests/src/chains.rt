@@ -9,7 +9,7 @@ use std::process::Abort;
 const LENGTH: usize = 200_000;
 
 // Each fact but the first follows from the one before it and the one before that, if there is one.
-fn clause_of(fact: usize) -> Clause {
+fn clause_of(fact: usize) -> Clause<usize> {
     match fact.checked_sub(1) {
         Some(before) => clause(before.checked_sub(1), Some(before), fact),
         None => clause(None, None, 0),
@@ -24,7 +24,7 @@ fn number_of(fact: usize, forward: bool) -> usize
     if forward { fact } else { LENGTH - 1 - fact }
 }
 
-fn chain(rt: &impl Abort, alloc: Global, forward: bool) -> Vec<Clause> {
+fn chain(rt: &impl Abort, alloc: Global, forward: bool) -> Vec<Clause<usize>> {
     let mut clauses = Vec::new(alloc);
     for number in 0..LENGTH {
         let clause = clause_of(number_of(number, forward));

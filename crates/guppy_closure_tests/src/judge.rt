@@ -1,13 +1,14 @@
 //! A judge of a system of clauses, which knows nothing of how a closure is found. No contract of it cites a definition.
 ghost use Rattle.std.specs.Prelude.{◌≤◌};
 
+use crate::known::is_known;
 use guppy_closure::{Clause, Closed, are_within, closure, derivation};
 use guppy_search::IndexType;
 use std::alloc::Global;
 use std::process::Abort;
 
 /// The clause with this body and head.
-pub(crate) fn clause(first: Option<usize>, second: Option<usize>, head: usize) -> Clause {
+pub(crate) fn clause(first: Option<usize>, second: Option<usize>, head: usize) -> Clause<usize> {
     Clause {
         first,
         second,
@@ -15,7 +16,8 @@ pub(crate) fn clause(first: Option<usize>, second: Option<usize>, head: usize) -
     }
 }
 
-fn is_marked(marks: &[bool], fact: usize) -> bool {
+/// Whether the fact is marked.
+pub(crate) fn is_marked(marks: &[bool], fact: usize) -> bool {
     match marks.get(fact) {
         Some(mark) => *mark,
         None => false,
@@ -35,12 +37,12 @@ fn has(fact: Option<usize>, marks: &[bool]) -> bool {
     }
 }
 
-fn is_met(clause: &Clause, marks: &[bool]) -> bool {
+fn is_met(clause: &Clause<usize>, marks: &[bool]) -> bool {
     has(clause.first, marks) && has(clause.second, marks)
 }
 
 // Goes through the clauses as often as there are facts: each time at least one more holds, if any is left.
-fn marks_of(rt: &impl Abort, alloc: Global, clauses: &[Clause], count: usize) -> Vec<bool> {
+fn marks_of(rt: &impl Abort, alloc: Global, clauses: &[Clause<usize>], count: usize) -> Vec<bool> {
     let mut marks = vec![in alloc; false; count].expect(rt, "marks");
     for _ in 0..count {
         mark_heads(clauses, &mut marks);
@@ -48,7 +50,7 @@ fn marks_of(rt: &impl Abort, alloc: Global, clauses: &[Clause], count: usize) ->
     marks
 }
 
-fn mark_heads(clauses: &[Clause], marks: &mut [bool]) {
+fn mark_heads(clauses: &[Clause<usize>], marks: &mut [bool]) {
     for clause in clauses {
         if is_met(clause, marks) {
             mark(marks, clause.head);
@@ -66,7 +68,7 @@ fn one_if(fact: Option<usize>, marks: &[bool]) -> usize
 }
 
 // A clause with no body counts once, any other once for each fact of its body that holds.
-fn looks_of(clause: &Clause, marks: &[bool]) -> usize {
+fn looks_of(clause: &Clause<usize>, marks: &[bool]) -> usize {
     if clause.first.is_none() && clause.second.is_none() {
         return 1;
     }
@@ -74,7 +76,7 @@ fn looks_of(clause: &Clause, marks: &[bool]) -> usize {
 }
 
 // How many looks are left of so many, or none where there are too few.
-fn looks_left(clauses: &[Clause], marks: &[bool], looks: usize) -> Option<usize> {
+fn looks_left(clauses: &[Clause<usize>], marks: &[bool], looks: usize) -> Option<usize> {
     let mut left = looks;
     for clause in clauses {
         left = left.checked_sub(looks_of(clause, marks))?;
@@ -82,12 +84,12 @@ fn looks_left(clauses: &[Clause], marks: &[bool], looks: usize) -> Option<usize>
     Some(left)
 }
 
-fn needs(clause: &Clause, fact: usize) -> bool {
+fn needs(clause: &Clause<usize>, fact: usize) -> bool {
     clause.first == Some(fact) || clause.second == Some(fact)
 }
 
 // Whether a clause of one of these steps needs the fact.
-fn is_needed(clauses: &[Clause], steps: &[usize], fact: usize) -> bool {
+fn is_needed(clauses: &[Clause<usize>], steps: &[usize], fact: usize) -> bool {
     for number in steps {
         match clauses.get(*number) {
             Some(clause) if needs(clause, fact) => return true,
@@ -97,12 +99,12 @@ fn is_needed(clauses: &[Clause], steps: &[usize], fact: usize) -> bool {
     false
 }
 
-// Whether the steps derive the fact: each body is derived before, no head is twice, the fact is the last head, and each
-// other head is needed later.
-fn derives(
+/// Whether the steps derive the fact: each body is derived before, no head is twice, the fact is the last head, and each
+/// other head is needed later.
+pub(crate) fn derives(
     rt: &impl Abort,
     alloc: Global,
-    clauses: &[Clause],
+    clauses: &[Clause<usize>],
     count: usize,
     steps: &[usize],
     fact: usize,
@@ -133,8 +135,14 @@ fn are_marked(closed: &Closed, marks: &[bool]) -> bool {
     true
 }
 
-/// Whether exactly what holds is closed, with the looks that the clauses ask for and a derivation of each fact.
-pub(crate) fn is_right(rt: &impl Abort, alloc: Global, clauses: &[Clause], count: usize) -> bool {
+/// Whether exactly what holds is closed, with the looks that the clauses ask for and a derivation of each fact, and is
+/// known of names.
+pub(crate) fn is_right(
+    rt: &impl Abort,
+    alloc: Global,
+    clauses: &[Clause<usize>],
+    count: usize,
+) -> bool {
     if count >= 1000 || clauses.len() >= 1000 || !are_within(clauses, count) {
         return false;
     }
@@ -154,5 +162,5 @@ pub(crate) fn is_right(rt: &impl Abort, alloc: Global, clauses: &[Clause], count
             }
         }
     }
-    true
+    is_known(rt, alloc, clauses, &marks)
 }

@@ -19,13 +19,13 @@ fn fact_before(number: usize) -> Option<usize> {
 }
 
 // The clause of this number. Numbers below that of clauses give different ones.
-fn clause_of(number: usize) -> Clause {
+fn clause_of(number: usize) -> Clause<usize> {
     let first = fact_before(number % WAYS);
     let second = fact_before(number / WAYS % WAYS);
     clause(first, second, number / WAYS / WAYS % FACTS)
 }
 
-fn judge(rt: &impl Abort, alloc: Global, clauses: &[Clause], system: usize) {
+fn judge(rt: &impl Abort, alloc: Global, clauses: &[Clause<usize>], system: usize) {
     assert!(rt;
         is_right(rt, alloc, clauses, FACTS),
         "system {system}, of {clauses:?}"
@@ -60,7 +60,7 @@ fn mixed(seed: u64) -> u64 {
 }
 
 // A clause over so many facts: of sixteen, one has no body, and five have one fact in it.
-fn drawn_clause(drawn: u64, count: usize) -> Clause
+fn drawn_clause(drawn: u64, count: usize) -> Clause<usize>
     requires { 0 < count }
 {
     let first = (drawn >> 8) as usize % count;
@@ -80,7 +80,7 @@ fn drawn_clauses(
     seed: u64,
     clauses: u64,
     count: usize,
-) -> Vec<Clause>
+) -> Vec<Clause<usize>>
     requires { 0 < count }
 {
     let mut drawn = Vec::new(alloc);

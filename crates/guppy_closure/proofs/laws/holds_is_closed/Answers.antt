@@ -3,4 +3,4 @@ use Rattle.guppy_closure.specs.Clauses.{by}
 use Rattle.guppy_closure.proofs.laws.holds_is_closed.Goals as goal
 
 pub returns : goal.returns
-returns c = λ clauses n d found body. by n d found refl body
+returns g c = λ clauses n d found body. by n d found refl body
