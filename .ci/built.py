@@ -351,7 +351,7 @@ def lines_of(question):
 
 def question_of(metadata, words):
     """What the arguments ask of the workspace."""
-    packages, names, platforms = packages_of(metadata), [], []
+    packages, names, hosts, platforms = packages_of(metadata), [], [], []
     asked = {"features": [], "is_all": False, "has_default": True, "has_tests": False, "resolver": 2}
     words = list(words)
     while words:
@@ -368,19 +368,26 @@ def question_of(metadata, words):
             asked["has_tests"] = True
         elif word == "--resolver":
             asked["resolver"] = int(words.pop(0))
-        elif word == "--platform":
-            platforms.append(Platform(words.pop(0), words.pop(0)))
-        elif word == "--host":
-            host = Platform(words.pop(0), words.pop(0))
+        elif word in ("--host", "--platform"):
+            triple, _, cfgs = [words.pop(0) for _ in range(3)]
+            (hosts if word == "--host" else platforms).append(Platform(triple, cfgs))
         else:
             raise ValueError(word)
     members = [packages[it] for it in metadata["workspace_members"]]
     chosen, root = [it for it in members if it.name in names], packages.get(metadata["resolve"]["root"])
-    return Question(packages, chosen, root, **asked, host=host, platforms=platforms or [host])
+    return Question(packages, chosen, root, **asked, host=hosts[0], platforms=platforms or hosts)
 
 
 def answer(metadata, words):
     return sorted(lines_of(question_of(metadata, words)))
+
+
+def lacks(metadata, words):
+    """Whether an optional dependency is switched on that the metadata don't resolve."""
+    for kind, package, *rest in holding(feature_clauses(question_of(metadata, words))):
+        if kind == "switched" and rest[1] not in {it.name for it in package.dependencies if it.is_optional}:
+            return True
+    return False
 
 
 if __name__ == "__main__":

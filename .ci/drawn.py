@@ -1,10 +1,9 @@
-"""Draws workspaces in which packages ask each other for features, and questions on them."""
+"""Draws workspaces in which packages ask each other for features, and questions on them; and reads those of a text."""
 
 import json
 import os
-import subprocess
 
-from workspaces import write, write_package
+from workspaces import HERE, write, write_package
 
 # A dependency's platforms, most of the time none.
 PLATFORMS = [""] * 5 + [
@@ -18,7 +17,6 @@ LINUX, WINDOWS, MAC, WASM = (
 )
 # What is built for; nothing is what cargo builds for if it isn't told.
 BUILT_FOR = [[], [], [LINUX], [WINDOWS], [MAC], [WASM], [LINUX, WINDOWS], [WASM, MAC]]
-CARGO_FLAGS = ["--offline", "-Z", "unstable-options"]
 
 
 class Asked:
@@ -188,3 +186,31 @@ class Workspace:
             known += [f"{asked.key}/{of}" for it in chosen for asked in it.asks for of in asked.to.all_features()]
         given = drawn.sample(known, min(len(known), drawn.choice([0, 0, 1, 2, 3])))
         return words + (["--features", ",".join(sorted(set(given)))] if given else []), drawn.choice(BUILT_FOR)
+
+
+class Written:
+    """A workspace of the text."""
+
+    def __init__(self, text):
+        head, *packages = text.split("\n== ")
+        (self.resolver, _, self.rule), *asked = [it.partition(" ") for it in head.splitlines()]
+        self.packages = [it.partition("\n") for it in packages]
+        self.questions = []
+        for _, _, question in asked:
+            triples, _, words = question.partition(":")
+            self.questions.append((words.split(), triples.split()))
+
+    def write(self, room):
+        folders = [head.split(" ")[0] for head, _, _ in self.packages]
+        members = [it for it in folders if it != "." and not it.startswith("outside/")]
+        table = f'[workspace]\nresolver = "{self.resolver}"\nmembers = {members}\nexclude = ["outside"]\n'
+        for head, _, manifest in self.packages:
+            folder, name, *files = head.split(" ")
+            write_package(room, folder, name, "0.1.0", files, manifest + "\n" + (table if folder == "." else ""))
+        if "." not in folders:
+            write(room, "Cargo.toml", table)
+
+
+def written():
+    with open(os.path.join(HERE, "features.txt"), encoding="utf-8") as text:
+        return [Written(it) for it in text.read().split("\n=== ")[1:]]

@@ -2,30 +2,34 @@
 """Judges by cargo itself what a program says is built, and with which features.
 
 Workspaces are drawn, with questions on each; cargo's graph of units tells what would be built, and nothing is compiled.
-The program reads what `cargo metadata --all-features` prints, and takes what is asked as arguments (QUESTIONS below
-says how). Its first argument here is the program, its second one how many workspaces are drawn; `--own` in the
-program's place tries the judge: `built.py` has the definition in Python, and wrong definitions, one a rule, are planted
-in it, of which each must be told. `--keep SEED FOLDER` writes a drawn workspace to a folder, and prints its questions.
-The last line is 'N passed, M failed'.
+The program reads what `cargo metadata --all-features` prints, takes what is asked as arguments (`words_for`), and prints
+`built NAME VERSION SIDE PLATFORM` and `feature NAME VERSION SIDE FEATURE`. Without arguments this judges the program as
+built; else the first names one, and further ones from which to which number workspaces are drawn. `--keep NUMBER
+FOLDER` writes a drawn workspace to a folder, and prints its questions.
+
+`--own` tries the judge: `built.py` has the definition in Python, and wrong definitions, one a rule, are planted in it, of
+which each must be told. The last line is 'N passed, M failed'.
 """
 
 import json
 import os
 import random
+import re
 import subprocess
 import sys
 import tempfile
 import time
+import types
 from collections import Counter
 from concurrent.futures import ThreadPoolExecutor
 
 import built
-from drawn import BUILT_FOR, CARGO_FLAGS, Workspace
+from drawn import BUILT_FOR, Workspace, written
 
 HERE = os.path.dirname(os.path.realpath(__file__))
 PROGRAM = os.path.join(os.path.dirname(HERE), "crates", "guppy_features_tests", "out", "guppy_features_tests")
-# So many workspaces are drawn, with so many questions each.
-DRAWN, ASKED = 200, 5
+# So many workspaces are drawn, so many to try the judge itself, with so many questions each.
+DRAWN, OWN, ASKED = 200, 40, 5
 SECONDS = 60
 TARGET, HOST = built.TARGET, built.HOST
 
@@ -62,8 +66,9 @@ def host_of_rustc():
 
 
 def cfgs_of(triple):
+    """What rustc says of the platform, in one line."""
     command = ["rustc", "--print", "cfg", "--target", triple]
-    return subprocess.run(command, capture_output=True, text=True, check=True).stdout
+    return " ".join(subprocess.run(command, capture_output=True, text=True, check=True).stdout.splitlines())
 
 
 # ---------------------------------------------------------------------------------------------------------------------
@@ -130,6 +135,10 @@ class Asked:
         return f"{self.place}: cargo {' '.join([*self.words, *targets])} (resolver {self.resolver})"
 
 
+def words_of(asked, world):
+    return words_for(asked.words, asked.triples, asked.metadata, asked.resolver, world)
+
+
 def words_for(words, triples, metadata, resolver, world):
     """The program's arguments for what cargo is asked by these."""
     given = list(words[1:])
@@ -137,8 +146,8 @@ def words_for(words, triples, metadata, resolver, world):
         among = "workspace_members" if "--workspace" in given else "workspace_default_members"
         names = {it["id"]: it["name"] for it in metadata["packages"]}
         given = [word for it in metadata[among] for word in ("-p", names[it])] + [it for it in given if it != "--workspace"]
-    given += ["--tests"] * (words[0] == "test") + ["--resolver", str(resolver), "--host", world.host, world.cfgs[world.host]]
-    return given + [word for it in triples for word in ("--platform", it, world.cfgs[it])]
+    given += ["--tests"] * (words[0] == "test") + ["--resolver", str(resolver), "--host", world.host, "--cfgs", world.cfgs[world.host]]
+    return given + [word for it in triples for word in ("--platform", it, "--cfgs", world.cfgs[it])]
 
 
 class World:
@@ -160,12 +169,11 @@ TWO_NAMES = "a package is asked for under two names"
 LIMITS = [NAMES_DEV, NO_LIBRARY, NOT_RESOLVED, TWO_NAMES]
 
 
-def limit_of(metadata, words, cargo):
-    """The limit that what is asked meets, or none."""
+def limit_of(metadata, words):
+    """The limit that what is asked by these arguments meets, or none."""
     nodes = metadata["resolve"]["nodes"]
     if any(set(it["dependencies"]) - {to["pkg"] for to in it["deps"]} for it in nodes):
         return NO_LIBRARY
-    asked = words[words.index("--features") + 1] if "--features" in words else ""
     for package in metadata["packages"]:
         named = {}
         for it in package["dependencies"]:
@@ -174,12 +182,10 @@ def limit_of(metadata, words, cargo):
             return TWO_NAMES
         dev = {it["rename"] or it["name"] for it in package["dependencies"] if it["kind"] == "dev"}
         dev -= {it["rename"] or it["name"] for it in package["dependencies"] if it["kind"] != "dev"}
-        values = [it for texts in package["features"].values() for it in texts] + asked.split(",")
+        values = [it for texts in package["features"].values() for it in texts]
         if any(it.partition("/")[0].removesuffix("?") in dev and "/" in it for it in values):
             return NAMES_DEV
-    if "/" in asked and cargo.metadata("--features", asked)["resolve"]["nodes"] != nodes:
-        return NOT_RESOLVED
-    return None
+    return NOT_RESOLVED if built.lacks(metadata, words) else None
 
 
 def asked_in(place, folder, resolver, questions, world):
@@ -192,7 +198,8 @@ def asked_in(place, folder, resolver, questions, world):
         units = cargo.units(words, triples)
         if units is not None:
             answer = built_by_cargo(units, metadata, world.host)
-            found.append(Asked(place, words, triples, metadata, resolver, answer, limit_of(metadata, words, cargo)))
+            limit = limit_of(metadata, words_for(words, triples, metadata, resolver, world))
+            found.append(Asked(place, words, triples, metadata, resolver, answer, limit))
     return found
 
 
@@ -209,6 +216,12 @@ def ask_drawn(seed, world):
     return asked_in(f"workspace {seed}", folder, *drawn_in(folder, seed), world)
 
 
+def ask_written(workspace, world):
+    folder = os.path.join(world.room, f"written {workspace.rule}")
+    workspace.write(folder)
+    return asked_in(workspace.rule, folder, int(workspace.resolver), workspace.questions, world)
+
+
 # ---------------------------------------------------------------------------------------------------------------------
 # Judging
 
@@ -217,56 +230,97 @@ def told_by_program(program):
     """What a program tells."""
 
     def tell(asked, world):
-        words = words_for(asked.words, asked.triples, asked.metadata, asked.resolver, world)
-        ran = subprocess.run([program, *words], input=json.dumps(asked.metadata), capture_output=True, text=True, timeout=SECONDS, check=False)
+        ways = {"input": json.dumps(asked.metadata), "capture_output": True, "text": True, "timeout": SECONDS, "check": False}
+        ran = subprocess.run([program, *words_of(asked, world)], **ways)
         return ran.stdout.splitlines() if ran.returncode == 0 else sys.exit(f"features: {asked}: {ran.stderr}")
 
     return tell
 
 
 def told_by(definition):
-    """What the definition in Python tells."""
-
-    def tell(asked, world):
-        words = words_for(asked.words, asked.triples, asked.metadata, asked.resolver, world)
-        return definition.answer(asked.metadata, words)
-
-    return tell
+    """What a definition in Python tells."""
+    return lambda asked, world: definition.answer(asked.metadata, words_of(asked, world))
 
 
-def judge(tell, world, seeds):
-    counts, failures = Counter(), []
+def differs(tell, asked, world):
+    return difference(asked.cargo, built_by_lines(tell(asked, world), asked.resolver))
+
+
+def ask_all(world, seeds):
+    """All questions on the workspaces of the text and on those that are drawn from these seeds."""
     with ThreadPoolExecutor(4) as workers:
+        for asked in workers.map(lambda it: ask_written(it, world), written()):
+            yield from asked
         for asked in workers.map(lambda it: ask_drawn(it, world), seeds):
-            for it in asked:
-                differs = difference(it.cargo, built_by_lines(tell(it, world), it.resolver))
-                counts[it.limit, differs is None] += 1
-                if differs and not it.limit:
-                    failures.append(f"features: {it}: FAILED: {differs}")
-    return counts, failures
+            yield from asked
+
+
+def judge(tell, world, questions):
+    """How many questions of each limit it tells as cargo does and not, and what is told wrongly beyond these limits."""
+    counts, failures = Counter(), []
+    for asked in questions:
+        wrong = differs(tell, asked, world)
+        counts[asked.limit, wrong is None] += 1
+        if wrong and not asked.limit:
+            failures.append(f"features: {asked}: FAILED: {wrong}")
+    for it in failures[:20]:
+        print(it)
+    for limit in [None, *LIMITS]:
+        print(f"features: {limit or 'no limit'}: {counts[limit, True]} as cargo says, {counts[limit, False]} not")
+    return counts[None, True], len(failures)
+
+
+def wrong_definitions():
+    """Each rule that is planted wrong, with the definition."""
+    with open(built.__file__, encoding="utf-8") as file:
+        source = file.read()
+    with open(os.path.join(HERE, "built.edit"), encoding="utf-8") as file:
+        bugs = re.findall(r"^bug: (.*)\nold: (.*)\nnew: (.*)$", file.read(), re.M)
+    for name, old, new in bugs:
+        module = types.ModuleType("wrong")
+        if source.count(old) == 1:
+            exec(compile(source.replace(old, new), name, "exec"), module.__dict__)
+        yield name, module if source.count(old) == 1 else None
+
+
+def try_own(world):
+    """Tries the judge: the definition tells what cargo does, and each wrong one is told."""
+    questions = list(ask_all(world, range(OWN)))
+    passed, failed = judge(told_by(built), world, questions)
+    questions = [it for it in questions if it.limit is None]
+    for name, module in wrong_definitions():
+        if module and any(differs(told_by(module), it, world) for it in questions):
+            passed += 1
+        else:
+            failed += 1
+            print(f"features: {name}: FAILED: {'it is not told' if module else 'its text is not there once'}")
+    return passed, failed
+
+
+def keep(world, seed, folder):
+    """Writes a drawn workspace to the folder, and prints its questions."""
+    for it in asked_in(f"workspace {seed}", folder, *drawn_in(folder, seed), world):
+        print(it)
+    return 0, 0
 
 
 def main(words):
+    program, *numbers = words or [PROGRAM]
+    begun = time.time()
     with tempfile.TemporaryDirectory() as room:
         world = World(room)
-        if words[:1] == ["--keep"]:
-            for it in ask_kept(world, int(words[1]), words[2]):
-                print(it)
-            return 0
-        tell = told_by(built) if words[:1] == ["--own"] else told_by_program(words[0] if words else PROGRAM)
-        begun, seeds = time.time(), range(*[int(it) for it in words[1:3]] or [DRAWN])
-        counts, failures = judge(tell, world, seeds)
-        for it in failures[:20]:
-            print(it)
-        for limit in [None, *LIMITS]:
-            print(f"features: {limit or 'no limit'}: {counts[limit, True]} as cargo says, {counts[limit, False]} not")
-        print(f"features: {time.time() - begun:.0f} seconds")
-    print(f"{counts[None, True]} passed, {len(failures)} failed")
-    return bool(failures)
-
-
-def ask_kept(world, seed, folder):
-    return asked_in(f"workspace {seed}", folder, *drawn_in(folder, seed), world)
+        if program == "--keep":
+            passed, failed = keep(world, int(numbers[0]), numbers[1])
+        elif program == "--own":
+            passed, failed = try_own(world)
+        elif os.access(program, os.X_OK):
+            seeds = range(*(int(it) for it in numbers)) if numbers else range(DRAWN)
+            passed, failed = judge(told_by_program(program), world, ask_all(world, seeds))
+        else:
+            return f"features: {program} is not there"
+    print(f"features: {time.time() - begun:.0f} seconds")
+    print(f"{passed} passed, {failed} failed")
+    return failed > 0
 
 
 if __name__ == "__main__":
