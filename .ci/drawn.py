@@ -2,6 +2,7 @@
 
 import json
 import os
+import re
 
 from workspaces import HERE, write, write_package
 
@@ -48,7 +49,7 @@ class Package:
         inside = "." if rooted and number == 0 else f"p{number}"
         self.folder = inside if self.is_member else f"outside/p{number}"
         self.is_macro = drawn.random() < 0.2
-        self.has_library = self.is_macro or drawn.random() < 0.97
+        self.has_library = self.is_macro or drawn.random() < 0.93
         self.has_binary = not self.has_library or (not self.is_macro and drawn.random() < 0.25)
         self.has_script = drawn.random() < 0.45
         self.has_test, self.has_example = drawn.random() < 0.3, drawn.random() < 0.2
@@ -87,7 +88,7 @@ def draw_asks(drawn, package, others):
         is_above = other.number > package.number
         if drawn.random() > (2.2 if is_above else 0.5) / size or (other is package and drawn.random() < 0.7):
             continue
-        if not other.has_library and drawn.random() < 0.8:
+        if not other.has_library and drawn.random() < 0.7:
             continue
         key = other.key_of(drawn)
         for section in drawn.choice(SECTIONS) if is_above else ["dev-"]:
@@ -186,6 +187,71 @@ class Workspace:
             known += [f"{asked.key}/{of}" for it in chosen for asked in it.asks for of in asked.to.all_features()]
         given = drawn.sample(known, min(len(known), drawn.choice([0, 0, 1, 2, 3])))
         return words + (["--features", ",".join(sorted(set(given)))] if given else []), drawn.choice(BUILT_FOR)
+
+
+# Debian's crates that drawn members ask for, those that are installed.
+REGISTRY = "/usr/share/cargo/registry"
+CRATES = """ahash camino either env_logger hashbrown indexmap libc log memchr once_cell proc-macro2 quote rand rayon regex
+semver serde serde_derive serde_json smallvec syn""".split()
+SOURCE = f'[source.crates-io]\nreplace-with = "debian"\n[source.debian]\ndirectory = "{REGISTRY}"\n'
+
+
+def installed():
+    """The names and versions of these crates that are there."""
+    found = [re.fullmatch(r"(.+?)-(\d+\.\d+\.\d+.*)", it) for it in (os.listdir(REGISTRY) if os.path.isdir(REGISTRY) else [])]
+    return sorted(it.groups() for it in found if it and it[1] in CRATES)
+
+
+def write_alone(room, name, version):
+    """A package that needs this crate alone."""
+    write(room, ".cargo/config.toml", SOURCE)
+    write_package(room, ".", "alone", "0.1.0", ["src/lib.rs"], f'[dependencies]\n{name} = "={version}"\n[workspace]\n')
+
+
+def crate_table(drawn, crate, features):
+    """The table that asks for the crate, and the values of a feature that name it."""
+    section, platform = drawn.choice(["", "", "build-", "dev-"]), drawn.choice(PLATFORMS)
+    is_optional = section != "dev-" and drawn.random() < 0.4
+    asked = drawn.sample(features, min(len(features), drawn.choice([0, 0, 1, 2])))
+    lines = ['version = "*"', f"features = {json.dumps(asked)}"]
+    lines += ["optional = true"] * is_optional + ["default-features = false"] * (drawn.random() < 0.4)
+    mark = drawn.choice(["", "?"]) if is_optional else ""
+    values = [f"{crate}{mark}/{it}" for it in drawn.sample(features, min(2, len(features)))] + [f"dep:{crate}"] * is_optional
+    return "\n".join([f"[{platform}{section}dependencies.{crate}]", *lines, ""]), values if section != "dev-" else []
+
+
+class OverCrates:
+    """A drawn workspace whose members ask for crates, of which the features are known."""
+
+    def __init__(self, drawn, known):
+        self.resolver, self.names = drawn.choice([1, 2, 3]), [f"m{it}" for it in range(3)]
+        self.manifests = {}
+        for number, name in enumerate(self.names):
+            tables = [
+                f'[{drawn.choice(["", "build-", "dev-"])}dependencies.{it}]\npath = "../{it}"\n'
+                for it in self.names[:number] if drawn.random() < 0.5
+            ]
+            values = []
+            for crate in drawn.sample(sorted(known), min(len(known), drawn.randint(1, 4))):
+                table, named = crate_table(drawn, crate, known[crate])
+                tables.append(table)
+                values += named
+            more = drawn.choice([[], ["f"]])
+            self.manifests[name] = f"[features]\nf = {json.dumps(values)}\ndefault = {json.dumps(more)}\n" + "".join(tables)
+
+    def write(self, room):
+        for name, manifest in self.manifests.items():
+            write_package(room, name, name, "0.1.0", ["src/lib.rs", "build.rs"], manifest)
+        write(room, "Cargo.toml", f'[workspace]\nmembers = {self.names}\nresolver = "{self.resolver}"\n')
+        write(room, ".cargo/config.toml", SOURCE)
+
+    def question(self, drawn):
+        words = [drawn.choice(["build", "test"])]
+        chosen = drawn.sample(self.names, drawn.randint(1, 3))
+        words += [word for it in chosen for word in ("-p", it)]
+        words += drawn.choice([[], [], ["--no-default-features"], ["--all-features"]])
+        words += ["--features", f"{chosen[0]}/f"] if drawn.random() < 0.4 else []
+        return words, drawn.choice(BUILT_FOR)
 
 
 class Written:

@@ -24,13 +24,17 @@ from collections import Counter
 from concurrent.futures import ThreadPoolExecutor
 
 import built
-from drawn import BUILT_FOR, Workspace, written
+from drawn import BUILT_FOR, OverCrates, Workspace, installed, write_alone, written
 
 HERE = os.path.dirname(os.path.realpath(__file__))
 PROGRAM = os.path.join(os.path.dirname(HERE), "crates", "guppy_features_tests", "out", "guppy_features_tests")
 # So many workspaces are drawn, so many to try the judge itself, with so many questions each.
-DRAWN, OWN, ASKED = 200, 40, 5
-SECONDS = 60
+DRAWN, OWN, ASKED = 200, 40, 6
+# So many are drawn over crates of Debian's, where some are installed.
+OVER_CRATES = 20
+SECONDS = 120
+# The program doesn't tell what is built.
+HAS_BUILDS = False
 TARGET, HOST = built.TARGET, built.HOST
 
 
@@ -109,12 +113,30 @@ def built_by_lines(lines, resolver):
     }
 
 
+def features_by_cargo(built_here, resolver):
+    """The features of what is built, on each side."""
+    return {(name, version, side if resolver > 1 else TARGET, "any platform", on) for name, version, side, _, on in built_here}
+
+
+def features_by_lines(lines, those):
+    """The features of those packages and sides, if the program says that they take part."""
+    features = {}
+    for line in lines:
+        kind, name, version, side, *rest = line.split(" ")
+        if kind in ("part", "feature"):
+            features.setdefault((name, version, side), []).append((kind, *rest))
+    return {
+        (*it[:4], tuple(sorted(rest[0] for _, *rest in features[it[:3]] if rest)))
+        for it in those if ("part",) in features.get(it[:3], ())
+    }
+
+
 def difference(cargo, told):
     """A text that says what differs first, or none."""
     for name, version, side, triple, features in sorted(cargo ^ told):
         here = (name, version, side, triple)
         ways = [[",".join(it[4]) or "none" for it in those if it[:4] == here] for those in (cargo, told)]
-        wanted, got = (f"features {' and '.join(it)}" if it else "not built" for it in ways)
+        wanted, got = (f"features {' and '.join(it)}" if it else "none of it" for it in ways)
         return f"{name} {version} on side {side} for {triple}: cargo: {wanted}; told: {got}"
     return None
 
@@ -147,7 +169,7 @@ def words_for(words, triples, metadata, resolver, world):
         names = {it["id"]: it["name"] for it in metadata["packages"]}
         given = [word for it in metadata[among] for word in ("-p", names[it])] + [it for it in given if it != "--workspace"]
     given += ["--tests"] * (words[0] == "test") + ["--resolver", str(resolver), "--host", world.host, "--cfgs", world.cfgs[world.host]]
-    return given + [word for it in triples for word in ("--platform", it, "--cfgs", world.cfgs[it])]
+    return given + [word for it in triples or [world.host] for word in ("--platform", it, "--cfgs", world.cfgs[it])]
 
 
 class World:
@@ -171,10 +193,10 @@ LIMITS = [NAMES_DEV, NO_LIBRARY, NOT_RESOLVED, TWO_NAMES]
 
 def limit_of(metadata, words):
     """The limit that what is asked by these arguments meets, or none."""
-    nodes = metadata["resolve"]["nodes"]
-    if any(set(it["dependencies"]) - {to["pkg"] for to in it["deps"]} for it in nodes):
-        return NO_LIBRARY
+    without = {it["name"] for it in metadata["packages"] if not any(map(built.is_library, it["targets"]))}
     for package in metadata["packages"]:
+        if any(it["name"] in without for it in package["dependencies"]):
+            return NO_LIBRARY
         named = {}
         for it in package["dependencies"]:
             named.setdefault(it["name"] + it.get("path", ""), set()).add(it["rename"] or it["name"])
@@ -222,6 +244,28 @@ def ask_written(workspace, world):
     return asked_in(workspace.rule, folder, int(workspace.resolver), workspace.questions, world)
 
 
+def crates_known(world):
+    """The features of each of Debian's crates that cargo can resolve here."""
+    known = {}
+    for name, version in installed():
+        folder = os.path.join(world.room, f"alone {name}")
+        write_alone(folder, name, version)
+        metadata = Cargo(world.room, folder).metadata()
+        known |= {it["name"]: sorted(it["features"]) for it in (metadata or {"packages": []})["packages"] if it["name"] == name}
+    return known
+
+
+def ask_over_crates(seed, known, world):
+    """Questions on a workspace over Debian's crates, none where cargo can't resolve it: where a crate isn't there."""
+    drawn, folder = random.Random(seed), os.path.join(world.room, f"crates {seed}")
+    workspace = OverCrates(drawn, known)
+    workspace.write(folder)
+    if Cargo(world.room, folder).metadata() is None:
+        return []
+    questions = [workspace.question(drawn) for _ in range(ASKED)]
+    return asked_in(f"over crates {seed}", folder, workspace.resolver, questions, world)
+
+
 # ---------------------------------------------------------------------------------------------------------------------
 # Judging
 
@@ -242,24 +286,34 @@ def told_by(definition):
     return lambda asked, world: definition.answer(asked.metadata, words_of(asked, world))
 
 
-def differs(tell, asked, world):
-    return difference(asked.cargo, built_by_lines(tell(asked, world), asked.resolver))
+def differs(tell, asked, world, has_builds=True):
+    """What is told wrongly: what is built or, of a program that doesn't tell this, the features of what cargo builds."""
+    lines = tell(asked, world)
+    if has_builds:
+        return difference(asked.cargo, built_by_lines(lines, asked.resolver))
+    wanted = features_by_cargo(asked.cargo, asked.resolver)
+    return difference(wanted, features_by_lines(lines, wanted))
 
 
-def ask_all(world, seeds):
-    """All questions on the workspaces of the text and on those that are drawn from these seeds."""
+def ask_all(world, seeds, over_crates=0):
+    """All questions on the workspaces of the text, on those that are drawn from these seeds, and on some over crates."""
     with ThreadPoolExecutor(4) as workers:
         for asked in workers.map(lambda it: ask_written(it, world), written()):
             yield from asked
         for asked in workers.map(lambda it: ask_drawn(it, world), seeds):
             yield from asked
+        known = crates_known(world) if over_crates else {}
+        if over_crates and not known:
+            print("features: without Debian's crates: none that can be asked for is installed")
+        for asked in workers.map(lambda it: ask_over_crates(it, known, world), range(over_crates if known else 0)):
+            yield from asked
 
 
-def judge(tell, world, questions):
+def judge(tell, world, questions, has_builds=True):
     """How many questions of each limit it tells as cargo does and not, and what is told wrongly beyond these limits."""
     counts, failures = Counter(), []
     for asked in questions:
-        wrong = differs(tell, asked, world)
+        wrong = differs(tell, asked, world, has_builds)
         counts[asked.limit, wrong is None] += 1
         if wrong and not asked.limit:
             failures.append(f"features: {asked}: FAILED: {wrong}")
@@ -315,7 +369,7 @@ def main(words):
             passed, failed = try_own(world)
         elif os.access(program, os.X_OK):
             seeds = range(*(int(it) for it in numbers)) if numbers else range(DRAWN)
-            passed, failed = judge(told_by_program(program), world, ask_all(world, seeds))
+            passed, failed = judge(told_by_program(program), world, ask_all(world, seeds, OVER_CRATES), HAS_BUILDS)
         else:
             return f"features: {program} is not there"
     print(f"features: {time.time() - begun:.0f} seconds")
