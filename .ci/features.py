@@ -193,9 +193,8 @@ LIMITS = [NAMES_DEV, NO_LIBRARY, NOT_RESOLVED, TWO_NAMES]
 
 def limit_of(metadata, words):
     """The limit that what is asked by these arguments meets, or none."""
-    without = {it["name"] for it in metadata["packages"] if not any(map(built.is_library, it["targets"]))}
     for package in metadata["packages"]:
-        if any(it["name"] in without for it in package["dependencies"]):
+        if any("path" in it and not os.path.exists(os.path.join(it["path"], "src/lib.rs")) for it in package["dependencies"]):
             return NO_LIBRARY
         named = {}
         for it in package["dependencies"]:
