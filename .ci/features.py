@@ -3,12 +3,12 @@
 
 Workspaces are drawn, with questions on each; cargo's graph of units tells what would be built, and nothing is compiled.
 The program reads what `cargo metadata --all-features` prints, takes what is asked as arguments (`words_for`), and prints
-`built NAME VERSION SIDE PLATFORM` and `feature NAME VERSION SIDE FEATURE`. Without arguments this judges the program as
-built; else the first names one, and further ones from which to which number workspaces are drawn. `--keep NUMBER
-FOLDER` writes a drawn workspace to a folder, and prints its questions.
+`part NAME VERSION SIDE`, `feature NAME VERSION SIDE FEATURE` and, where it tells what is built, `built NAME VERSION SIDE
+PLATFORM`. Without arguments this judges the program as built; else the first names one, and further ones from which to
+which number workspaces are drawn. `--keep NUMBER FOLDER` writes a drawn workspace to a folder, and prints its questions.
 
-`--own` tries the judge: `built.py` has the definition in Python, and wrong definitions, one a rule, are planted in it, of
-which each must be told. The last line is 'N passed, M failed'.
+`--own` in the program's place tries the judge: `built.py` has the definition in Python, and wrong definitions, one a
+rule, are planted in it, of which each must be told. The last line is 'N passed, M failed'.
 """
 
 import json
@@ -81,7 +81,8 @@ def cfgs_of(triple):
 
 def built_by_cargo(units, metadata, host):
     """What the units say is built. They don't say on which side: it is followed from the roots. What builds a script is
-    no part of its package, and it and procedural macros lead to the host's side."""
+    no part of its package, and it and procedural macros lead to the host's side. A package that the metadata lack has
+    its ID for a name."""
     called = {it["id"]: (it["name"], it["version"]) for it in metadata["packages"]}
     all_units, seen, found = units["units"], set(), set()
     waiting = [(it, TARGET) for it in units["roots"]]
@@ -94,7 +95,8 @@ def built_by_cargo(units, metadata, host):
             continue
         seen.add((at, side))
         if not is_script:
-            found.add((*called[unit["pkg_id"]], side, unit["platform"] or host, tuple(sorted(unit["features"]))))
+            name = called.get(unit["pkg_id"], (unit["pkg_id"], ""))
+            found.add((*name, side, unit["platform"] or host, tuple(sorted(unit["features"]))))
         waiting += [(it["index"], side) for it in unit["dependencies"]]
     return found
 
@@ -336,9 +338,9 @@ def wrong_definitions():
         yield name, module if source.count(old) == 1 else None
 
 
-def try_own(world):
+def try_own(world, seeds):
     """Tries the judge: the definition tells what cargo does, and each wrong one is told."""
-    questions = list(ask_all(world, range(OWN)))
+    questions = list(ask_all(world, seeds, OVER_CRATES if len(seeds) > OWN else 0))
     passed, failed = judge(told_by(built), world, questions)
     questions = [it for it in questions if it.limit is None]
     for name, module in wrong_definitions():
@@ -365,9 +367,9 @@ def main(words):
         if program == "--keep":
             passed, failed = keep(world, int(numbers[0]), numbers[1])
         elif program == "--own":
-            passed, failed = try_own(world)
+            passed, failed = try_own(world, range(*map(int, numbers)) if numbers else range(OWN))
         elif os.access(program, os.X_OK):
-            seeds = range(*(int(it) for it in numbers)) if numbers else range(DRAWN)
+            seeds = range(*map(int, numbers)) if numbers else range(DRAWN)
             passed, failed = judge(told_by_program(program), world, ask_all(world, seeds, OVER_CRATES), HAS_BUILDS)
         else:
             return f"features: {program} is not there"
