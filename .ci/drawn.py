@@ -160,14 +160,16 @@ class Workspace:
         self.default = drawn.sample(self.members, drawn.randint(1, len(self.members))) if drawn.random() < 0.3 else []
 
     def table(self):
-        told = {"members": [it.folder for it in self.members if it.folder != "."], "exclude": ["outside"], "resolver": str(self.resolver)}
+        folders = [it.folder for it in self.members if it.folder != "."]
+        told = {"members": folders, "exclude": ["outside"], "resolver": str(self.resolver)}
         if self.default:
             told["default-members"] = [it.folder for it in self.default]
         return "[workspace]\n" + "".join(f"{key} = {json.dumps(value)}\n" for key, value in told.items())
 
     def write(self, room):
         for it in self.packages:
-            write_package(room, it.folder, it.name, it.version, it.files(), it.manifest() + (self.table() if it.folder == "." else ""))
+            manifest = it.manifest() + (self.table() if it.folder == "." else "")
+            write_package(room, it.folder, it.name, it.version, it.files(), manifest)
         if not self.is_rooted:
             write(room, "Cargo.toml", self.table())
 

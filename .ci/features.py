@@ -170,7 +170,8 @@ def words_for(words, triples, metadata, resolver, world):
         among = "workspace_members" if "--workspace" in given else "workspace_default_members"
         names = {it["id"]: it["name"] for it in metadata["packages"]}
         given = [word for it in metadata[among] for word in ("-p", names[it])] + [it for it in given if it != "--workspace"]
-    given += ["--tests"] * (words[0] == "test") + ["--resolver", str(resolver), "--host", world.host, "--cfgs", world.cfgs[world.host]]
+    given += ["--tests"] * (words[0] == "test") + ["--resolver", str(resolver)]
+    given += ["--host", world.host, "--cfgs", world.cfgs[world.host]]
     return given + [word for it in triples or [world.host] for word in ("--platform", it, "--cfgs", world.cfgs[it])]
 
 
