@@ -3,8 +3,9 @@
 changed, and they are built again: the answer for the paths that changed must tell each member of which cargo built a
 test anew.
 
-What is told beyond these is counted, by what was changed. Needs cargo, git, and the program as built, or one that the
-first argument names; a second one says in how many workspaces. The last line is 'N passed, M failed'.
+What is told beyond these is counted, by what was changed. After two minutes nothing more is changed, and what was tried
+counts. Needs cargo, git, and the program as built, or one that the first argument names; a second one says in how many
+workspaces, then without an end. The last line is 'N passed, M failed'.
 """
 
 import json
@@ -14,6 +15,7 @@ import shutil
 import subprocess
 import sys
 import tempfile
+import time
 from concurrent.futures import ThreadPoolExecutor
 from pathlib import Path
 
@@ -22,7 +24,8 @@ BUILT = HERE.parent / "crates/guppy_cargo_main/out/guppy_cargo_main"
 PROGRAM = sys.argv[1] if sys.argv[1:] else str(BUILT)
 # So many workspaces are drawn, of so many packages, and so much is changed in each, one after the other.
 DRAWN, SIZE, CHANGES = int(sys.argv[2]) if sys.argv[2:] else 10, 8, 8
-SECONDS = 60
+# No more is changed after so many seconds, however slow the machine.
+END = time.monotonic() + (120 if not sys.argv[2:] else 24 * 3600)
 CARGO = {"CARGO_INCREMENTAL": "0", "CARGO_BUILD_JOBS": "1", "CARGO_PROFILE_DEV_DEBUG": "0", "CARGO_NET_OFFLINE": "true"}
 
 # What a build script says of when it is to run again; of the first cargo looks at each file of its package.
@@ -30,6 +33,10 @@ SCRIPTS = ["", "cargo:rerun-if-changed=build.rs", "cargo:rerun-if-changed=data.t
 MACRO = "[lib]\nproc-macro = true\n"
 # Where files lie that several packages include.
 SHARED = ["shared", "../proto"]
+
+
+class TimeIsUp(Exception):
+    """The end came before what was asked was done."""
 
 
 def write(path, text):
@@ -123,7 +130,7 @@ class Workspace:
 
     def cargo(self, *words):
         environment = os.environ | CARGO | {"CARGO_TARGET_DIR": str(self.top / "target")}
-        ways = {"cwd": self.root, "env": environment, "capture_output": True, "text": True, "timeout": SECONDS * 5}
+        ways = {"cwd": self.root, "env": environment, "capture_output": True, "text": True, "timeout": time_left()}
         ran = subprocess.run(["cargo", *words], check=False, **ways)
         return ran.stdout if ran.returncode == 0 else sys.exit(f"affected: workspace {self.seed}: {ran.stderr[-3000:]}")
 
@@ -173,6 +180,13 @@ class Workspace:
             folders = ["/".join(parts[:it]) for it in range(1, len(parts)) if parts[it - 1] != ".."]
             return self.drawn.choice(folders or [path])
         return path
+
+
+def time_left():
+    left = END - time.monotonic()
+    if left <= 0:
+        raise TimeIsUp
+    return left
 
 
 def append(workspace, package, name, text):
@@ -241,35 +255,47 @@ KINDS = {
 
 def affected(metadata, paths):
     """The members that the program tells."""
-    ran = subprocess.run([PROGRAM, "affected", *paths], input=metadata, capture_output=True, text=True, timeout=SECONDS, check=False)
+    ways = {"input": metadata, "capture_output": True, "text": True, "timeout": time_left()}
+    ran = subprocess.run([PROGRAM, "affected", *paths], check=False, **ways)
     if ran.returncode or ran.stderr:
         sys.exit(f"affected: {paths}: status {ran.returncode}, {ran.stderr}")
     return set(ran.stdout.split())
 
 
 def tries_of(room, seed):
-    workspace = Workspace(room, seed)
-    tried = list(workspace.tries())
-    shutil.rmtree(workspace.top)
+    """What was tried in a workspace until the end."""
+    tried = []
+    try:
+        time_left()
+        workspace = Workspace(room, seed)
+        for it in workspace.tries():
+            tried.append(it)
+        shutil.rmtree(workspace.top)
+    except (TimeIsUp, subprocess.TimeoutExpired):
+        pass
     return seed, tried
 
 
 def main():
     if not os.access(PROGRAM, os.X_OK):
         return f"affected: {PROGRAM} is not there"
-    passed = failed = beyond = 0
+    passed = failed = beyond = whole = 0
     counts = {it: [0, 0] for it in KINDS}
-    with tempfile.TemporaryDirectory() as room, ThreadPoolExecutor(4) as workers:
+    with tempfile.TemporaryDirectory(ignore_cleanup_errors=True) as room, ThreadPoolExecutor(4) as workers:
         for seed, tried in workers.map(lambda it: tries_of(room, it), range(DRAWN)):
+            whole += len(tried) == CHANGES
             for kind, paths, built, answer in tried:
                 missed = built - answer
                 passed, failed, beyond = passed + (not missed), failed + bool(missed), beyond + len(answer - built)
                 counts[kind] = [counts[kind][0] + len(built), counts[kind][1] + len(answer)]
                 if missed:
                     print(f"affected: workspace {seed}: FAILED: {kind}, {paths}: {sorted(missed)} missed, {sorted(answer)} told")
+    in_time = whole == DRAWN
+    if not in_time:
+        print(f"affected: the time was up: {whole} of {DRAWN} workspaces were tried whole")
     for kind, (anew, told) in counts.items():
         print(f"affected: {kind}: cargo built tests of {anew} members anew, and {told} are told")
-        if not anew and kind != UNREAD:
+        if not anew and kind != UNREAD and in_time:
             print(f"affected: {kind}: FAILED: cargo built no test anew, so nothing was judged")
             failed += 1
     anew, told = (sum(it[at] for it in counts.values()) for at in (0, 1))
