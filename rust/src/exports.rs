@@ -28,7 +28,7 @@ pub(crate) struct Answer {
 pub(crate) struct Outcome {
     /// 0: answered. 1: the lengths of the slices don't fit. 2: there are too many positions. 3: there are
     /// too many links. 4: an end of a link is no position. 5: a link has the ends of an earlier one. 6: there
-    /// was no memory.
+    /// was no memory, and 1 to 4 aren't so.
     pub(crate) status: u32,
     /// At 4 and 5 the number of the first such link, else 0.
     pub(crate) link: usize,

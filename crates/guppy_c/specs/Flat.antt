@@ -5,7 +5,7 @@ use Rattle.guppy_search.specs.declared.graph_core.graph.GraphFault.TheVariants.{
 use Rattle.guppy_search.specs.declared.graph_core.link.Link.{Link}
 use Rattle.guppy_search.specs.declared.ix.direction.DependencyDirection.{DependencyDirection}
 use Rattle.guppy_search.specs.declared.ix.direction.DependencyDirection.TheVariants.{Forward, Reverse}
-use Rattle.guppy_flat.specs.Flat.{AreFew}
+use Rattle.guppy_flat.specs.Flat.{AreWithin}
 use Rattle.guppy_c.specs.declared.flat.Outcome.{Outcome}
 
 -- the direction from dependents to dependencies, or the other one
@@ -19,5 +19,5 @@ pub record TellsFault (count : ℕ) (links : List (Link Bool)) (outcome : Outcom
   pub links_too_many : outcome.status ≡ 3 → IsFault count links TooManyLinks
   pub unknown : outcome.status ≡ 4 → IsFault count links (UnknownEnd outcome.link)
   pub repeated : outcome.status ≡ 5 → IsFault count links (RepeatedLink outcome.link)
-  pub few : outcome.status ≡ 6 → AreFew count links
+  pub within : outcome.status ≡ 6 → AreWithin count links
   pub no_link : outcome.status ≢ 4 → outcome.status ≢ 5 → outcome.link ≡ 0

@@ -1,8 +1,8 @@
-ghost use Rattle.std.specs.Prelude.{◌≡◌, ◌≤◌, Bool, List, length, map, IfOk, IfErr, OnOk};
+ghost use Rattle.std.specs.Prelude.{◌≡◌, Bool, List, length, map, All, IfOk, IfErr, OnOk, MatchOption};
 ghost use Rattle.guppy_search.specs.Fault.{IsFault};
 ghost use Rattle.guppy_search.specs.Graph.{IsGraph};
-ghost use Rattle.guppy_search.specs.declared.graph_core.link.Link.{Link as AnyLink};
-ghost use Rattle.guppy_flat.specs.Flat.{flagged, link_of, AreFew, IsFlatFault, MakeGraph};
+ghost use Rattle.guppy_search.specs.Links.{is_unknown};
+ghost use Rattle.guppy_flat.specs.Flat.{flagged, link_of, AreKnown, AreWithin, IsFirstAstray, IsFlatFault, MakeGraph};
 
 use guppy_core::{Graph, GraphFault, GraphSpec, LIMIT, Link, PackageIx};
 use std::alloc::{AllocError, Global};
@@ -29,19 +29,44 @@ impl GraphSpec for Flat {
     type Ix = PackageIx;
 }
 
-/// Refuses more positions or links than a graph has at most.
-pub fn expect_few(count: usize, links: usize) -> Result<(), GraphFault>
-    ensures few { OnOk result ((count ≤ 4294967295) × (links ≤ 4294967295)) }
-    ensures fault { (ends : List (AnyLink Bool)) → length ends ≡ links
-        → IfErr result (IsFlatFault count ends) }
+// Whether the link has an end that is none of so many positions.
+fn has_unknown_end(link: &Ends, count: usize) -> bool
+    ensures { result ≡ is_unknown count (link_of link.now) }
+{
+    link.from as usize >= count || link.to as usize >= count
+}
+
+// The first link that has one.
+fn first_unknown(links: &[Ends], count: usize) -> Option<usize>
+    ensures { MatchOption result (All (AreKnown count) links.now)
+        (IsFirstAstray count links.now) }
+{
+    for (number, link) in links.iter().enumerate() {
+        if has_unknown_end(link, count) {
+            return Some(number);
+        }
+    }
+    None
+}
+
+/// Refuses more positions or links than a graph has at most, and a link with an end that is no position: each
+/// fault that is found with no memory.
+pub fn expect_within(count: usize, links: &[Ends]) -> Result<(), GraphFault>
+    ensures within { (flags : List Bool) → length flags ≡ length links.now
+        → OnOk result (AreWithin count (flagged links.now flags)) }
+    ensures fault { (flags : List Bool) → length flags ≡ length links.now
+        → IfErr result (IsFlatFault count (flagged links.now flags)) }
 {
     if count > LIMIT {
         return Err(GraphFault::TooManyNodes);
     }
-    if links > LIMIT {
+    if links.len() > LIMIT {
         return Err(GraphFault::TooManyLinks);
     }
-    Ok(())
+    match first_unknown(links, count) {
+        Some(number) => Err(GraphFault::UnknownEnd(number)),
+        None => Ok(()),
+    }
 }
 
 // The links as a graph has them, without their flags.
@@ -78,8 +103,8 @@ fn graph_from(
 }
 
 /// The graph of these links between so many positions, each with its flag. There is a flag for each
-/// link. Otherwise the first fault, as [`Graph::from_parts`] has it; too many positions or links are told
-/// before memory is asked for.
+/// link. Otherwise the first fault, as [`Graph::from_parts`] has it; all but a repeated link are told before memory is
+/// asked for.
 ///
 /// Time grows with positions and links. Takes memory for 41 bytes a link and three numbers a position.
 pub fn graph_of(
@@ -92,10 +117,10 @@ pub fn graph_of(
     ensures nodes { IfOk result (λ g. length g.nodes ≡ count) }
     ensures links { IfOk result (λ g. g.links ≡ flagged links.now flags.now) }
     ensures graph { IfOk result (λ g. IsGraph g) }
-    ensures few { OnOk result (AreFew count (flagged links.now flags.now)) }
+    ensures within { OnOk result (AreWithin count (flagged links.now flags.now)) }
     ensures made { OnOk result (MakeGraph count (flagged links.now flags.now)) }
     ensures fault { IfErr result (IsFlatFault count (flagged links.now flags.now)) }
 {
-    expect_few(count, links.len())?;
+    expect_within(count, links)?;
     graph_from(alloc, count, links, flags)
 }

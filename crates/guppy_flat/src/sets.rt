@@ -2,10 +2,10 @@ ghost use Rattle.std.specs.Prelude.{◌≡◌, ◌↔◌, ℕ, ◌<◌, length, 
 ghost use Rattle.guppy_search.specs.IxSet.{IsIn};
 ghost use Rattle.guppy_search.specs.Walked.{numbers_of};
 ghost use Rattle.guppy_core.specs.Listing.{Stands};
-ghost use Rattle.guppy_flat.specs.Flat.{plain, AreFew, IsFlatFault, MakeGraph};
+ghost use Rattle.guppy_flat.specs.Flat.{plain, AreWithin, IsFlatFault, MakeGraph};
 ghost use Rattle.guppy_flat.specs.Sets.{MarksRoots, AreSetLinks};
 
-use crate::flat::{Ends, Flat, expect_few, graph_of};
+use crate::flat::{Ends, Flat, expect_within, graph_of};
 use crate::marks::{mark, set_of};
 use crate::ordering::components_of;
 use guppy_core::{
@@ -17,11 +17,11 @@ use std::alloc::{AllocError, Global};
 fn plain_graph_of(alloc: Global, count: usize, links: &[Ends]) -> Result<Graph<Flat>, GraphFault>
     ensures nodes { IfOk result (λ g. length g.nodes ≡ count) }
     ensures links { IfOk result (λ g. g.links ≡ plain links.now) }
-    ensures few { OnOk result (AreFew count (plain links.now)) }
+    ensures within { OnOk result (AreWithin count (plain links.now)) }
     ensures made { OnOk result (MakeGraph count (plain links.now)) }
     ensures fault { IfErr result (IsFlatFault count (plain links.now)) }
 {
-    expect_few(count, links.len())?;
+    expect_within(count, links)?;
     let flags = vec![in alloc; false; links.len()]?;
     graph_of(alloc, count, links, flags.as_slice())
 }
