@@ -1,0 +1,4 @@
+pub mod Declares
+pub mod Grown
+pub mod Parts
+pub mod Shown
