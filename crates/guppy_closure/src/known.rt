@@ -61,8 +61,8 @@ impl<F: Ord + Copy> Known<F> {
     ///
     /// Time grows with the clauses, times the logarithm of how many there are, by which facts are sorted and found.
     /// Takes memory for three facts a clause, and beside them 48 bytes a clause, and eight and a bit a fact, of which
-    /// what is answered keeps all but eight a clause and four a fact. Fails with `TooManyClauses` only where there are more of them, and else
-    /// with `OutOfMemory` only where there is none.
+    /// what is answered keeps all but eight a clause and four a fact. Fails with `TooManyClauses` exactly where there
+    /// are too many, and else with `OutOfMemory` only where there is no memory.
     pub fn new(alloc: Global, clauses: Vec<Clause<F>>) -> Result<Self, ClosureFault>
         requires exact { IsExact F.cmp }
         ensures clauses { IfOk result (λ known. known ≡ clauses.items) }

@@ -99,8 +99,8 @@ fn is_needed(clauses: &[Clause<usize>], steps: &[usize], fact: usize) -> bool {
     false
 }
 
-/// Whether the steps derive the fact: each body is derived before, no head is twice, the fact is the last head, and each
-/// other head is needed later.
+/// Whether the steps derive the fact: each body is derived before, no head is twice, the fact is the last head, and
+/// each other head is needed later.
 pub(crate) fn derives(
     rt: &impl Abort,
     alloc: Global,
