@@ -1,5 +1,6 @@
 """Tries where guppy-cargo takes metadata from: what it asks cargo, what it is given, and when it reads standard input."""
 
+import json
 import os
 import signal
 import subprocess
@@ -74,16 +75,22 @@ WRONG = [
     ("order --kinds=dev --kinds=dev", "--kinds is given twice"),
     (" ".join(["order", *["--platform=x86_64-unknown-linux-gnu"] * 7]), "six platforms at most"),
 ]
+# Members of which some need others on some platforms alone.
+APART = {
+    "b": "",
+    "m": '[target."cfg(windows)".dependencies]\nb.path = "../b"\n[dev-dependencies]\nb.path = "../b"\n',
+    "n": '[dependencies]\nm.path = "../m"\n',
+}
 HOOK = b"0000 1111 refs/heads/main\n"
 
 
-def make(top):
+def make(top, members=MEMBERS):
     """A workspace of these members, with the file that locks it."""
-    for name, text in MEMBERS.items():
+    for name, text in members.items():
         (top / name / "src").mkdir(parents=True)
         (top / name / "src/lib.rs").touch()
         (top / name / "Cargo.toml").write_text(MANIFEST.format(name) + text)
-    (top / "Cargo.toml").write_text('[workspace]\nmembers = ["a", "b", "c", "d", "e"]\nresolver = "2"\n')
+    (top / "Cargo.toml").write_text(f'[workspace]\nmembers = {json.dumps(list(members))}\nresolver = "2"\n')
     subprocess.run(["cargo", "generate-lockfile", "--offline"], cwd=top, capture_output=True, check=True)
 
 
@@ -191,6 +198,32 @@ def try_flags(world):
         reached = lines(world.run(["guppy-cargo", "reach", "forward", "a", "--platform", host], **how))
         yield f"{cfg}, {settings!r}, {flags!r}", reached == followed, (reached, tree)
     yield "no file of flags is left", not world.left(), world.left()
+
+
+def tested_with(top, member, triple):
+    """The packages that cargo builds for the platform, or to build for it, where it tests the member."""
+    command = ["cargo", "test", "-p", member, "--target", triple, "--unit-graph", "-Z", "unstable-options"]
+    how = {"cwd": top, "capture_output": True, "check": True, "env": os.environ | {"RUSTC_BOOTSTRAP": "1"}}
+    units = json.loads(subprocess.run(command, **how).stdout)["units"]
+    return {unit["pkg_id"].split("#")[0].rsplit("/", 1)[1] for unit in units}
+
+
+def try_platforms(world):
+    """Which members a change affects on a platform, and why, beside what cargo builds there."""
+    top = world.room / "a workspace"
+    make(top, APART)
+    world.build()
+    for triple in ("x86_64-unknown-linux-gnu", "x86_64-pc-windows-msvc"):
+        built = {it: tested_with(top, it, triple) for it in APART}
+        for member in APART:
+            got = lines(world.run(["guppy-cargo", "affected", f"{member}/src/lib.rs", "--platform", triple], where=top))
+            yield f"affected {member} on {triple}", sorted(got) == [it for it in sorted(APART) if member in built[it]], (got, built)
+        kinds = "dev" if "linux" in triple else "normal dev"
+        for words, wanted in (("why m b", f"m\nb {kinds}\n"), ("reach forward n --kinds normal", "m\nn\n"), ("verify", "ok\n")):
+            wanted = wanted if kinds == "dev" else wanted.replace("m\nn\n", "b\nm\nn\n")
+            ran = world.run(["guppy-cargo", *words.split(), "--platform", triple], where=top)
+            yield f"{words} on {triple}", ran == (0, wanted, ""), ran
+    yield "no file is left", not world.left(), world.left()
 
 
 def try_given(world):

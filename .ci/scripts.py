@@ -18,7 +18,7 @@ import time
 from concurrent.futures import ThreadPoolExecutor
 from pathlib import Path
 
-from metadata import try_asked, try_flags, try_given, try_metadata_refused
+from metadata import try_asked, try_flags, try_given, try_metadata_refused, try_platforms
 from since import try_since, try_since_answers, try_since_locked, try_since_refused
 
 HERE = Path(__file__).resolve().parent
@@ -436,6 +436,7 @@ PARTS = {
     "changes, refusals": (try_since_refused, []),
     "what cargo is asked": (try_asked, []),
     "flags that cargo gives": (try_flags, []),
+    "members on a platform": (try_platforms, []),
     "metadata": (try_given, []),
     "metadata, refusals": (try_metadata_refused, []),
     "quick tests": (try_quick, []),

@@ -1,29 +1,21 @@
 -- What is asked of every command: which links count, and how an answer is shown.
-use Rattle.std.specs.Prelude.{ℕ, ◌==◌, Bool, true, ◌&&◌, ◌||◌, List, Option, Some, None, is_some, codes, if◌then◌else◌}
+use Rattle.std.specs.Prelude.{ℕ, ◌==◌, Bool, ◌&&◌, ◌||◌, List, Option, Some, None, is_some, codes, if◌then◌else◌}
 use Rattle.std.specs.List.{list_all, list_any, filter, slice_split}
 use Rattle.std.specs.Str.{bytes_eq}
 use Rattle.guppy_data.specs.declared.records.LinkRecord.{LinkRecord}
-use Rattle.guppy_data.specs.Platform.{Question, OnAny}
-use Rattle.guppy_target.specs.Platform.{PlatformData}
+use Rattle.guppy_platforms.specs.Counting.{is_asked_for}
 use Rattle.guppy_command.specs.declared.options.Kinds.{Kinds}
-use Rattle.guppy_command.specs.Platforms.{counts}
 use Rattle.guppy_command.specs.Text.{section_of}
 
--- the link has a section of one of these kinds that counts
-abbrev pub is_of : Kinds → Question PlatformData → LinkRecord → Bool
-is_of kinds question r = (kinds.normal && counts question r.normal)
-    || (kinds.build && counts question r.build) || (kinds.dev && counts question r.dev)
+-- the link has a section of one of these kinds: it is asked for in it, required or optional, on some platform
+abbrev pub is_of : Kinds → LinkRecord → Bool
+is_of kinds r = (kinds.normal && is_asked_for r.normal) || (kinds.build && is_asked_for r.build)
+    || (kinds.dev && is_asked_for r.dev)
 
--- these kinds, or all
-abbrev pub kinds_or_all : Option Kinds → Kinds
-kinds_or_all None = record { normal = true; build = true; dev = true }
-kinds_or_all (Some kinds) = kinds
-
--- the links with a section of these kinds that counts on the platforms in question; all links, where neither kinds nor
--- platforms are named
-abbrev pub kept_links : Option Kinds → Question PlatformData → List LinkRecord → List LinkRecord
-kept_links None OnAny links = links
-kept_links kinds question links = filter (is_of (kinds_or_all kinds) question) links
+-- the links with a section of these kinds; all links, where none are named
+abbrev pub kept_links : Option Kinds → List LinkRecord → List LinkRecord
+kept_links None links = links
+kept_links (Some kinds) links = filter (is_of kinds) links
 
 abbrev pub is_kind : List ℕ → Bool
 is_kind word = is_some (section_of word)

@@ -8,8 +8,7 @@
 //! - `transfer`: reading to the end, and writing all;
 //! - `table`: what options are called;
 //! - `grammar`: arguments, read from front to end: options with their values, and other words;
-//! - `platforms`: which sections of links count on the platforms that are asked about;
-//! - `options`: what is asked of every command: which links count, and how its answer is shown;
+//! - `options`: what is asked of every command: which links count, by their kinds, and how its answer is shown;
 //! - `command`: the commands;
 //! - `asked`: what arguments ask;
 //! - `files`: the files that arguments name; `found`: what arguments ask, with what these have;
@@ -27,7 +26,6 @@ pub mod found;
 pub mod grammar;
 pub mod laws;
 pub mod options;
-pub mod platforms;
 pub mod print;
 pub mod process;
 pub mod table;

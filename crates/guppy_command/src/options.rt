@@ -1,13 +1,11 @@
 //! What is asked of every command: which links count, and how an answer is shown.
 ghost use Rattle.std.specs.Prelude.{◌≡◌};
 ghost use Rattle.std.specs.List.{filter};
-ghost use Rattle.guppy_data.specs.Platform.{question_of};
 ghost use Rattle.guppy_command.specs.Text.{section_of};
-ghost use Rattle.guppy_command.specs.Options.{is_kind, names_kind, kinds_of, is_of, kinds_or_all, kept_links};
+ghost use Rattle.guppy_command.specs.Options.{is_kind, names_kind, kinds_of, is_of, kept_links};
 
-use crate::platforms::counts;
-use guppy_data::{DependencyKind, LinkRecord, PlatformSpec};
-use guppy_target::Platform;
+use guppy_data::{DependencyKind, LinkRecord};
+use guppy_platforms::is_asked_for;
 
 /// Kinds of links.
 #[derive(Clone, Copy, Debug, PartialEq, Eq)]
@@ -75,50 +73,29 @@ pub fn kinds_of(word: &str) -> Option<Kinds>
 }
 
 impl Kinds {
-    /// Whether the link has a section of one of these kinds that counts on the platforms.
-    pub fn has(self, platforms: &PlatformSpec<Platform>, link: &LinkRecord) -> bool
-        ensures { result ≡ is_of self (question_of platforms.now) link.now }
+    /// Whether the link has a section of one of these kinds: whether it is asked for in it, required or optional, on some
+    /// platform. Takes constant time, and no memory.
+    pub fn has(self, link: &LinkRecord) -> bool
+        ensures { result ≡ is_of self link.now }
     {
-        (self.normal && counts(platforms, &link.normal))
-            || (self.build && counts(platforms, &link.build))
-            || (self.dev && counts(platforms, &link.dev))
+        (self.normal && is_asked_for(&link.normal))
+            || (self.build && is_asked_for(&link.build))
+            || (self.dev && is_asked_for(&link.dev))
     }
 }
 
-// These kinds, or all.
-fn kinds_or_all(kinds: Option<Kinds>) -> Kinds
-    ensures { result ≡ kinds_or_all kinds }
+// Leaves out the links without a section of these kinds.
+fn keep_of(kinds: Kinds, links: &mut Vec<LinkRecord>)
+    ensures { links.new.items ≡ filter (is_of kinds) links.old.items }
 {
-    match kinds {
-        Some(kinds) => kinds,
-        None => Kinds {
-            normal: true,
-            build: true,
-            dev: true,
-        },
-    }
+    links.retain(|link| kinds.has(link));
 }
 
-// Leaves out the links without a section of these kinds that counts on the platforms.
-fn keep_of(kinds: Kinds, platforms: &PlatformSpec<Platform>, links: &mut Vec<LinkRecord>)
-    ensures { links.new.items ≡ filter (is_of kinds (question_of platforms.now)) links.old.items }
+/// Leaves out the links without a section of these kinds. Where none are named, all links stay. Takes no memory.
+pub fn keep_links(kinds: Option<Kinds>, links: &mut Vec<LinkRecord>)
+    ensures { links.new.items ≡ kept_links kinds links.old.items }
 {
-    links.retain(|link| kinds.has(platforms, link));
-}
-
-/// Leaves out the links without a section of these kinds, or any, that counts on these platforms, or on any. Where
-/// neither are named, all links stay.
-///
-/// Takes no memory. Asks once for each text of a section and platform.
-pub fn keep_links(
-    kinds: Option<Kinds>,
-    platforms: &PlatformSpec<Platform>,
-    links: &mut Vec<LinkRecord>,
-)
-    ensures { links.new.items ≡ kept_links kinds (question_of platforms.now) links.old.items }
-{
-    match (kinds, platforms) {
-        (None, PlatformSpec::Any) => {}
-        _ => keep_of(kinds_or_all(kinds), platforms, links),
+    if let Some(kinds) = kinds {
+        keep_of(kinds, links);
     }
 }

@@ -12,18 +12,21 @@ use Rattle.guppy_target.specs.Platform.{PlatformData}
 use Rattle.guppy_command.specs.Cause.{Cause, library, bad_input, OrMemory}
 use Rattle.guppy_command.specs.declared.options.Kinds.{Kinds}
 use Rattle.guppy_command.specs.Options.{kept_links}
+use Rattle.guppy_platforms.specs.Kept.{AreKept}
 use Rattle.guppy_program.specs.Format.{Format}
 
 module _ {Fault : Type 0} (format : Format Fault) (kinds : Option Kinds) (question : Question PlatformData)
     (input : List ℕ) where
-  -- the input says records, and P holds of them with the links of these kinds, or all, that count on the
-  -- platforms in question
+  -- the input says records, and P holds of them with what counts of their links on the platforms in question, and of
+  -- that the links of these kinds, or all
   pub record OfRecords (P : List PackageRecord → List LinkRecord → WorkspaceRecord → Type 0) : Type 0 where
     pub packages : List PackageRecord
     pub links : List LinkRecord
     pub workspace : WorkspaceRecord
     pub said : format.says input packages links workspace
-    pub holds : P packages (kept_links kinds question links) workspace
+    pub counting : List LinkRecord
+    pub counted : AreKept question links counting
+    pub holds : P packages (kept_links kinds counting) workspace
 
   -- these records break no rule, and the graph holds exactly these
   abbrev pub IsLoaded : GraphData → Type 0

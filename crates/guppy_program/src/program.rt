@@ -18,6 +18,7 @@ use guppy_command::fault::{passed_on, want_of_memory};
 use guppy_command::options::keep_links;
 use guppy_command::transfer::{read_all, write_text};
 use guppy_command::{Asked, Files, Sink, Source};
+use guppy_platforms::keep_counting;
 use std::alloc::Global;
 use std::mem;
 
@@ -34,7 +35,8 @@ fn load<F: Format>(
         (asked_shown asked.now).question input.now fault (F.Fault.cause fault)) }
 {
     let mut records = F::records_of(alloc, input)?;
-    keep_links(asked.options.kinds, &asked.platforms, &mut records.links);
+    keep_counting(alloc, &asked.platforms, &mut records.links);
+    keep_links(asked.options.kinds, &mut records.links);
     let Ok(names) = F::names_of(alloc, records.packages.as_slice()) else {
         return Err(want_of_memory());
     };

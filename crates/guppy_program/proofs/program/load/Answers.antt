@@ -21,6 +21,8 @@ returns-in_err-graph-clause-err g c =
       links = r.links.items;
       workspace = r.workspace;
       said = c.in_ok-records.ensures.said;
+      counting = c.keep_counting.new.links.items;
+      counted = c.keep_counting.ensures;
       holds = subst (λ links. IsRefusal r.packages.items links r.workspace told.0) c.keep_links.ensures refused;
     })))
 
@@ -34,6 +36,8 @@ returns-clause-ok g c =
       links = r.links.items;
       workspace = r.workspace;
       said = c.in_ok-records.ensures.said;
+      counting = c.keep_counting.new.links.items;
+      counted = c.keep_counting.ensures;
       holds = subst (λ links. IsAccepted r.packages.items links r.workspace × Holds graph r.packages.items links r.workspace) c.keep_links.ensures (
         subst (λ made. OnOk made (IsAccepted r.packages.items kept r.workspace)) c.in_ok-graph.ensures.ok c.into_graph.ensures.accepted,
         subst (λ made. IfOk made (λ h. Holds h r.packages.items kept r.workspace)) c.in_ok-graph.ensures.ok c.into_graph.ensures.holds,
