@@ -68,7 +68,7 @@ fn is_option(name: &str, argument: &Argument<'_>) -> bool
 // The value of the option, if the argument is that, or where none is named the word.
 fn picked<'a>(name: Option<&str>, argument: &Argument<'a>) -> Option<&'a str>
     ensures { option_map (λ text. text.now) result
-        ≡ picked (option_map (λ name. name.now) name) (argument_shown argument.now) }
+        ≡ picked (option_map (λ name. name.now) name.entry) (argument_shown argument.now) }
 {
     match name {
         Some(name) => value_for(name, argument),
@@ -83,7 +83,7 @@ fn all_picked<'a>(
     given: &[Argument<'a>],
 ) -> Result<Vec<&'a str>, AllocError>
     ensures { IfOk result (λ values. texts values.items
-        ≡ filter_map (picked (option_map (λ name. name.now) name)) (map argument_shown given.now)) }
+        ≡ filter_map (picked (option_map (λ name. name.now) name.entry)) (map argument_shown given.now)) }
 {
     let mut values = Vec::new(alloc);
     for argument in given {

@@ -66,19 +66,14 @@ fn answer_text<F: Format>(
     }
 }
 
-// What is printed for what is asked of the graph that the input says. Lets go of the graph.
-fn answer_asked<F: Format>(
-    alloc: Global,
-    asked: &Asked<'_>,
-    input: &[u8],
-) -> Result<String, F::Fault>
-    ensures ok { IfOk result (λ text. IsAnswerTo F.format (asked_shown asked.now) input.now
-        (string_bytes text)) }
-    ensures err { IfErr result (λ fault. IsFaultOf F.format (asked_shown asked.now) input.now
-        fault (F.Fault.cause fault)) }
-{
-    let (graph, names) = load::<F>(alloc, asked, input)?;
-    answer_text::<F>(alloc, &graph, &names, asked)
+// Lets go of the graph and of the names of its packages, or forgets them, where the process ends once the answer is
+// written, and gives all memory back at once: to let go of the parts of a large graph one by one takes some tenths of
+// the whole time.
+fn give_back<N: Drop>(graph: PackageGraph, names: N, process_ends: bool) {
+    if process_ends {
+        mem::forget(graph);
+        mem::forget(names);
+    }
 }
 
 // What is printed for what is asked of the graph that the input says.
@@ -86,6 +81,7 @@ fn answer_input<F: Format>(
     alloc: Global,
     asked: &Asked<'_>,
     input: &[u8],
+    process_ends: bool,
 ) -> Result<String, F::Fault>
     ensures ok { IfOk result (λ text. IsAnswerTo F.format (asked_shown asked.now) input.now
         (string_bytes text)) }
@@ -94,10 +90,7 @@ fn answer_input<F: Format>(
 {
     let (graph, names) = load::<F>(alloc, asked, input)?;
     let text = answer_text::<F>(alloc, &graph, &names, asked);
-    // The process ends once the answer is written, and gives all memory back at once; to let go of the
-    // parts of a large graph one by one takes some tenths of the whole time.
-    mem::forget(graph);
-    mem::forget(names);
+    give_back(graph, names, process_ends);
     text
 }
 
@@ -115,7 +108,7 @@ fn answer_source<F: Format, R: Source>(
     ensures failed { R.has_failed reader.new ≡ is_input_fault (caused F.Fault.cause result) }
 {
     let input = read_all::<R, F::Fault>(alloc, reader)?;
-    answer_input::<F>(alloc, asked, input.as_slice())
+    answer_input::<F>(alloc, asked, input.as_slice(), true)
 }
 
 /// Reads the whole input, and writes what is asked by `args` of its package graph, with the links that are asked
@@ -214,5 +207,5 @@ pub fn answer_bytes<F: Format, D: Files>(
         (map string_bytes args.now) input.now fault (F.Fault.cause fault)) }
 {
     let asked = F::asked_of(alloc, args, files)?;
-    answer_asked::<F>(alloc, &asked, input)
+    answer_input::<F>(alloc, &asked, input, false)
 }
