@@ -346,7 +346,7 @@ def try_left_out(graph):
             (["--ignore", "./.", "x"], "--ignore ./. leaves out everything: give a folder"),
             (["--ignore=", "x"], "--ignore  leaves out everything: give a folder"),
             (["x", "--paths-from"], "a value is missing behind --paths-from"),
-            (["x", "--sinc", "main"], "--sinc is no option: the scripts take --since"),
+            (["x", "--sinc", "main"], "--sinc is no option: the nearest is --kinds"),
             (["-x"], "-x is no option: guppy-cargo help lists them"),
             (["x", "--publishable"], "affected takes no --publishable"),
             (["--paths-from", os.path.join(room, "bytes")], f"{os.path.join(room, 'bytes')}: the paths in it can't be read"),
@@ -536,10 +536,6 @@ def try_help(graph):
     helped = [it for words in COMMANDS for it in re.findall(r"^  (--[a-z-]+)", run(["help", words], b"")[1], re.M)]
     yield "the options of PROGRAM", sorted(set(helped)), sorted(documented)
     yield "the commands of PROGRAM", sorted(COMMANDS), sorted(re.findall(r"`([a-z][a-z-]*)", " ".join(rows)))
-    behind = run(["help"], b"")[1].partition("The scripts also take")[2]
-    for option in ["--since", *re.findall("--[a-z-]+", behind)]:
-        told = f"error: {option} is no option: the scripts take {option}\n"
-        yield f"{option}, which the scripts take", (2, "", told), run([option], b"")
     for word in (it[1:] for it in COMMANDS):
         apart = {it: edits(word, it) for it in COMMANDS}
         wanted = {it for it in COMMANDS if apart[it] == min(apart.values())}

@@ -1,11 +1,10 @@
 -- The options and commands of `guppy-cargo`.
-use Rattle.std.specs.Prelude.{ℕ, true, List, [], map, is_some, option_map, codes, if◌then◌else◌}
+use Rattle.std.specs.Prelude.{ℕ, true, List, [], map, is_some, option_map}
 use Rattle.std.specs.List.{find}
 use Rattle.std.specs.Option.{option_map_or}
 use Rattle.std.specs.Str.{bytes_eq}
-use Rattle.guppy_command.specs.Asked.{is_among}
 use Rattle.guppy_command.specs.Grammar.{Program}
-use Rattle.guppy_arguments.specs.declared.table.TheConstants.{OPTIONS, SCRIPT_OPTIONS, COMMANDS, USAGES}
+use Rattle.guppy_arguments.specs.declared.table.TheConstants.{OPTIONS, COMMANDS, USAGES}
 
 -- what the commands are called
 abbrev pub command_names : List (List ℕ)
@@ -27,14 +26,6 @@ cargo_program = record {
 -- what the options are called
 abbrev pub option_names : List (List ℕ)
 option_names = map (λ row. row.0.now) OPTIONS.now
-
--- what the scripts' own options are called
-abbrev pub script_options : List (List ℕ)
-script_options = map (λ name. name.now) SCRIPT_OPTIONS.now
-
--- what stands in front of an option that is near to a word
-abbrev pub introduction : List ℕ → List ℕ
-introduction nearest = if is_among script_options nearest then codes "the scripts take " else codes "the nearest is "
 
 -- the commands, each with what to give
 abbrev pub usages : List (List ℕ × List ℕ)

@@ -11,7 +11,7 @@ use Rattle.guppy_arguments.specs.declared.fault.CargoFault.TheVariants.{Program,
 use Rattle.guppy_arguments.specs.declared.told.ArgumentsFault.{ArgumentsFault}
 use Rattle.guppy_arguments.specs.declared.told.ArgumentsFault.TheVariants.{NoOption, NoValue, NeedlessValue, Repeated, NotTaken, NoCommand, UnknownCommand, BadWords, BadKinds, LonePlatform, AllIgnored, NoPaths, CfgsFailed, BadCfg, PathsFailed, UnendedPaths}
 use Rattle.guppy_arguments.specs.Nearest.{IsFar, IsNearest}
-use Rattle.guppy_arguments.specs.Table.{cargo_program, command_names, introduction, option_names, script_options, usage_of}
+use Rattle.guppy_arguments.specs.Table.{cargo_program, command_names, option_names, usage_of}
 
 abbrev pub misread_of : ArgumentsFault → Misread
 misread_of (NoOption word nearest) = no_option (string_bytes word)
@@ -36,9 +36,9 @@ abbrev pub IsNearestIfAny : List (List ℕ) → List ℕ → Option (String Glob
 IsNearestIfAny names word nearest =
     MatchOption nearest (IsFar word names) (λ name. IsNearest word names (string_bytes name))
 
--- the nearest option, of the program or of the scripts, or the nearest command is told with a word that is none
+-- the nearest option or command is told with a word that is none
 abbrev pub HasNearest : ArgumentsFault → Type 0
-HasNearest (NoOption word nearest) = IsNearestIfAny (option_names ++ script_options) (string_bytes word) nearest
+HasNearest (NoOption word nearest) = IsNearestIfAny option_names (string_bytes word) nearest
 HasNearest (UnknownCommand word nearest) = IsNearestIfAny command_names (string_bytes word) nearest
 HasNearest _ = Unit {0}
 
@@ -48,23 +48,19 @@ Tells has args (Arguments fault) = IsMisread has cargo_program args (misread_of 
 Tells has args (Program fault) = fault ≡ Library OutOfMemory
 Tells has args _ = ⊥
 
--- what to give in place of a word that is no option, or no command
-abbrev pub option_hint : Option (String Global) → List ℕ
-option_hint (Some nearest) = introduction (string_bytes nearest) ++ string_bytes nearest
-option_hint None = codes "guppy-cargo help lists them"
-
-abbrev pub command_hint : Option (String Global) → List ℕ
-command_hint (Some nearest) = codes "the nearest is " ++ string_bytes nearest
-command_hint None = codes "guppy-cargo help lists them"
+-- what to give in place of a word that is none
+abbrev pub hint : Option (String Global) → List ℕ
+hint (Some nearest) = codes "the nearest is " ++ string_bytes nearest
+hint None = codes "guppy-cargo help lists them"
 
 abbrev pub arguments_text : ArgumentsFault → List ℕ
-arguments_text (NoOption word nearest) = string_bytes word ++ (codes " is no option: " ++ option_hint nearest)
+arguments_text (NoOption word nearest) = string_bytes word ++ (codes " is no option: " ++ hint nearest)
 arguments_text (NoValue name) = codes "a value is missing behind " ++ string_bytes name
 arguments_text (NeedlessValue name) = string_bytes name ++ codes " takes no value"
 arguments_text (Repeated name) = string_bytes name ++ codes " is given twice"
 arguments_text (NotTaken command name) = string_bytes command ++ (codes " takes no " ++ string_bytes name)
 arguments_text NoCommand = codes "give a command: guppy-cargo help lists them"
-arguments_text (UnknownCommand word nearest) = string_bytes word ++ (codes " is no command: " ++ command_hint nearest)
+arguments_text (UnknownCommand word nearest) = string_bytes word ++ (codes " is no command: " ++ hint nearest)
 arguments_text (BadWords command) =
     string_bytes command ++ (codes " takes other words: give " ++ usage_of (string_bytes command))
 arguments_text (BadKinds value) =

@@ -26,6 +26,6 @@ pub use fault::CargoFault;
 pub use help::help_of;
 pub use names::Names;
 pub use nearest::nearest_of;
-pub use table::{COMMANDS, OPTIONS, SCRIPT_OPTIONS, USAGES};
+pub use table::{COMMANDS, OPTIONS, USAGES};
 pub use told::{ArgumentsFault, asked_of};
 pub use words::arguments_in;

@@ -1,9 +1,8 @@
 //! The options and commands of `guppy-cargo`.
 ghost use Rattle.std.specs.Prelude.{◌≡◌};
 ghost use Rattle.guppy_command.specs.Shown.{program_shown};
-ghost use Rattle.guppy_arguments.specs.Table.{cargo_program, introduction, usage_of};
+ghost use Rattle.guppy_arguments.specs.Table.{cargo_program, usage_of};
 
-use guppy_command::asked::is_among;
 use guppy_command::grammar::{OptionRow, Program};
 use guppy_command::table::{
     CFGS, IDS, IGNORE, KINDS, PATHS_FROM, PLATFORM, PUBLISHABLE, WORKSPACE,
@@ -62,20 +61,6 @@ pub const OPTIONS: &[OptionRow] = &[
         Some(&["affected"]),
         "adds the paths in this file, each ended by a NUL, as git writes them with -z;\n      to the scripts - is standard input",
     ),
-];
-
-/// The long options that the scripts take, and the program doesn't.
-pub const SCRIPT_OPTIONS: &[&str] = &[
-    "--since",
-    "--metadata",
-    "--manifest-path",
-    "--features",
-    "--all-features",
-    "--no-default-features",
-    "--filter-platform",
-    "--locked",
-    "--offline",
-    "--frozen",
 ];
 
 /// What the commands are called.
@@ -164,17 +149,6 @@ pub(crate) fn program() -> Program
         options: OPTIONS,
         anywhere: true,
         commands: COMMANDS,
-    }
-}
-
-// What stands in front of an option that is near to a word.
-pub(crate) fn introduction(nearest: &str) -> &'static str
-    ensures { result.now ≡ introduction nearest.now }
-{
-    if is_among(SCRIPT_OPTIONS, nearest) {
-        "the scripts take "
-    } else {
-        "the nearest is "
     }
 }
 

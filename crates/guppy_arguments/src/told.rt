@@ -1,13 +1,13 @@
 //! Why arguments ask nothing, as it is told.
-ghost use Rattle.std.specs.Prelude.{◌≡◌, ◌++◌, map, string_bytes, Some, IfOk, IfErr};
+ghost use Rattle.std.specs.Prelude.{◌≡◌, map, string_bytes, Some, IfOk, IfErr};
 ghost use Rattle.guppy_command.specs.Asked.{Asks};
 ghost use Rattle.guppy_command.specs.Shown.{asked_shown, misread_shown};
-ghost use Rattle.guppy_arguments.specs.Table.{cargo_program, option_names, script_options};
+ghost use Rattle.guppy_arguments.specs.Table.{cargo_program, option_names};
 ghost use Rattle.guppy_arguments.specs.Told.{misread_of, HasNearest, IsNearestIfAny, Tells};
 
 use crate::fault::CargoFault;
 use crate::nearest::nearest_of;
-use crate::table::{COMMANDS, OPTIONS, SCRIPT_OPTIONS, introduction, program, usage_of};
+use crate::table::{COMMANDS, OPTIONS, program, usage_of};
 use guppy_command::grammar::Misread;
 use guppy_command::{Asked, Files, found};
 use std::alloc::{AllocError, Global};
@@ -20,7 +20,7 @@ pub enum ArgumentsFault {
     NoOption {
         /// The word, as it was given.
         word: String,
-        /// The nearest option, of the program or of the scripts, where one is near.
+        /// The nearest option, where one is near.
         nearest: Option<String>,
     },
     /// Nothing stands behind the option, which takes a value.
@@ -81,11 +81,7 @@ impl fmt::Display for ArgumentsFault {
             ArgumentsFault::NoOption {
                 word,
                 nearest: Some(nearest),
-            } => write!(
-                f,
-                "{word} is no option: {}{nearest}",
-                introduction(nearest.as_str())
-            ),
+            } => write!(f, "{word} is no option: the nearest is {nearest}"),
             ArgumentsFault::NoOption { word, .. } => {
                 write!(f, "{word} is no option: guppy-cargo help lists them")
             }
@@ -143,15 +139,6 @@ fn option_names(alloc: Global) -> Result<Vec<&'static str>, AllocError>
     OPTIONS.iter().map(|row| row.0).collect(alloc)
 }
 
-// What the options are called: those of the program, then those of the scripts.
-fn all_option_names(alloc: Global) -> Result<Vec<&'static str>, AllocError>
-    ensures { IfOk result (λ names. map (λ name. name.now) names.items ≡ option_names ++ script_options) }
-{
-    let mut names = option_names(alloc)?;
-    names.extend_from_slice(SCRIPT_OPTIONS)?;
-    Ok(names)
-}
-
 // The nearest of the names, where one is near.
 fn copy_of_nearest(alloc: Global, word: &str, names: &[&str]) -> Result<Option<String>, AllocError>
     ensures { IfOk result (IsNearestIfAny (map (λ name. name.now) names.now) word.now) }
@@ -171,7 +158,7 @@ fn told(alloc: Global, misread: Misread<'_>) -> Result<ArgumentsFault, AllocErro
     match misread {
         Misread::NoOption(word) => Ok(ArgumentsFault::NoOption {
             word: String::from_str(alloc, word)?,
-            nearest: copy_of_nearest(alloc, word, all_option_names(alloc)?.as_slice())?,
+            nearest: copy_of_nearest(alloc, word, option_names(alloc)?.as_slice())?,
         }),
         Misread::NoValue(name) => Ok(ArgumentsFault::NoValue(copy(name)?)),
         Misread::NeedlessValue(name) => Ok(ArgumentsFault::NeedlessValue(copy(name)?)),
