@@ -2,13 +2,13 @@
 use Rattle.std.proofs.Common.{◌≡◌, ◌⊎◌, ◌↔◌, ℕ, suc, ◌+◌, Bool, inl, inr, List, [], ◌∷◌, ◌++◌, length, sym, ap, subst, append_assoc, arith}
 use Rattle.std.specs.Prelude.{Contains, Option, None, ◌==◌}
 use Rattle.std.proofs.lemmas.List.{append-nil}
-use Rattle.std.proofs.lemmas.List.Elements.{Contains-push, Contains-append_left, Contains-append_right, Contains-append_cases, Contains-push_cases}
+use Rattle.std.proofs.lemmas.List.Elements.{Contains-push, Contains-append_left, Contains-append_right, Contains-append_cases, Contains-push_cases, All-push}
 use Rattle.guppy_search.specs.declared.ix.direction.DependencyDirection.{DependencyDirection}
 use Rattle.guppy_search.specs.declared.graph_core.link.Link.{Link}
 use Rattle.guppy_search.specs.Links.{near_end, links_at, IsLedTo}
 use Rattle.guppy_search.specs.IxSet.{IsIn, member_count, positions_in}
 use Rattle.guppy_search.specs.Resolve.{LeavesOne}
-use Rattle.guppy_search.specs.Buffered.{Question, IsAsked, IsFound, IsTimely, IsOrderly, IsAskable, JudgesBuffered, Asks, EndsInError, Adds}
+use Rattle.guppy_search.specs.Buffered.{Question, IsAsked, IsFound, IsTimely, AreLinks, IsOrderly, IsAskable, JudgesBuffered, Asks, EndsInError, Adds}
 use Rattle.guppy_search.specs.Buffered.Question.{discover, filter}
 use Rattle.guppy_search.specs.Buffering.{Buffering, Takes, Stops, MayAskOn}
 use Rattle.guppy_search.proofs.Lists.{nothing_in, Contains-first, Contains-later, Contains-cons_cases, EachAfter-nil, EachAfter-push, FoldsTo-append}
@@ -22,7 +22,7 @@ module _ {E : Type 0} (d : DependencyDirection) (links : List (Link E)) (initial
   -- nothing was asked: the initial positions are in the set and wait
   pub Buffering-begin : Buffering d links initials [] initials (positions_in initials) []
   Buffering-begin = record {
-    orderly = record { once = EachAfter-nil _; timely = EachAfter-nil _ };
+    orderly = record { once = EachAfter-nil _; timely = EachAfter-nil _; answered = λ k d h. absurd (omega arith) };
     included = λ p. (λ h. inl h, λ h. elim h [ inl i ↦ i | inr q ↦ absurd (nothing_in q.0 q.1) ]);
     discovered = λ p h. absurd (nothing_in (discover p, h.0) h.1);
     to_discover = λ p h. inr (positions_from-have 0 initials p p (omega arith) h);
@@ -64,10 +64,11 @@ module _ {E : Type 0} (d : DependencyDirection) (links : List (Link E)) (initial
     leaves_discovered-more : (n : ℕ) → LeavesOne d links (λ p. IsAsked trace (discover p)) n → LeavesOne d links (λ p. IsAsked (trace ++ (question, handed) ∷ []) (discover p)) n
     leaves_discovered-more n l = (l.0, l.1, IsAsked-more (discover (near_end d l.0)) l.2)
 
-    IsOrderly-more : IsOrderly d links initials trace → ¬ IsAsked trace question → IsTimely d links initials trace question → IsOrderly d links initials (trace ++ (question, handed) ∷ [])
-    IsOrderly-more o new timely = record {
+    IsOrderly-more : IsOrderly d links initials trace → ¬ IsAsked trace question → IsTimely d links initials trace question → AreLinks links handed → IsOrderly d links initials (trace ++ (question, handed) ∷ [])
+    IsOrderly-more o new timely answer = record {
       once = EachAfter-push _ trace (question, handed) o.once new;
       timely = EachAfter-push _ trace (question, handed) o.timely timely;
+      answered = All-push (λ (entry : Question × List ℕ). AreLinks links entry.1) trace (question, handed) o.answered answer;
     }
 
     -- the links are followed
@@ -86,7 +87,7 @@ module _ {E : Type 0} (d : DependencyDirection) (links : List (Link E)) (initial
       ],
     )
 
-  module _ (trace : List (Question × List ℕ)) (s : List Bool) (handed added : List ℕ) (s' : List Bool) (a : Adds d links handed s added s') (waiting : List ℕ) (balance : length (waiting ++ added) + member_count s ≡ length waiting + member_count s') where
+  module _ (trace : List (Question × List ℕ)) (s : List Bool) (handed added : List ℕ) (s' : List Bool) (answer : AreLinks links handed) (a : Adds d links handed s added s') (waiting : List ℕ) (balance : length (waiting ++ added) + member_count s ≡ length waiting + member_count s') where
     -- the next position that waits is discovered
     Buffering-discovered : (p : ℕ) → Buffering d links initials trace s (waiting ++ p ∷ []) [] → Buffering d links initials (trace ++ (discover p, handed) ∷ []) s' (waiting ++ added) (links_at d links p)
     Buffering-discovered p b =
@@ -95,7 +96,7 @@ module _ {E : Type 0} (d : DependencyDirection) (links : List (Link E)) (initial
         let is_p : (r : ℕ) → q ≡ discover r → p ≡ r = λ r e. cc in
         let not_link : (n : ℕ) → q ≡ filter n → ⊥ = λ n e. cc in
         record {
-          orderly = IsOrderly-more trace q handed b.orderly (b.undiscovered p (Contains-push waiting p)) ((b.included p).0 w.1);
+          orderly = IsOrderly-more trace q handed b.orderly (b.undiscovered p (Contains-push waiting p)) ((b.included p).0 w.1) answer;
           included = included-more trace q handed s added s' a b.included;
           discovered = λ r h. elim (IsAsked-cases trace q handed (discover r) h) [
             | inl k ↦ (a.after_has r).1 (inl (b.discovered r k))
@@ -145,7 +146,7 @@ module _ {E : Type 0} (d : DependencyDirection) (links : List (Link E)) (initial
         let not_position : (p : ℕ) → q ≡ discover p → ⊥ = λ p e. cc in
         let asked_before : (p : ℕ) → IsAsked (trace ++ (q, handed) ∷ []) (discover p) → IsAsked trace (discover p) = λ p h. elim (IsAsked-cases trace q handed (discover p) h) [ inl k ↦ k | inr e ↦ absurd (not_position p e) ] in
         record {
-          orderly = IsOrderly-more trace q handed b.orderly (b.unfiltered n (Contains-first n left)) (b.row n (Contains-first n left));
+          orderly = IsOrderly-more trace q handed b.orderly (b.unfiltered n (Contains-first n left)) (b.row n (Contains-first n left)) answer;
           included = included-more trace q handed s added s' a b.included;
           discovered = λ p h. (a.after_has p).1 (inl (b.discovered p (asked_before p h)));
           to_discover = λ p h. elim ((a.after_has p).0 h) [
@@ -174,9 +175,9 @@ module _ {E : Type 0} (d : DependencyDirection) (links : List (Link E)) (initial
         }
 
   -- the position that is taken from those that wait is discovered
-  pub Buffering-followed : (trace : List (Question × List ℕ)) (s : List Bool) (handed added : List ℕ) (s' : List Bool) → Adds d links handed s added s' → (waiting waited waits : List ℕ) (p : ℕ) → waited ≡ waiting ++ p ∷ [] → waits ≡ waiting ++ added → length waits + member_count s ≡ length waiting + member_count s'
+  pub Buffering-followed : (trace : List (Question × List ℕ)) (s : List Bool) (handed added : List ℕ) (s' : List Bool) → AreLinks links handed → Adds d links handed s added s' → (waiting waited waits : List ℕ) (p : ℕ) → waited ≡ waiting ++ p ∷ [] → waits ≡ waiting ++ added → length waits + member_count s ≡ length waiting + member_count s'
       → Buffering d links initials trace s waited [] → Buffering d links initials (trace ++ (discover p, handed) ∷ []) s' waits (links_at d links p)
-  Buffering-followed trace s handed added s' a waiting waited waits p taken more balance b = rw more (Buffering-discovered trace s handed added s' a waiting (rw more at balance) p (rw taken at b))
+  Buffering-followed trace s handed added s' answer a waiting waited waits p taken more balance b = rw more (Buffering-discovered trace s handed added s' answer a waiting (rw more at balance) p (rw taken at b))
 
   -- The next question is answered by an error.
   module _ {T : Type 0} (answers : T → Question → Option (List ℕ) → T → Type 0) (trace : List (Question × List ℕ)) (s : List Bool) (waiting : List ℕ) (first state last : T) (asks : Asks answers first trace state) where
@@ -223,11 +224,11 @@ Takes-none d links s waiting row = record { after = λ initials trace h. rw appe
 
 module _ {E : Type 0} (d : DependencyDirection) (links : List (Link E)) (asked : List (Question × List ℕ)) (s : List Bool) (waiting row : List ℕ) (s' : List Bool) where
   -- one more link was asked about, and what was handed back followed
-  pub Takes-filtered : (handed added : List ℕ) (s'' : List Bool) (a : Adds d links handed s' added s'') (waiting' : List ℕ) (balance : length (waiting' ++ added) + member_count s' ≡ length waiting' + member_count s'') (n : ℕ) (left : List ℕ)
+  pub Takes-filtered : (handed added : List ℕ) (s'' : List Bool) (answer : AreLinks links handed) (a : Adds d links handed s' added s'') (waiting' : List ℕ) (balance : length (waiting' ++ added) + member_count s' ≡ length waiting' + member_count s'') (n : ℕ) (left : List ℕ)
       → Takes d links asked s waiting row s' waiting' (n ∷ left) → Takes d links (asked ++ (filter n, handed) ∷ []) s waiting row s'' (waiting' ++ added) left
-  Takes-filtered handed added s'' a waiting' balance n left h = record {
+  Takes-filtered handed added s'' answer a waiting' balance n left h = record {
     after = λ initials trace b. subst (λ all. Buffering d links initials all s'' (waiting' ++ added) left) (append_assoc trace asked ((filter n, handed) ∷ []))
-        (Buffering-filtered d links initials (trace ++ asked) s' handed added s'' a waiting' balance n left (h.after initials trace b));
+        (Buffering-filtered d links initials (trace ++ asked) s' handed added s'' answer a waiting' balance n left (h.after initials trace b));
   }
 
   -- the search stops where the filter answers an error of a link

@@ -1,5 +1,5 @@
 -- What a search with a buffered filter asks, and which positions it includes.
-use Rattle.std.specs.Prelude.{◌≡◌, ◌⊎◌, ◌↔◌, ℕ, Bool, true, if◌then◌else◌, List, [], ◌∷◌, Option, Some, None, MatchOption}
+use Rattle.std.specs.Prelude.{◌≡◌, ◌⊎◌, ◌↔◌, ℕ, ◌<◌, Bool, true, if◌then◌else◌, List, [], ◌∷◌, length, All, Option, Some, None, MatchOption}
 use Rattle.std.specs.List.{Contains, FoldsTo}
 use Rattle.std.specs.Borrow.{Bor}
 use Rattle.guppy_search.specs.declared.ix.direction.DependencyDirection.{DependencyDirection}
@@ -34,11 +34,16 @@ abbrev pub IsTimely : {E : Type 0} → DependencyDirection → List (Link E) →
 IsTimely d links initials before (discover p) = IsFound d links initials before p
 IsTimely d links initials before (filter n) = LeavesOne d links (λ p. IsAsked before (discover p)) n
 
--- no question is asked twice, and none too early
+-- each number is a link's
+abbrev pub AreLinks : {E : Type 0} → List (Link E) → List ℕ → Type 0
+AreLinks links = All (λ n. n < length links)
+
+-- no question is asked twice, and none too early; what is handed back are links
 pub record IsOrderly {E : Type 0} (d : DependencyDirection) (links : List (Link E))
     (initials : List Bool) (trace : List (Question × List ℕ)) : Type 0 where
   pub once : EachAfter (λ before entry. ¬ IsAsked before entry.0) trace
   pub timely : EachAfter (λ before entry. IsTimely d links initials before entry.0) trace
+  pub answered : All (λ (entry : Question × List ℕ). AreLinks links entry.1) trace
 
 -- the trace and the set judge a buffered resolve from the initial positions
 pub record JudgesBuffered {E : Type 0} (d : DependencyDirection) (links : List (Link E))

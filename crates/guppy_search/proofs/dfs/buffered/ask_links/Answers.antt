@@ -70,7 +70,7 @@ links-preserved g c =
       asked = (
         s.asked.0 ++ (filter n, c.in_ok-handed.handed.items) ∷ [],
         FoldsTo-push _ _ s.asked.0 _ (filter n, c.in_ok-handed.handed.items) _ s.asked.1 c.in_ok-handed.ensures.filters,
-        rw k.1 (Takes-filtered _ _ s.asked.0 _ _ _ _ _ _ _ k.2 _ balance n _ (rw e at s.asked.2)),
+        rw k.1 (Takes-filtered _ _ s.asked.0 _ _ _ _ _ _ _ c.in_ok-handed.ensures.links k.2 _ balance n _ (rw e at s.asked.2)),
       );
     }
 

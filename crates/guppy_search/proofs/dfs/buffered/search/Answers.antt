@@ -43,7 +43,7 @@ ask_links-requires-clause-ready g c =
     let k = c.follow_all.ensures.added in
     let answered = rw c.new.ensures at c.in_ok-handed.ensures.discovers in
     MayAskOn-along _ _ _ _ _ _ (s.searched.0 ++ (discover c.in-Some.position, c.in_ok-handed.handed.items) ∷ []) _ _ _ _ _ c.requires.ready
-    (Buffering-followed _ _ _ s.searched.0 _ _ _ _ k.2 _ _ _ c.in-Some.position c.in-Some.ensures.items k.1 c.follow_all.ensures.balance s.searched.1)
+    (Buffering-followed _ _ _ s.searched.0 _ _ _ _ c.in_ok-handed.ensures.links k.2 _ _ _ c.in-Some.position c.in-Some.ensures.items k.1 c.follow_all.ensures.balance s.searched.1)
     (FoldsTo-push _ _ s.searched.0 _ (discover c.in-Some.position, c.in_ok-handed.handed.items) _ s.searched.2 answered)
 
 pub returns-in_err-handed-clause-refused : goal.returns-in_err-handed-clause-refused
@@ -79,7 +79,7 @@ returns-in_err-ask_links-clause-refused g c =
     let answered = rw c.new.ensures at c.in_ok-handed.ensures.discovers in
     on_err c.from_residual-in_err-ask_links.result (
     c.in_err-ask_links.ensures.refused.after _ (s.searched.0 ++ (discover c.in-Some.position, c.in_ok-handed.handed.items) ∷ []) _
-    (Buffering-followed _ _ _ s.searched.0 _ _ _ _ k.2 _ _ _ c.in-Some.position c.in-Some.ensures.items k.1 c.follow_all.ensures.balance s.searched.1)
+    (Buffering-followed _ _ _ s.searched.0 _ _ _ _ c.in_ok-handed.ensures.links k.2 _ _ _ c.in-Some.position c.in-Some.ensures.items k.1 c.follow_all.ensures.balance s.searched.1)
     (FoldsTo-push _ _ s.searched.0 _ (discover c.in-Some.position, c.in_ok-handed.handed.items) _ s.searched.2 answered)
     )
 
@@ -96,7 +96,7 @@ positions-preserved g c =
       same_place = c.ask_links.ensures.same_place ∙ (c.in_ok-handed.ensures.same_place ∙ s.same_place);
       searched = (
         before ++ asked.0,
-        asked.2.after _ before (Buffering-followed _ _ _ s.searched.0 _ _ _ _ k.2 _ _ _ c.in-Some.position c.in-Some.ensures.items k.1 c.follow_all.ensures.balance s.searched.1),
+        asked.2.after _ before (Buffering-followed _ _ _ s.searched.0 _ _ _ _ c.in_ok-handed.ensures.links k.2 _ _ _ c.in-Some.position c.in-Some.ensures.items k.1 c.follow_all.ensures.balance s.searched.1),
         FoldsTo-append _ _ before _ asked.0 _ (FoldsTo-push _ _ s.searched.0 _ (discover c.in-Some.position, c.in_ok-handed.handed.items) _ s.searched.2 answered) asked.1,
       );
     }
