@@ -5,7 +5,7 @@ use Rattle.std.proofs.lemmas.Fn.{FoldsTo-push}
 use Rattle.std.proofs.lemmas.List.{map_push, append-nil, get_or-set_same, get_or-set_other}
 use Rattle.std.proofs.lemmas.List.Elements.{Contains-push, Contains-push_cases, Contains-append_left}
 use Rattle.std.proofs.lemmas.Bool.{cases_eq}
-use Rattle.guppy_core.specs.IxSet.{IsIn}
+use Rattle.guppy_search.specs.IxSet.{IsIn}
 use Rattle.guppy.specs.declared.metadata.PackageMetadata.{PackageMetadata}
 use Rattle.guppy_graph.specs.Graph.{GraphData}
 use Rattle.guppy.specs.Views.{PackageData, package_in, package_data}

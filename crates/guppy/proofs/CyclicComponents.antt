@@ -11,8 +11,8 @@ use Rattle.std.proofs.lemmas.List.Folds.{Any-from_list_any, list_any-from_Any}
 use Rattle.std.proofs.lemmas.Option.{slice_get_within, slice_get-get_or, get_or_from_slice_get}
 use Rattle.guppy_search.specs.declared.graph_core.link.Link.{Link}
 use Rattle.guppy_search.specs.declared.ix.direction.DependencyDirection.TheVariants.{Forward}
-use Rattle.guppy_core.specs.Graph.{NoLink, LinkIs}
-use Rattle.guppy_core.specs.Reach.{LinkStep}
+use Rattle.guppy_search.specs.Graph.{NoLink, LinkIs}
+use Rattle.guppy_search.specs.Reach.{LinkStep}
 use Rattle.guppy_data.specs.declared.records.PackageRecord.{PackageRecord}
 use Rattle.guppy_graph.specs.Cycles.{AreCyclic, AreOnOne, has_self_link, is_cyclic_component, cyclic_components}
 use Rattle.guppy_graph.specs.Graph.{GraphData, IsPackageGraph}

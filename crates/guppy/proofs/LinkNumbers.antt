@@ -2,7 +2,7 @@
 use Rattle.std.proofs.Common.{◌≡◌, ◌↔◌, refl, ap, subst, ℕ, List, map, Contains}
 use Rattle.std.specs.Prelude.{Option, Some, None, MatchOption, IsSomeAnd, slice_get}
 use Rattle.guppy_search.specs.declared.graph_core.link.Link.{Link}
-use Rattle.guppy_core.specs.Graph.{NoLink, LinkIs}
+use Rattle.guppy_search.specs.Graph.{NoLink, LinkIs}
 use Rattle.guppy_graph.specs.Graph.{GraphData}
 use Rattle.guppy.specs.Views.{LinkData, link_in}
 use Rattle.guppy.proofs.CyclicComponents.{Contains-map, from_map}

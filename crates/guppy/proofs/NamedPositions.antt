@@ -5,7 +5,7 @@ use Rattle.std.specs.List.{AllZip, Contains}
 use Rattle.std.proofs.lemmas.List.Elements.{Contains-get_or}
 use Rattle.std.proofs.Math.ListN.{get_or-map}
 use Rattle.std.proofs.lemmas.List.{length-map}
-use Rattle.guppy_core.specs.IxSet.{has, IsIn}
+use Rattle.guppy_search.specs.IxSet.{has, IsIn}
 use Rattle.guppy_search.specs.declared.ix.index_type.PackageIx.{PackageIx}
 use Rattle.guppy_data.specs.declared.records.PackageRecord.{PackageRecord}
 use Rattle.guppy_graph.specs.Ids.{HasId, DistinctBelow, ix_position}

@@ -7,7 +7,7 @@ use Rattle.std.proofs.lemmas.List.{reverse-reverse}
 use Rattle.guppy_search.specs.declared.ix.direction.DependencyDirection.{DependencyDirection}
 use Rattle.guppy_search.specs.declared.ix.direction.DependencyDirection.TheVariants.{Forward, Reverse}
 use Rattle.guppy_core.specs.Listing.{Stands, IsOnce, Precedes}
-use Rattle.guppy_core.specs.Reach.{Walk, here, step}
+use Rattle.guppy_search.specs.Reach.{Walk, here, step}
 use Rattle.guppy_core.specs.Sccs.{listed}
 use Rattle.guppy_core.specs.Topo.{LeadsOn}
 use Rattle.guppy_core.proofs.SetMembers.{kept_there}

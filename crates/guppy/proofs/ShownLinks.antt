@@ -5,8 +5,8 @@ use Rattle.std.proofs.lemmas.Fn.{chained_keeps}
 use Rattle.guppy_search.specs.declared.ix.direction.DependencyDirection.{DependencyDirection}
 use Rattle.guppy_search.specs.declared.ix.direction.DependencyDirection.TheVariants.{Forward, Reverse}
 use Rattle.guppy_search.specs.declared.graph_core.link.Link.{Link}
-use Rattle.guppy_core.specs.Links.{near_end}
-use Rattle.guppy_core.specs.Resolve.{IsShown, Visits, IsCallable}
+use Rattle.guppy_search.specs.Links.{near_end}
+use Rattle.guppy_search.specs.Resolve.{IsShown, Visits, IsCallable}
 use Rattle.guppy_data.specs.declared.records.PackageRecord.{PackageRecord}
 use Rattle.guppy_data.specs.declared.records.LinkRecord.{LinkRecord}
 use Rattle.guppy_graph.specs.Ids.{HasId}

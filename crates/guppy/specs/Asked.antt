@@ -1,7 +1,7 @@
 -- What a callback answers about packages, one after another.
 use Rattle.std.specs.Prelude.{◌≡◌, ◌↔◌, ℕ, Bool, List, ◌∷◌, ◌++◌, map}
 use Rattle.std.specs.List.{Contains, FoldsTo}
-use Rattle.guppy_core.specs.IxSet.{IsIn, IsUnion}
+use Rattle.guppy_search.specs.IxSet.{IsIn, IsUnion}
 use Rattle.guppy.specs.declared.metadata.PackageMetadata.{PackageMetadata}
 use Rattle.guppy_graph.specs.Graph.{GraphData}
 use Rattle.guppy.specs.Views.{package_in, package_data}

@@ -3,7 +3,7 @@ use Rattle.std.specs.Prelude.{◌≡◌, ℕ, List, Option, MatchOption, map, sl
 use Rattle.std.specs.Borrow.{Bor}
 use Rattle.std.specs.Slice.Iter.{iter_rest}
 use Rattle.guppy_search.specs.declared.ix.direction.DependencyDirection.{DependencyDirection}
-use Rattle.guppy_core.specs.Links.{near_end, far_end, links_at}
+use Rattle.guppy_search.specs.Links.{near_end, far_end, links_at}
 use Rattle.guppy.specs.declared.metadata.PackageMetadata.{PackageMetadata}
 use Rattle.guppy.specs.declared.metadata.links.PackageLinks.{PackageLinks}
 use Rattle.guppy.specs.declared.link.PackageLink.{PackageLink}

@@ -3,9 +3,9 @@ use Rattle.std.specs.Prelude.{◌≢◌, ℕ, List, Option, map}
 use Rattle.std.specs.List.{concat, filter, filter_map}
 use Rattle.guppy_search.specs.declared.ix.direction.DependencyDirection.{DependencyDirection}
 use Rattle.guppy_search.specs.declared.ix.direction.DependencyDirection.TheVariants.{Forward, Reverse}
-use Rattle.guppy_core.specs.IxSet.{has, IsIn}
+use Rattle.guppy_search.specs.IxSet.{has, IsIn}
 use Rattle.guppy_core.specs.Listing.{Precedes}
-use Rattle.guppy_core.specs.Reach.{Walk}
+use Rattle.guppy_search.specs.Reach.{Walk}
 use Rattle.guppy_core.specs.Sccs.{listed}
 use Rattle.guppy_data.specs.declared.records.PackageRecord.{PackageRecord}
 use Rattle.guppy.specs.Views.{PackageData, package_in}

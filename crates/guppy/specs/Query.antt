@@ -2,7 +2,7 @@
 use Rattle.std.specs.Prelude.{◌≡◌, ◌↔◌, ℕ, Bool, List, length, All}
 use Rattle.std.specs.List.{Contains}
 use Rattle.guppy_search.specs.declared.ix.direction.DependencyDirection.{DependencyDirection}
-use Rattle.guppy_core.specs.IxSet.{IsIn}
+use Rattle.guppy_search.specs.IxSet.{IsIn}
 use Rattle.guppy_data.specs.declared.records.PackageRecord.{PackageRecord}
 use Rattle.guppy_graph.specs.Ids.{HasId}
 use Rattle.guppy_graph.specs.Graph.{GraphData}

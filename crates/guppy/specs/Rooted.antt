@@ -4,7 +4,7 @@ use Rattle.std.specs.List.{filter_map}
 use Rattle.std.specs.Vec.Iter.{into_iter_items}
 use Rattle.guppy_search.specs.declared.ix.direction.DependencyDirection.{DependencyDirection}
 use Rattle.guppy_search.specs.declared.ix.direction.DependencyDirection.TheVariants.{Forward}
-use Rattle.guppy_core.specs.Reach.{LinkStep, Mutual}
+use Rattle.guppy_search.specs.Reach.{LinkStep, Mutual}
 use Rattle.guppy_core.specs.Roots.{IsRoot, AreRoots}
 use Rattle.guppy.specs.declared.set.roots.RootPackages.{RootPackages}
 use Rattle.guppy.specs.declared.set.roots.RootIds.{RootIds}

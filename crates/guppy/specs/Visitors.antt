@@ -1,7 +1,7 @@
 -- Links as a query's visitors are shown them, and what visitors and closures do there.
 use Rattle.std.specs.Prelude.{◌≡◌, ℕ, Bool, List}
 use Rattle.std.specs.Borrow.{Bor}
-use Rattle.guppy_core.specs.Resolve.{LeavesOne}
+use Rattle.guppy_search.specs.Resolve.{LeavesOne}
 use Rattle.guppy.specs.declared.link.PackageLink.{PackageLink}
 use Rattle.guppy.specs.Views.{LinkData, link_in, link_data}
 use Rattle.guppy_graph.specs.Ids.{HasId}

@@ -1,7 +1,7 @@
 -- The links of a set that are walked from its roots.
 use Rattle.std.specs.Prelude.{◌≡◌, ◌↔◌, ℕ, List, map, Contains}
 use Rattle.guppy_search.specs.declared.ix.direction.DependencyDirection.{DependencyDirection}
-use Rattle.guppy_core.specs.Walked.{AreWalked, IsLinkInside, HoldsComponents, numbers_of}
+use Rattle.guppy_search.specs.Walked.{AreWalked, IsLinkInside, HoldsComponents, numbers_of}
 use Rattle.guppy.specs.Views.{LinkData, link_in}
 use Rattle.guppy.specs.declared.set.links.WalkedLinks.{WalkedLinks}
 use Rattle.guppy.specs.Query.{SetData}

@@ -5,7 +5,7 @@
 ghost use Rattle.std.specs.Prelude.{◌≡◌, ◌<◌, length, Some, slice_get};
 ghost use Rattle.std.specs.Option.{option_copied, option_map};
 ghost use Rattle.std.specs.String.{string_bytes};
-ghost use Rattle.guppy_core.specs.Links.{seen_link};
+ghost use Rattle.guppy_search.specs.Links.{seen_link};
 ghost use Rattle.guppy_data.specs.DependencyReq.{seen_req};
 ghost use Rattle.guppy_data.specs.Utf8Path.{path_text};
 ghost use Rattle.guppy_graph.specs.DevOnly.{is_dev_only};

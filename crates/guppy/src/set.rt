@@ -1,6 +1,6 @@
 //! Sets of packages.
 ghost use Rattle.std.specs.Prelude.{◌≡◌, ◌↔◌, ◌==◌, [], ◌∷◌, IsTrue, IfOk, IfErr, OnOk, IsOk, length};
-ghost use Rattle.guppy_core.specs.IxSet.{member_count};
+ghost use Rattle.guppy_search.specs.IxSet.{member_count};
 ghost use Rattle.guppy.specs.Query.{IncludesId};
 ghost use Rattle.guppy_graph.specs.Ids.{IsKnown};
 ghost use Rattle.guppy_graph.specs.Refused.{NamesId, IsFirstUnknown};

@@ -1,6 +1,6 @@
 //! A caller of a filtered search, proved from the public clauses of that call alone.
 ghost use Rattle.std.specs.Prelude.{◌≡◌, ℕ, ◌<◌, Bool, false, List, length, All, IfOk, slice_index_or};
-ghost use Rattle.guppy_core.specs.Resolve.{JudgesResolve};
+ghost use Rattle.guppy_search.specs.Resolve.{JudgesResolve};
 
 use guppy_core::dfs::reachable_filtered;
 use guppy_core::graph_core::Graph;

@@ -13,17 +13,17 @@ use Rattle.guppy_search.specs.declared.graph_core.link.Link.{Link}
 use Rattle.guppy_search.specs.Resolve.{EachAfter}
 use Rattle.guppy_search.proofs.Members.{IsIn-below}
 use Rattle.guppy_search.proofs.Walks.{walk_on}
-use Rattle.guppy_core.specs.IxSet.{IsIn}
+use Rattle.guppy_search.specs.IxSet.{IsIn}
 use Rattle.guppy_core.specs.Listing.{IsOnce}
-use Rattle.guppy_core.specs.Reach.{LinkStep, ReachedFrom, here}
+use Rattle.guppy_search.specs.Reach.{LinkStep, ReachedFrom, here}
 use Rattle.guppy_core.proofs.Listings.{stands_contains, contains_stands}
 use Rattle.guppy_data.specs.declared.records.LinkRecord.{LinkRecord}
 use Rattle.guppy_data.specs.declared.records.PackageRecord.{PackageRecord}
-use Rattle.guppy.specs.Cycles.{AreCyclic}
-use Rattle.guppy.specs.Graph.{GraphData}
-use Rattle.guppy.specs.Ids.{HasId, IsKnown, ids_of}
+use Rattle.guppy_graph.specs.Cycles.{AreCyclic}
+use Rattle.guppy_graph.specs.Graph.{GraphData}
+use Rattle.guppy_graph.specs.Ids.{HasId, IsKnown, ids_of}
 use Rattle.guppy.specs.Query.{IsSetOfIds, SetData}
-use Rattle.guppy.specs.Members.{member_path}
+use Rattle.guppy_graph.specs.Members.{member_path}
 use Rattle.guppy.specs.Views.{LinkData, link_in, package_in}
 use Rattle.guppy.specs.Walked.{AreLinksInside, AreWalkedLinks, IsWhole}
 use Rattle.guppy.proofs.CyclicComponents.{Contains-map, from_map}

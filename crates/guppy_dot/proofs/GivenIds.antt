@@ -10,8 +10,8 @@ use Rattle.std.proofs.lemmas.Iterator.Consumers.{YieldsList-from_first, YieldsLi
 use Rattle.guppy_data.specs.declared.texts.error.Error.{Error}
 use Rattle.guppy_data.specs.declared.texts.error.Error.TheVariants.{PackageGraphConstructError, UnknownPackageId, UnknownFeatureId, UnknownWorkspacePath, UnknownWorkspaceName, PackageGraphInternalError, FeatureGraphInternalError, OutOfMemory}
 use Rattle.guppy_data.specs.declared.records.PackageRecord.{PackageRecord}
-use Rattle.guppy.specs.Ids.{IsKnown}
-use Rattle.guppy.specs.Refused.{NamesId, named_id, IsFirstUnknown, EndsInUnknown}
+use Rattle.guppy_graph.specs.Ids.{IsKnown}
+use Rattle.guppy_graph.specs.Refused.{NamesId, named_id, IsFirstUnknown, EndsInUnknown}
 use Rattle.guppy.specs.Read.{ReadsTo, text_now}
 use Rattle.guppy.proofs.UnknownTexts.{NamesText-along, first_unknown-read}
 

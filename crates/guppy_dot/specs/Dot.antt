@@ -4,13 +4,13 @@ use Rattle.std.specs.List.{AllZip, filter}
 use Rattle.guppy_search.specs.declared.ix.direction.DependencyDirection.TheVariants.{Forward}
 use Rattle.guppy_search.specs.declared.graph_core.link.Link.{Link}
 use Rattle.guppy_data.specs.declared.records.LinkRecord.{LinkRecord}
-use Rattle.guppy.specs.Cycles.{AreCyclic}
-use Rattle.guppy.specs.DevOnly.{is_absent, is_dev_only}
-use Rattle.guppy.specs.Graph.{GraphData}
-use Rattle.guppy.specs.Ids.{HasId}
-use Rattle.guppy.specs.Listing.{Stands, IsOnce}
-use Rattle.guppy.specs.Members.{IsMember}
-use Rattle.guppy.specs.Reach.{LinkStep, ReachedFrom}
+use Rattle.guppy_graph.specs.Cycles.{AreCyclic}
+use Rattle.guppy_graph.specs.DevOnly.{is_absent, is_dev_only}
+use Rattle.guppy_graph.specs.Graph.{GraphData}
+use Rattle.guppy_graph.specs.Ids.{HasId}
+use Rattle.guppy_core.specs.Listing.{Stands, IsOnce}
+use Rattle.guppy_graph.specs.Members.{IsMember}
+use Rattle.guppy_search.specs.Reach.{LinkStep, ReachedFrom}
 use Rattle.guppy.specs.Views.{PackageData, LinkData, package_in, link_in}
 use Rattle.guppy_dot.specs.declared.drawing.LinkStyle.{LinkStyle}
 use Rattle.guppy_dot.specs.declared.drawing.LinkStyle.TheVariants.{Solid, Dotted, Dashed}

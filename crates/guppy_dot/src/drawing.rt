@@ -2,10 +2,10 @@
 ghost use Rattle.std.specs.Prelude.{◌≡◌, ◌↔◌, ◌<◌, ℕ, IsTrue, IfOk, IsOkUnless, All, length, map};
 ghost use Rattle.std.specs.List.{AllZip};
 ghost use Rattle.guppy_data.specs.DependencyReq.{seen_req};
-ghost use Rattle.guppy.specs.Cycles.{AreCyclic};
-ghost use Rattle.guppy.specs.DevOnly.{is_absent};
-ghost use Rattle.guppy.specs.Ids.{HasId, IsKnown};
-ghost use Rattle.guppy.specs.IxSet.{IsIn};
+ghost use Rattle.guppy_graph.specs.Cycles.{AreCyclic};
+ghost use Rattle.guppy_graph.specs.DevOnly.{is_absent};
+ghost use Rattle.guppy_graph.specs.Ids.{HasId, IsKnown};
+ghost use Rattle.guppy_search.specs.IxSet.{IsIn};
 ghost use Rattle.guppy.specs.Views.{OfLink, graph_packages, link_data, package_data, package_position};
 ghost use Rattle.guppy.specs.Walked.{IsWhole};
 ghost use Rattle.guppy_dot.specs.Dot.{AreEdges, AreNodes, IsDrawing, IsDrawn, IsEdge, IsNode, drawing_shown, edge_shown, node_shown, style_of};

@@ -3,9 +3,9 @@ use Rattle.std.proofs.Common.{◌≡◌, ◌↔◌, ◌≤◌, ℕ, List, length
 use Rattle.std.specs.Prelude.{slice_get, IfSome, IfNone, IsSome}
 use Rattle.guppy_search.specs.declared.ix.direction.DependencyDirection.TheVariants.{Forward}
 use Rattle.guppy_search.specs.Reach.{LinkStep, Walk}
-use Rattle.guppy.specs.Depends.{DependsOn}
-use Rattle.guppy.specs.Graph.{GraphData}
-use Rattle.guppy.specs.Ids.{HasId, DistinctBelow}
+use Rattle.guppy_graph.specs.Depends.{DependsOn}
+use Rattle.guppy_graph.specs.Graph.{GraphData}
+use Rattle.guppy_graph.specs.Ids.{HasId, DistinctBelow}
 use Rattle.guppy.specs.Views.{package_position}
 use Rattle.guppy_graph.proofs.PackageIds.{position_is}
 use Rattle.guppy_extras.specs.declared.why.search.Search.{Search}

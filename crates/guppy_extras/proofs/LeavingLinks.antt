@@ -6,7 +6,7 @@ use Rattle.guppy_search.specs.Links.{links_at}
 use Rattle.guppy.specs.declared.link.PackageLink.{PackageLink}
 use Rattle.guppy.specs.declared.metadata.PackageMetadata.{PackageMetadata}
 use Rattle.guppy.specs.DirectLinks.{links_leaving}
-use Rattle.guppy.specs.Graph.{GraphData}
+use Rattle.guppy_graph.specs.Graph.{GraphData}
 use Rattle.guppy.specs.Views.{graph_of, package_position, link_graph, link_number, link_seen}
 use Rattle.guppy_extras.specs.Searches.{links_beside}
 

@@ -5,14 +5,14 @@ use Rattle.std.specs.Borrow.{Bor}
 use Rattle.std.specs.List.{cons_option, filter, filter_map}
 use Rattle.std.specs.Option.{option_and_then}
 use Rattle.std.proofs.lemmas.List.{append-nil, map_push}
-use Rattle.guppy_core.specs.Links.{numbers_where}
-use Rattle.guppy.specs.SearchTypes.graph_core.link.Link.{Link}
-use Rattle.guppy.specs.SearchTypes.ix.direction.DependencyDirection.TheVariants.{Reverse}
+use Rattle.guppy_search.specs.Links.{numbers_where}
+use Rattle.guppy_search.specs.declared.graph_core.link.Link.{Link}
+use Rattle.guppy_search.specs.declared.ix.direction.DependencyDirection.TheVariants.{Reverse}
 use Rattle.guppy.specs.DataTypes.records.LinkRecord.{LinkRecord}
 use Rattle.guppy.specs.DataTypes.records.PackageRecord.{PackageRecord}
 use Rattle.guppy.specs.DirectLinks.{links_leaving}
-use Rattle.guppy.specs.Graph.{GraphData}
-use Rattle.guppy.specs.Ids.{id_at}
+use Rattle.guppy_graph.specs.Graph.{GraphData}
+use Rattle.guppy_graph.specs.Ids.{id_at}
 use Rattle.guppy.specs.Listed.{ids_at}
 use Rattle.guppy.specs.Views.{graph_of, graph_packages, package_position, link_graph, link_number, link_seen, OfPackage, OfLink}
 use Rattle.guppy.specs.declared.link.PackageLink.{PackageLink}

@@ -21,7 +21,7 @@ use Rattle.guppy_core.proofs.Listings.{stands_contains, contains_stands}
 use Rattle.guppy_graph.proofs.KeyIndexes.{below_range}
 use Rattle.guppy_graph.proofs.Lists.{All-slice_get, some_at, some_of, of_some}
 use Rattle.guppy.specs.DataTypes.records.PackageRecord.{PackageRecord}
-use Rattle.guppy.specs.Graph.{GraphData}
+use Rattle.guppy_graph.specs.Graph.{GraphData}
 use Rattle.guppy.specs.Iterators.{packages_of}
 use Rattle.guppy.specs.PackageNames.{HasPackageName}
 use Rattle.guppy.specs.Views.{graph_of, graph_packages, package_position, package_seen}

@@ -16,7 +16,7 @@ use Rattle.guppy_search.proofs.Members.{member_count-le-length}
 use Rattle.guppy.specs.DataTypes.records.LinkRecord.{LinkRecord}
 use Rattle.guppy.specs.declared.link.PackageLink.{PackageLink}
 use Rattle.guppy.specs.declared.metadata.PackageMetadata.{PackageMetadata}
-use Rattle.guppy.specs.Graph.{GraphData}
+use Rattle.guppy_graph.specs.Graph.{GraphData}
 use Rattle.guppy.specs.Views.{graph_of, graph_packages, package_position, link_graph, link_number, OfLink}
 use Rattle.guppy_graph.proofs.Lists.{some_of, some_at}
 use Rattle.guppy_extras.specs.declared.why.search.Found.{Found}

@@ -9,9 +9,9 @@ use Rattle.std.specs.Ordering.{nat_cmp, on, then_cmp}
 use Rattle.std.specs.String.{string_bytes}
 use Rattle.semver.specs.Eval.{precedence_cmp}
 use Rattle.guppy.specs.DataTypes.records.PackageRecord.{PackageRecord}
-use Rattle.guppy.specs.Graph.{GraphData}
+use Rattle.guppy_graph.specs.Graph.{GraphData}
 use Rattle.guppy.specs.Listed.{ids_at}
-use Rattle.guppy.specs.Listing.{Stands, IsOnce, Precedes}
+use Rattle.guppy_core.specs.Listing.{Stands, IsOnce, Precedes}
 use Rattle.guppy.specs.PackageNames.{HasPackageName}
 
 -- another package has the name of the one at the position

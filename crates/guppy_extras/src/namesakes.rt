@@ -9,7 +9,7 @@
 ghost use Rattle.std.specs.Prelude.{◌≡◌, ◌↔◌, ◌<◌, IsTrue, IfOk, IsOkUnless, length, map, slice_get, IsSomeAnd};
 ghost use Rattle.std.specs.Option.{option_cmp};
 ghost use Rattle.std.specs.Borrow.{Bor};
-ghost use Rattle.guppy.specs.Graph.{GraphData};
+ghost use Rattle.guppy_graph.specs.Graph.{GraphData};
 ghost use Rattle.guppy.specs.Views.{graph_of, graph_packages, package_position};
 ghost use Rattle.guppy_extras.specs.Duplicates.{HasNamesake, AreDuplicates, by_name, row_of};
 ghost use Rattle.guppy_extras.specs.Sorted.{record_of, HaveOneName, AreSorted};

@@ -1,9 +1,9 @@
 //! Why a package is here: a shortest walk of links from one package to another. `search` is a breadth-first
 //! search over the links of a graph.
 ghost use Rattle.std.specs.Prelude.{◌≡◌, ◌↔◌, ◌∷◌, [], length, map, All, IfOk, IfErr, OnOk, IsSome, IfSome, IfNone};
-ghost use Rattle.guppy.specs.Depends.{DependsOn};
-ghost use Rattle.guppy.specs.Ids.{IsKnown, DistinctBelow, ix_position};
-ghost use Rattle.guppy.specs.Refused.{NamesId, IsFirstUnknown};
+ghost use Rattle.guppy_graph.specs.Depends.{DependsOn};
+ghost use Rattle.guppy_graph.specs.Ids.{IsKnown, DistinctBelow, ix_position};
+ghost use Rattle.guppy_graph.specs.Refused.{NamesId, IsFirstUnknown};
 ghost use Rattle.guppy.specs.Views.{graph_of, package_position, link_graph, link_number};
 ghost use Rattle.guppy_extras.specs.Walk.{IsWalk, NoneShorter, NoWalk, Between};
 

@@ -7,10 +7,10 @@ use Rattle.std.proofs.lemmas.Option.{slice_get_within, get_or_from_slice_get, sl
 use Rattle.guppy_search.specs.declared.graph_core.link.Link.{Link}
 use Rattle.guppy_search.specs.declared.graph_core.graph.GraphFault.{GraphFault}
 use Rattle.guppy_search.specs.declared.graph_core.graph.GraphFault.TheVariants.{TooManyNodes, TooManyLinks, UnknownEnd, RepeatedLink, OutOfMemory}
-use Rattle.guppy_core.specs.Links.{EndsBelow, is_unknown}
-use Rattle.guppy_core.specs.Pairs.{IsFirstRepeat, SinglesBelow}
-use Rattle.guppy_core.specs.Graph.{GraphValue, IsGraph}
-use Rattle.guppy_core.specs.Fault.{IsFault}
+use Rattle.guppy_search.specs.Links.{EndsBelow, is_unknown}
+use Rattle.guppy_search.specs.Pairs.{IsFirstRepeat, SinglesBelow}
+use Rattle.guppy_search.specs.Graph.{GraphValue, IsGraph}
+use Rattle.guppy_search.specs.Fault.{IsFault}
 use Rattle.guppy_data.specs.declared.records.PackageRecord.{PackageRecord}
 use Rattle.guppy_data.specs.declared.records.LinkRecord.{LinkRecord}
 use Rattle.guppy_data.specs.declared.records.WorkspaceRecord.{WorkspaceRecord}

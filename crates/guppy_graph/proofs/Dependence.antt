@@ -1,10 +1,10 @@
 -- Which packages depend on which, by the positions of their IDs.
 use Rattle.std.proofs.Common.{◌≡◌, ◌∙◌, refl, subst, ℕ, List, length, Bool, true}
 use Rattle.std.specs.Prelude.{Option, Some, None, is_some, MatchOption}
-use Rattle.guppy_core.specs.IxSet.{IsIn}
-use Rattle.guppy_core.specs.Reach.{LinkStep, Walk, ReachedFrom}
+use Rattle.guppy_search.specs.IxSet.{IsIn}
+use Rattle.guppy_search.specs.Reach.{LinkStep, Walk, ReachedFrom}
 use Rattle.guppy_search.specs.declared.ix.direction.DependencyDirection.TheVariants.{Forward}
-use Rattle.guppy_core.specs.Graph.{NoLink, LinkIs}
+use Rattle.guppy_search.specs.Graph.{NoLink, LinkIs}
 use Rattle.guppy_graph.specs.Ids.{HasId, DistinctBelow}
 use Rattle.guppy_graph.specs.Graph.{GraphData}
 use Rattle.guppy_graph.specs.Depends.{DependsOn, DirectlyDependsOn}

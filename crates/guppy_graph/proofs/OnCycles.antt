@@ -5,11 +5,11 @@ use Rattle.std.proofs.lemmas.Bool.{cases_eq}
 use Rattle.std.proofs.lemmas.Option.{slice_get_within, slice_get-get_or, get_or_from_slice_get}
 use Rattle.guppy_search.specs.declared.graph_core.link.Link.{Link}
 use Rattle.guppy_search.specs.declared.ix.direction.DependencyDirection.TheVariants.{Forward}
-use Rattle.guppy_core.specs.Graph.{NoLink, LinkIs}
-use Rattle.guppy_core.specs.Links.{EndsBelow}
+use Rattle.guppy_search.specs.Graph.{NoLink, LinkIs}
+use Rattle.guppy_search.specs.Links.{EndsBelow}
 use Rattle.guppy_core.specs.Listing.{Stands}
-use Rattle.guppy_core.specs.Reach.{LinkStep, Walk}
-use Rattle.guppy_core.specs.Reach.Walk.{here, step}
+use Rattle.guppy_search.specs.Reach.{LinkStep, Walk}
+use Rattle.guppy_search.specs.Reach.Walk.{here, step}
 use Rattle.guppy_core.specs.Sccs.{AreSccs, InOneBlock, InLargeBlock}
 use Rattle.guppy_search.proofs.Walks.{walk_on}
 use Rattle.guppy_core.proofs.Blocks.{sccs_below, sccs_cover, sccs_members, sccs_once}

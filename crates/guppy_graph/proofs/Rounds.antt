@@ -6,10 +6,10 @@ use Rattle.std.proofs.Math.ListN.{set, length-replicate}
 use Rattle.std.proofs.lemmas.Bool.{cases_lt}
 use Rattle.std.proofs.lemmas.Option.{slice_get-get_or, slice_get-map, slice_get_within, get_or_from_slice_get}
 use Rattle.guppy_search.specs.declared.graph_core.link.Link.{Link}
-use Rattle.guppy_core.specs.IxSet.{has}
+use Rattle.guppy_search.specs.IxSet.{has}
 use Rattle.guppy_search.proofs.Members.{has-replicate}
-use Rattle.guppy_core.specs.Links.{EndsBelow}
-use Rattle.guppy_core.specs.Graph.{NoLink, LinkIs}
+use Rattle.guppy_search.specs.Links.{EndsBelow}
+use Rattle.guppy_search.specs.Graph.{NoLink, LinkIs}
 use Rattle.guppy_core.specs.Topo.{HasNoCycle}
 use Rattle.guppy_core.specs.Cycle.{IsCycle, IsAcyclic}
 use Rattle.guppy_core.proofs.Cycles.{acyclic_steps}

@@ -13,7 +13,7 @@ use Rattle.semver.specs.declared.VersionReq.{VersionReq}
 use Rattle.semver.proofs.OnLiterals.{semver_on_literals}
 use Rattle.guppy_search.specs.declared.graph_core.link.Link.{Link}
 use Rattle.guppy_search.specs.declared.ix.direction.DependencyDirection.TheVariants.{Forward}
-use Rattle.guppy_core.specs.Links.{EndsBelow, links_at, numbers_where}
+use Rattle.guppy_search.specs.Links.{EndsBelow, links_at, numbers_where}
 use Rattle.guppy_data.specs.declared.records.BuildTargetRecord.{BuildTargetRecord}
 use Rattle.guppy_data.specs.declared.records.LinkRecord.{LinkRecord}
 use Rattle.guppy_data.specs.declared.texts.fault.VerifyFault.{VerifyFault}

@@ -3,7 +3,7 @@ use Rattle.std.specs.Prelude.{◌==◌, ℕ, Bool, ◌&&◌, ◌||◌, ltb, List
 use Rattle.std.specs.List.{Contains, filter, list_any}
 use Rattle.guppy_search.specs.declared.graph_core.link.Link.{Link}
 use Rattle.guppy_search.specs.declared.ix.direction.DependencyDirection.TheVariants.{Forward}
-use Rattle.guppy_core.specs.Reach.{LinkStep, Walk}
+use Rattle.guppy_search.specs.Reach.{LinkStep, Walk}
 use Rattle.guppy_graph.specs.Ids.{HasId}
 use Rattle.guppy_graph.specs.Graph.{GraphData}
 

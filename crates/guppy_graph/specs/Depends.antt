@@ -1,7 +1,7 @@
 -- Dependence between packages.
 use Rattle.std.specs.Prelude.{ℕ, List}
 use Rattle.guppy_search.specs.declared.ix.direction.DependencyDirection.TheVariants.{Forward}
-use Rattle.guppy_core.specs.Reach.{LinkStep, Walk}
+use Rattle.guppy_search.specs.Reach.{LinkStep, Walk}
 use Rattle.guppy_graph.specs.Ids.{HasId}
 use Rattle.guppy_graph.specs.Graph.{GraphData}
 

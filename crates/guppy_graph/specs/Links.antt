@@ -1,7 +1,7 @@
 -- The records of links, and the ends that they name.
 use Rattle.std.specs.Prelude.{◌≡◌, ℕ, List, length, slice_get, IsSomeAnd, All, map}
 use Rattle.guppy_search.specs.declared.graph_core.link.Link.{Link}
-use Rattle.guppy_core.specs.Links.{links_between}
+use Rattle.guppy_search.specs.Links.{links_between}
 use Rattle.guppy_data.specs.declared.records.PackageRecord.{PackageRecord}
 use Rattle.guppy_data.specs.declared.records.LinkRecord.{LinkRecord}
 use Rattle.guppy_graph.specs.Keys.{DifferBelow, IsFirstRepeat}

@@ -3,7 +3,7 @@ use Rattle.std.specs.Prelude.{ℕ, ◌*◌, Bool, not, List, length}
 use Rattle.std.specs.List.{concat}
 use Rattle.guppy_search.specs.declared.graph_core.link.Link.{Link}
 use Rattle.guppy_search.specs.declared.ix.direction.DependencyDirection.TheVariants.{Forward}
-use Rattle.guppy_core.specs.Reach.{LinkStep, Step}
+use Rattle.guppy_search.specs.Reach.{LinkStep, Step}
 use Rattle.guppy_core.specs.Cost.{AreLookedAt}
 use Rattle.guppy_core.specs.Topo.{IsTopo, FromRoot, HasNoCycle, LeadsOn}
 use Rattle.guppy_core.specs.Sccs.{AreSccs}

@@ -1,6 +1,6 @@
 -- What the parts of a package graph owe to its records.
 use Rattle.std.specs.Prelude.{◌≡◌, List}
-use Rattle.guppy_core.specs.Graph.{GraphValue, IsGraph}
+use Rattle.guppy_search.specs.Graph.{GraphValue, IsGraph}
 use Rattle.guppy_data.specs.declared.records.PackageRecord.{PackageRecord}
 use Rattle.guppy_data.specs.declared.records.LinkRecord.{LinkRecord}
 use Rattle.guppy_data.specs.declared.records.WorkspaceRecord.{WorkspaceRecord}

@@ -126,8 +126,8 @@ impl RecordGraph {
     ghost use Rattle.guppy_graph.specs.Targets.{HasTarget, IsNamed};
     ghost use Rattle.guppy_graph.specs.Depends.{DependsOn, DirectlyDependsOn};
     ghost use Rattle.guppy_graph.specs.Cycles.{HaveCycle};
-    ghost use Rattle.guppy_core.specs.Links.{seen_link};
-    ghost use Rattle.guppy_core.specs.Reach.{LinkStep};
+    ghost use Rattle.guppy_search.specs.Links.{seen_link};
+    ghost use Rattle.guppy_search.specs.Reach.{LinkStep};
     ghost use Rattle.guppy_graph.specs.Refused.{IsFirstUnknown, NamesId};
     ghost use Rattle.guppy_data.specs.Utf8Path.{path_text};
     ghost use Rattle.guppy_graph.specs.Members.{HasPath, HasName, IsMemberPath, IsMemberName, AreMembersByPath, AreMembersByName};

@@ -5,7 +5,7 @@ ghost use Rattle.guppy_graph.specs.DevOnly.{is_absent};
 ghost use Rattle.guppy_graph.specs.FirmCycles.{HasNoFirmCycle};
 ghost use Rattle.guppy_graph.specs.First.{IsFirstWithout};
 ghost use Rattle.guppy_graph.specs.Verified.{Accepts, HasSection, HasFittingKind, AreKindsFittingAt, IsFirstMisfit, IsVerified, IsLinkVerified, IsLinkFault, IsLeavingLinkFault, IsPackageVerified, IsPackageFault, IsFirstVerifyFault, IsVerifyFault, TellsVerifyFault};
-ghost use Rattle.guppy_core.specs.Links.{links_at};
+ghost use Rattle.guppy_search.specs.Links.{links_at};
 
 use crate::graph::RecordGraph;
 use guppy_core::DependencyDirection;

@@ -4,7 +4,7 @@ use Rattle.std.specs.Prelude.{Option, IsSomeAnd, MatchOption, is_some, slice_get
 use Rattle.std.specs.Option.{option_and_then}
 use Rattle.std.specs.List.{cons_option}
 use Rattle.std.proofs.lemmas.Option.{slice_get_within}
-use Rattle.guppy.specs.DataTypes.records.PackageRecord.{PackageRecord}
+use Rattle.guppy_data.specs.declared.records.PackageRecord.{PackageRecord}
 use Rattle.guppy.specs.Graph.{GraphData}
 use Rattle.guppy.specs.Ids.{HasId}
 use Rattle.guppy.specs.Listed.{ids_at}

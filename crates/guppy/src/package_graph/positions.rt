@@ -1,8 +1,8 @@
 //! The calls of a graph by position, which the modules of queries, sets and views share: each is that of
 //! the graph's records.
 ghost use Rattle.std.specs.Prelude.{◌≡◌, ◌↔◌, ◌<◌, [], ◌∷◌, IsTrue, IfOk, IfErr, IsOk, length, slice_get, Some, IsSomeAnd, MatchOption, All};
-ghost use Rattle.guppy_core.specs.Links.{seen_link};
-ghost use Rattle.guppy_core.specs.Reach.{LinkStep};
+ghost use Rattle.guppy_search.specs.Links.{seen_link};
+ghost use Rattle.guppy_search.specs.Reach.{LinkStep};
 ghost use Rattle.guppy_data.specs.Utf8Path.{path_text};
 ghost use Rattle.guppy_graph.specs.Keys.{DifferBelow};
 ghost use Rattle.guppy_graph.specs.Ids.{HasId, IsKnown, ix_position};

@@ -1,6 +1,6 @@
 //! Resolves that tell their trace: `Recorder` as a visitor of packages.
 ghost use Rattle.std.specs.Prelude.{◌≡◌, ℕ, ◌<◌, length, IfOk, IsOkUnless};
-ghost use Rattle.guppy_core.specs.Resolve.{JudgesResolve, Visits};
+ghost use Rattle.guppy_search.specs.Resolve.{JudgesResolve, Visits};
 ghost use Rattle.guppy.specs.Visitors.{VisitsAt, MayVisitAt};
 
 use crate::link::PackageLink;

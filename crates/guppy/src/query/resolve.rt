@@ -1,8 +1,8 @@
 //! What a query includes: over all links, or over those that a visitor accepts.
 ghost use Rattle.std.specs.Prelude.{◌≡◌, ◌↔◌, ℕ, ◌<◌, Bool, List, length, IfOk, OnErr, IsOkUnless};
-ghost use Rattle.guppy_core.specs.IxSet.{IsIn};
-ghost use Rattle.guppy_core.specs.Reach.{LinkStep, ReachedFrom};
-ghost use Rattle.guppy_core.specs.Resolve.{JudgesResolve, AcceptsAll, Visits, IsCallable};
+ghost use Rattle.guppy_search.specs.IxSet.{IsIn};
+ghost use Rattle.guppy_search.specs.Reach.{LinkStep, ReachedFrom};
+ghost use Rattle.guppy_search.specs.Resolve.{JudgesResolve, AcceptsAll, Visits, IsCallable};
 ghost use Rattle.guppy.specs.Visitors.{VisitsAt, MayVisitAt, CallsAt, MayCallAt};
 
 use crate::link::PackageLink;

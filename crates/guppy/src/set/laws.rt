@@ -1,8 +1,8 @@
 //! Laws on sets of packages, each stated by the contract of a function.
 ghost use Rattle.std.specs.Prelude.{◌≡◌, List, Bool, length};
 ghost use Rattle.guppy_search.specs.declared.ix.direction.DependencyDirection.{DependencyDirection};
-ghost use Rattle.guppy_core.specs.IxSet.{IsUnion};
-ghost use Rattle.guppy_core.specs.Reach.{IsPlainResolve};
+ghost use Rattle.guppy_search.specs.IxSet.{IsUnion};
+ghost use Rattle.guppy_search.specs.Reach.{IsPlainResolve};
 ghost use Rattle.guppy.specs.Query.{SetData};
 ghost use Rattle.guppy.specs.Walked.{IsWhole};
 

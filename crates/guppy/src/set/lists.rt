@@ -1,5 +1,5 @@
 ghost use Rattle.std.specs.Prelude.{◌≡◌, ◌↔◌, ℕ, ◌<◌, All, length};
-ghost use Rattle.guppy_core.specs.IxSet.{IsIn, member_count};
+ghost use Rattle.guppy_search.specs.IxSet.{IsIn, member_count};
 ghost use Rattle.guppy_core.specs.Listing.{Stands, IsOnce};
 
 use crate::metadata::PackageMetadata;

@@ -2,7 +2,7 @@
 ghost use Rattle.std.specs.Prelude.{◌≡◌, ◌↔◌, ℕ, ◌<◌, true, false, replicate, length, All, IsTrue, IfOk, IfErr, IsOkUnless, map};
 ghost use Rattle.std.specs.List.{Contains};
 ghost use Rattle.std.specs.Iterator.{IsFinite};
-ghost use Rattle.guppy_core.specs.IxSet.{IsIn};
+ghost use Rattle.guppy_search.specs.IxSet.{IsIn};
 ghost use Rattle.guppy.specs.Query.{IsSetOfIds, IsSetWhere};
 ghost use Rattle.guppy_graph.specs.Ids.{ix_position};
 ghost use Rattle.guppy_graph.specs.Graph.{IsPackageGraph};

@@ -1,6 +1,6 @@
 //! Sets made of two sets.
 ghost use Rattle.std.specs.Prelude.{◌≡◌, length, IfOk, IsOkUnless};
-ghost use Rattle.guppy_core.specs.IxSet.{IsUnion, IsIntersection, IsDifference, IsSymmetricDifference};
+ghost use Rattle.guppy_search.specs.IxSet.{IsUnion, IsIntersection, IsDifference, IsSymmetricDifference};
 ghost use Rattle.guppy_graph.specs.Ids.{ids_of};
 
 use crate::set::PackageSet;

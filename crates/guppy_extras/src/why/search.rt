@@ -1,6 +1,6 @@
 //! A breadth-first search over the links of a graph.
 ghost use Rattle.std.specs.Prelude.{◌≡◌, ℕ, ◌+◌, ◌<◌, List, ◌∷◌, length, map, All, IfOk, IfSome, OnOk, IfNone, Some, slice_get};
-ghost use Rattle.guppy.specs.Ids.{ix_position};
+ghost use Rattle.guppy_graph.specs.Ids.{ix_position};
 ghost use Rattle.guppy.specs.Views.{graph_of, package_position, link_graph, link_number};
 ghost use Rattle.guppy_extras.specs.Walk.{IsWalk, NoWalk};
 ghost use Rattle.guppy_extras.specs.Nodes.{Node, AreKept};

@@ -2,9 +2,9 @@ use Rattle.std.proofs.Common.{◌≡◌, ◌↔◌, ◌<◌, refl, sym, ℕ, Lis
 use Rattle.std.proofs.lemmas.Iterator.Consumers.{YieldsList-from_first}
 use Rattle.std.proofs.lemmas.Result.{err_from_is_err_and}
 use Rattle.guppy.specs.Iterators.{ids_left}
-use Rattle.guppy.specs.IxSet.{IsIn}
+use Rattle.guppy_search.specs.IxSet.{IsIn}
 use Rattle.guppy.specs.Query.{SetData}
-use Rattle.guppy.specs.Reach.{LinkStep, ReachedFrom}
+use Rattle.guppy_search.specs.Reach.{LinkStep, ReachedFrom}
 use Rattle.guppy.specs.Walked.{IsWhole}
 use Rattle.guppy_dot.proofs.Drawings.{all_from_all, permuted_known, reached_whole}
 use Rattle.guppy_dot.proofs.GivenIds.{IfOk-both, drained_ids, first_unknown-given, none_unknown}

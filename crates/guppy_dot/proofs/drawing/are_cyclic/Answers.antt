@@ -1,7 +1,7 @@
 use Rattle.std.proofs.Common.{◌↔◌, subst, Bor}
 use Rattle.std.specs.Prelude.{IsTrue}
-use Rattle.guppy.specs.Cycles.{AreCyclic}
-use Rattle.guppy.specs.Graph.{GraphData}
+use Rattle.guppy_graph.specs.Cycles.{AreCyclic}
+use Rattle.guppy_graph.specs.Graph.{GraphData}
 use Rattle.guppy_dot.proofs.drawing.are_cyclic.Goals as goal
 
 pub returns : goal.returns

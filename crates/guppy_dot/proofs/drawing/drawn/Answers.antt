@@ -1,9 +1,9 @@
 use Rattle.std.proofs.Common.{◌≡◌, ◌↔◌, ◌<◌, sym, arith, ℕ, length}
 use Rattle.std.proofs.lemmas.Iterator.{YieldsList-from_slice}
 use Rattle.std.proofs.lemmas.Result.{err_from_is_err_and}
-use Rattle.guppy.specs.IxSet.{IsIn}
+use Rattle.guppy_search.specs.IxSet.{IsIn}
 use Rattle.guppy.specs.Query.{SetData}
-use Rattle.guppy.specs.Reach.{LinkStep, ReachedFrom}
+use Rattle.guppy_search.specs.Reach.{LinkStep, ReachedFrom}
 use Rattle.guppy.specs.Walked.{IsWhole}
 use Rattle.guppy_dot.specs.Dot.{IsDrawn}
 use Rattle.guppy_dot.proofs.Drawings.{reached_drawn, reached_whole}

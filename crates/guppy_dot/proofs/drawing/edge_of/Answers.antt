@@ -1,8 +1,8 @@
 use Rattle.std.proofs.Common.{◌∙◌, ◌↔◌, subst, Bor}
 use Rattle.std.specs.Prelude.{IsTrue, slice_get}
-use Rattle.guppy.specs.Cycles.{AreCyclic}
-use Rattle.guppy.specs.Graph.{GraphData}
-use Rattle.guppy.specs.Ids.{HasId}
+use Rattle.guppy_graph.specs.Cycles.{AreCyclic}
+use Rattle.guppy_graph.specs.Graph.{GraphData}
+use Rattle.guppy_graph.specs.Ids.{HasId}
 use Rattle.guppy.specs.Views.{link_graph, link_number, package_position}
 use Rattle.guppy_dot.specs.Dot.{Edge}
 use Rattle.guppy_dot.proofs.Drawings.{link_there}

@@ -2,8 +2,8 @@ use Rattle.std.proofs.Common.{[], ◌∷◌, map, subst}
 use Rattle.std.specs.Borrow.{Bor}
 use Rattle.std.specs.Prelude.{IfSome, IfNone}
 use Rattle.std.proofs.lemmas.Result.{err_from_is_err_and}
-use Rattle.guppy.specs.Graph.{GraphData}
-use Rattle.guppy.specs.Ids.{HasId, ix_position}
+use Rattle.guppy_graph.specs.Graph.{GraphData}
+use Rattle.guppy_graph.specs.Ids.{HasId, ix_position}
 use Rattle.guppy.specs.Views.{package_position, link_number}
 use Rattle.guppy_graph.specs.Refused.{named_id}
 use Rattle.guppy_graph.proofs.UnknownTexts.{NamesText-along, first_unknown-cons, first_unknown-behind}

@@ -1,5 +1,5 @@
 use Rattle.std.proofs.Common.{◌≤◌, length, All}
-use Rattle.guppy_core.specs.Links.{links_between}
+use Rattle.guppy_search.specs.Links.{links_between}
 use Rattle.guppy_graph.specs.Accepted.{distinct_ids, ArePackagesAccepted}
 use Rattle.guppy_graph.specs.Indexes.{AreIndexes}
 use Rattle.guppy_graph.specs.Links.{AreEndsOf, AreEndsKnown}

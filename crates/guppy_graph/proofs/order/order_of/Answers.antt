@@ -1,7 +1,7 @@
 use Rattle.std.proofs.Common.{◌∙◌, length, arith}
 use Rattle.std.specs.List.{concat}
 use Rattle.guppy_search.specs.declared.ix.direction.DependencyDirection.TheVariants.{Forward}
-use Rattle.guppy_core.specs.Reach.{LinkStep}
+use Rattle.guppy_search.specs.Reach.{LinkStep}
 use Rattle.guppy_core.specs.Topo.{IsTopo, HasNoCycle, LeadsOn}
 use Rattle.guppy_core.specs.Sccs.{AreSccs}
 use Rattle.guppy_core.specs.Order.{IsOrder}

@@ -1,7 +1,7 @@
 use Rattle.std.proofs.Common.{◌∙◌, ap, sym, subst, ◌<◌, length, map, All}
 use Rattle.std.specs.List.{filter}
 use Rattle.guppy_search.specs.declared.ix.direction.DependencyDirection.TheVariants.{Forward}
-use Rattle.guppy_core.specs.Reach.{LinkStep}
+use Rattle.guppy_search.specs.Reach.{LinkStep}
 use Rattle.guppy_graph.specs.Cycles.{AreOnOne, is_cyclic_component}
 use Rattle.guppy.specs.Listed.{ids_at}
 use Rattle.guppy_graph.proofs.OnCycles.{blocks_below}

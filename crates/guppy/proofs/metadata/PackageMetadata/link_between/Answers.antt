@@ -3,7 +3,7 @@ use Rattle.guppy_graph.specs.Ids.{ix_position, HasId}
 use Rattle.guppy_graph.specs.Accepted.{distinct_ids}
 use Rattle.guppy_graph.proofs.Lists.{some_of, of_some}
 use Rattle.guppy_graph.proofs.PackageIds.{position_is}
-use Rattle.guppy_core.specs.Links.{near_end, far_end}
+use Rattle.guppy_search.specs.Links.{near_end, far_end}
 use Rattle.guppy.specs.Views.{graph_of, package_position}
 use Rattle.guppy.proofs.metadata.PackageMetadata.link_between.Goals as goal
 

@@ -1,4 +1,4 @@
-use Rattle.guppy_core.specs.Links.{seen_link}
+use Rattle.guppy_search.specs.Links.{seen_link}
 use Rattle.guppy_search.proofs.LinkEnds.{near-seen}
 use Rattle.guppy.specs.Views.{link_data}
 use Rattle.guppy.proofs.ShownLinks.{near_end-below, starts_there, starts_back}

@@ -1,6 +1,6 @@
 use Rattle.std.proofs.Common.{map, refl, subst}
 use Rattle.std.proofs.lemmas.Option.{slice_get_within}
-use Rattle.guppy_core.specs.Walked.{numbers_of}
+use Rattle.guppy_search.specs.Walked.{numbers_of}
 use Rattle.guppy.specs.Query.{SetData}
 use Rattle.guppy.specs.Views.{link_in}
 use Rattle.guppy.specs.Walked.{AreWalkedLinks, AreLinksInside, IsWhole}

@@ -1,6 +1,6 @@
 use Rattle.std.proofs.Common.{◌<◌, All, subst}
 use Rattle.std.specs.List.{concat}
-use Rattle.guppy_core.specs.IxSet.{has}
+use Rattle.guppy_search.specs.IxSet.{has}
 use Rattle.guppy_graph.specs.Graph.{IsPackageGraph}
 use Rattle.guppy_graph.specs.Ordered.{FirmStep}
 use Rattle.guppy_graph.proofs.Rounds.{no_firm_round}

@@ -2,7 +2,7 @@ use Rattle.std.proofs.Common.{sym, subst, ℕ, ◌<◌, [], map, length, arith, 
 use Rattle.std.specs.List.{Contains}
 use Rattle.std.proofs.lemmas.List.Elements.{All-cons, Contains-push}
 use Rattle.std.proofs.lemmas.Iterator.Adapters.{YieldsList-from_once}
-use Rattle.guppy_core.specs.IxSet.{IsIn}
+use Rattle.guppy_search.specs.IxSet.{IsIn}
 use Rattle.guppy_graph.specs.Ids.{ix_position}
 use Rattle.guppy_graph.specs.Accepted.{distinct_ids}
 use Rattle.guppy_graph.proofs.PackageIds.{within_of}

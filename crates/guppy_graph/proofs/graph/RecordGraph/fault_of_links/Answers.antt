@@ -3,7 +3,7 @@ use Rattle.std.proofs.lemmas.List.{take_all}
 use Rattle.std.proofs.lemmas.List.Elements.{All-more}
 use Rattle.std.proofs.lemmas.Option.{slice_get-get_or}
 use Rattle.guppy_search.specs.declared.ix.direction.DependencyDirection.TheVariants.{Forward}
-use Rattle.guppy_core.specs.Links.{links_at}
+use Rattle.guppy_search.specs.Links.{links_at}
 use Rattle.guppy_graph.specs.Verified.{IsLinkVerified}
 use Rattle.guppy_graph.proofs.VerifiedGraphs.{fault_lacks}
 use Rattle.guppy_graph.proofs.graph.RecordGraph.fault_of_links.Goals as goal

@@ -1,5 +1,5 @@
-use Rattle.guppy_core.specs.Links.{seen_link}
-use Rattle.guppy_core.specs.Graph.{NoLink, LinkIs}
+use Rattle.guppy_search.specs.Links.{seen_link}
+use Rattle.guppy_search.specs.Graph.{NoLink, LinkIs}
 use Rattle.guppy_graph.specs.Ids.{ix_position}
 use Rattle.guppy_graph.proofs.Rounds.{firm_by_link, firm_by_none}
 use Rattle.guppy_graph.proofs.graph.RecordGraph.has_firm_link.Goals as goal

@@ -2,8 +2,8 @@ use Rattle.std.proofs.Common.{◌≡◌, ◌∙◌, sym, subst, ⊎_elim, inl, i
 use Rattle.std.specs.Prelude.{◌↔◌, is_some, MatchOption}
 use Rattle.std.proofs.lemmas.Bool.{not-true, not-false, eqb-true, eq-eqb}
 use Rattle.guppy_search.specs.declared.ix.direction.DependencyDirection.TheVariants.{Forward}
-use Rattle.guppy_core.specs.Graph.{NoLink, LinkIs}
-use Rattle.guppy_core.specs.Reach.{LinkStep}
+use Rattle.guppy_search.specs.Graph.{NoLink, LinkIs}
+use Rattle.guppy_search.specs.Reach.{LinkStep}
 use Rattle.guppy_core.specs.Sccs.{InOneBlock, InLargeBlock}
 use Rattle.guppy_graph.specs.Cycles.{HaveCycle}
 use Rattle.guppy_graph.specs.Graph.{IsPackageGraph, GraphData}

@@ -1,5 +1,5 @@
 use Rattle.std.proofs.Common.{◌≡◌, sym, subst, ◌<◌, length, Some, slice_get}
-use Rattle.guppy_core.specs.Links.{EndsBelow, seen_link}
+use Rattle.guppy_search.specs.Links.{EndsBelow, seen_link}
 use Rattle.guppy_graph.proofs.Lists.{All-slice_get}
 use Rattle.guppy_graph.proofs.graph.RecordGraph.link_at.Goals as goal
 

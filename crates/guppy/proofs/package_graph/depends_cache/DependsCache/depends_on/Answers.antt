@@ -1,6 +1,6 @@
 use Rattle.std.proofs.Common.{subst}
 use Rattle.guppy_search.specs.declared.ix.direction.DependencyDirection.TheVariants.{Forward}
-use Rattle.guppy_core.specs.Reach.{LinkStep, Walk}
+use Rattle.guppy_search.specs.Reach.{LinkStep, Walk}
 use Rattle.guppy_graph.specs.Ids.{ix_position}
 use Rattle.guppy_graph.specs.Accepted.{distinct_ids}
 use Rattle.guppy_graph.proofs.PackageIds.{position_is}

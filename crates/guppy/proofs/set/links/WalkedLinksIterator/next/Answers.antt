@@ -1,7 +1,7 @@
 use Rattle.std.proofs.Common.{◌≡◌, [], ◌∷◌, All, ◌<◌, length, subst, sym, arith, Some, None}
 use Rattle.std.specs.Prelude.{MatchOption}
 use Rattle.std.proofs.lemmas.List.Elements.{All-tail}
-use Rattle.guppy_core.specs.Walked.{LinkEnds}
+use Rattle.guppy_search.specs.Walked.{LinkEnds}
 use Rattle.guppy_graph.specs.Ids.{ix_position}
 use Rattle.guppy.proofs.set.links.WalkedLinksIterator.next.Goals as goal
 

@@ -1,5 +1,5 @@
 use Rattle.std.proofs.Common.{◌≡◌, ◌-◌, length}
-use Rattle.guppy.specs.Ids.{ix_position}
+use Rattle.guppy_graph.specs.Ids.{ix_position}
 use Rattle.guppy_extras.specs.Nodes.{AreElsewhere}
 use Rattle.guppy_extras.specs.Searches.{nodes_of, IsUnderWay}
 use Rattle.guppy_extras.proofs.why.search.Search.find.Given as goal

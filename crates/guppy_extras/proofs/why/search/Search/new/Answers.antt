@@ -1,6 +1,6 @@
 use Rattle.std.proofs.Common.{◌≡◌, ◌<◌, ◌∙◌, ap, [], ◌∷◌, ◌++◌, length, set, true, None}
 use Rattle.std.specs.Borrow.{Bor}
-use Rattle.guppy.specs.Graph.{GraphData}
+use Rattle.guppy_graph.specs.Graph.{GraphData}
 use Rattle.guppy.specs.Views.{package_position, graph_packages}
 use Rattle.guppy_extras.specs.declared.why.search.Found.{Found}
 use Rattle.guppy_extras.proofs.PackageSteps.{under_way_first}
