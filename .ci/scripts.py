@@ -20,6 +20,7 @@ from pathlib import Path
 
 from metadata import try_asked, try_flags, try_given, try_metadata_refused, try_platforms
 from since import try_since, try_since_answers, try_since_locked, try_since_refused
+from tested import try_tests, try_tests_on_branches, try_tests_refused
 
 HERE = Path(__file__).resolve().parent
 TOP = HERE.parent
@@ -351,7 +352,7 @@ def try_installed(world):
     yield "no workspace", ran[0] == 3 and ran[2].endswith("metadata by --metadata FILE\n"), ran
     left = sorted(str(it.relative_to(prefix)) for it in prefix.rglob("*") if it.is_file())
     wanted = ["bin/cargo-guppy", "bin/guppy-cargo", "bin/guppy-run", "libexec/guppy/guppy-cargo", "libexec/guppy/guppy-run"]
-    wanted += [f"libexec/guppy/{it}.sh" for it in ("metadata", "platforms", "since", "start", "words")]
+    wanted += [f"libexec/guppy/{it}.sh" for it in ("metadata", "platforms", "since", "start", "tests", "words")]
     yield "nothing else is there", left == wanted and not world.left(), (left, world.left())
     metadata = world.room / "metadata.json"
     metadata.write_text("{}")
@@ -434,6 +435,9 @@ PARTS = {
     "changes, answers": (try_since_answers, []),
     "changes, a new lock file": (try_since_locked, []),
     "changes, refusals": (try_since_refused, []),
+    "tests of changes": (try_tests, []),
+    "tests of changes, on branches": (try_tests_on_branches, []),
+    "tests of changes, refusals": (try_tests_refused, []),
     "what cargo is asked": (try_asked, []),
     "flags that cargo gives": (try_flags, []),
     "members on a platform": (try_platforms, []),
