@@ -1,9 +1,10 @@
 """Tries `guppy-cargo test` on repositories that are made and changed here: which tests cargo runs, and what it is given."""
 
+import os
 import re
 from pathlib import Path
 
-from since import Changing, write
+from since import Changing, metadata_file, write
 
 # The job that docs/CI.md has for any shell.
 PAGE = Path(__file__).resolve().parent.parent / "docs/CI.md"
@@ -11,6 +12,12 @@ PASSES = "#[test]\nfn holds() {}\n"
 FAILS = "#[test]\nfn holds() {\n    panic!();\n}\n"
 NOTHING = "guppy-cargo: no member is affected, so there is nothing to test\n"
 LIBRARIES = ["--", "--lib"]
+
+
+def run(world, words, where):
+    """Runs a script of the clone, with what cargo builds tests by."""
+    path = {"PATH": f"{world.bin}:{os.environ['PATH']}"}
+    return world.run(words, where=where, environment=path)
 
 
 def tested(ran):
@@ -30,6 +37,7 @@ class Building(Changing):
         write(self.top / ".gitignore", "Cargo.lock\ntarget\n")
         for name in "abc":
             change(self, f"{name}/src/lib.rs")
+        metadata_file(self)
         self.commit()
 
 
@@ -37,9 +45,10 @@ class Building(Changing):
 
 
 def try_tests(world):
+    world.build()
     changing = Building(world.room / "repository", "a workspace")
     words = ["guppy-cargo", "test", "--since", "HEAD"]
-    ran = world.run([*words, *LIBRARIES], where=changing.root)
+    ran = run(world, [*words, *LIBRARIES], changing.root)
     yield "nothing changed", ran == (0, "", NOTHING), ran
     for what, path, wanted in (
         ("a member that none needs", "c/src/lib.rs", "c"),
@@ -49,16 +58,16 @@ def try_tests(world):
     ):
         change(changing, path, PASSES + f"// {what}\n")
         for place in (changing.root, changing.root / "b/src"):
-            ran = world.run([*words, *LIBRARIES], where=place)
+            ran = run(world, [*words, *LIBRARIES], place)
             yield f"{what}, from {place.name}", ran[0] == 0 and tested(ran) == wanted, ran
         changing.commit()
     change(changing, "docs/page.md", "")
-    ran = world.run([*words, "--ignore", "docs", *LIBRARIES], where=changing.root)
+    ran = run(world, [*words, "--ignore", "docs", *LIBRARIES], changing.root)
     yield "a file in a folder that is left out", ran == (0, "", NOTHING), ran
-    ran = world.run(["guppy-cargo", "test", "c/x", *LIBRARIES], where=changing.root)
+    ran = run(world, ["guppy-cargo", "test", "c/x", *LIBRARIES], changing.root)
     yield "a path that is given", ran[0] == 0 and tested(ran) == "c", ran
     change(changing, "c/src/lib.rs", FAILS)
-    ran = world.run([*words, "--ignore=docs", *LIBRARIES], where=changing.root)
+    ran = run(world, [*words, "--ignore=docs", *LIBRARIES], changing.root)
     yield "a test that fails", ran[0] == 101 and tested(ran) == "c", ran
     yield from try_given_words(world, changing, words)
 
@@ -81,7 +90,7 @@ def try_given_words(world, changing, words):
         (["--manifest-path", manifest, "--with", "show"], f"{packages}<--all-features><--manifest-path={manifest}>"),
         (["--with", "show", "--filter-platform=x86_64-unknown-linux-gnu"], f"{packages}<--all-features>"),
     ):
-        ran = world.run([*words, *given], where=changing.root)
+        ran = run(world, [*words, *given], changing.root)
         yield f"{given}", ran == (0, wanted, ""), ran
 
 
@@ -92,6 +101,7 @@ def job():
 
 def try_tests_on_branches(world):
     """The page's job plays through five changes, each on a branch of its own, and through a clone without their base."""
+    world.build()
     changing = Building(world.room / "repository")
     changing.git("update-ref", "refs/remotes/origin/main", "HEAD")
     (world.bin / "guppy-cargo").symlink_to(world.top / "guppy-cargo")
@@ -106,11 +116,11 @@ def try_tests_on_branches(world):
         write(changing.top / ".git/info/exclude", "*.ignored\n")
         change(changing, path, text)
         changing.commit()
-        ran = world.run(["sh", "-c", job()], where=changing.root)
+        ran = run(world, ["sh", "-c", job()], changing.root)
         is_right = tested(ran) == wanted and ran[0] == (101 if text == FAILS else 0)
         yield what, is_right and (NOTHING in ran[2]) == (not wanted), ran
     changing.git("update-ref", "-d", "refs/remotes/origin/main")
-    ran = world.run(["sh", "-c", job()], where=changing.root)
+    ran = run(world, ["sh", "-c", job()], changing.root)
     is_told = "git does not say what changed since unknown" in ran[2]
     yield "where git knows no base, everything is tested", ran[0] == 0 and tested(ran) == "abc" and is_told, ran
 
