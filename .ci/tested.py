@@ -22,7 +22,7 @@ def run(world, words, where):
 
 def tested(ran):
     """The packages whose unit tests cargo says that it ran."""
-    return "".join(sorted(set(re.findall(r"Running unittests \S+ \(\S*deps/(\w+)-", ran[2]))))
+    return "".join(sorted(set(re.findall(r"Running unittests \S+ \(.*deps/(\w+)-", ran[2]))))
 
 
 def change(changing, path, text=PASSES):
