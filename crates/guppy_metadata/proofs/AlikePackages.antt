@@ -13,7 +13,7 @@ use Rattle.guppy_data.specs.declared.records.PackagePublishRecord.TheVariants.{U
 use Rattle.guppy_data.specs.declared.records.PackageRecord.{PackageRecord}
 use Rattle.guppy_metadata.specs.Feature.{AreFeatures}
 use Rattle.guppy_metadata.specs.Members.{unless_null, IsText, IsListOf}
-use Rattle.guppy_metadata.specs.Package.{IsNamed, IsDescribed, IsFilled, IsDetailed, IsPublishable, IsRustVersion, AreAlike, AreAskedTargets, is_asked}
+use Rattle.guppy_metadata.specs.Package.{HasPlainFields, HasDescription, HasCargoFields, HasDetails, IsPublishable, IsRustVersion, AreAlike, AreAskedTargets, is_asked}
 use Rattle.guppy_metadata.specs.Table.{IsTable}
 use Rattle.guppy_metadata.specs.Target.{IsTarget}
 use Rattle.guppy_metadata.proofs.ObjectMembers.{texts_alike}
@@ -41,7 +41,7 @@ module _ (details : Bool) (d e : Json) (same : AreAlike details d e) where
   publish_alike Unrestricted is = present_alike d e (codes "publish") (plain_same (codes "publish") refl refl) ∙ is
   publish_alike (Registries names) is = present_alike d e (codes "publish") (plain_same (codes "publish") refl refl) ∙ is
 
-  pub named_alike : (r : PackageRecord) → IsNamed d r → IsNamed e r
+  pub named_alike : (r : PackageRecord) → HasPlainFields d r → HasPlainFields e r
   named_alike r is = record {
     known = record {
       id = sym (plain_same (codes "id") refl refl) ∙ is.known.id;
@@ -66,7 +66,7 @@ module _ (d e : Json) (same : AreAlike true d e) where
   detail_alike : (name : List ℕ) (text : Option (List ℕ)) → bytes_eq (codes "dependencies") name ≡ false → IsText name d text → IsText name e text
   detail_alike name text no_dependencies is = text_same d e name text (own_same name no_dependencies) is
 
-  described_alike : (r : PackageRecord) → IsDescribed d r → IsDescribed e r
+  described_alike : (r : PackageRecord) → HasDescription d r → HasDescription e r
   described_alike r is = record {
     authors = texts_alike d e (codes "authors") (map string_bytes r.authors.items) (own_same (codes "authors") refl) is.authors;
     license_file = detail_alike (codes "license_file") r.license_file refl is.license_file;
@@ -81,7 +81,7 @@ module _ (d e : Json) (same : AreAlike true d e) where
   rust_version_alike None is = detail_alike (codes "rust_version") None refl is
   rust_version_alike (Some version) is = (is.0, detail_alike (codes "rust_version") (Some is.0) refl is.1, is.2)
 
-  filled_alike : (r : PackageRecord) → IsFilled d r → IsFilled e r
+  filled_alike : (r : PackageRecord) → HasCargoFields d r → HasCargoFields e r
   filled_alike r is = record {
     metadata_table = subst (λ told. IsTable (unwrap_or told null) (view r.metadata_table)) (own_same (codes "metadata") refl) is.metadata_table;
     links = detail_alike (codes "links") (option_map string_bytes r.links) refl is.links;
@@ -91,7 +91,7 @@ module _ (d e : Json) (same : AreAlike true d e) where
   }
 
 -- the details, where they are read
-pub detailed_alike : (details : Bool) (d e : Json) (same : AreAlike details d e) (r : PackageRecord) → IsDetailed details d r → IsDetailed details e r
+pub detailed_alike : (details : Bool) (d e : Json) (same : AreAlike details d e) (r : PackageRecord) → HasDetails details d r → HasDetails details e r
 detailed_alike true d e same r is = record {
   described = λ all. described_alike d e same r (is.described all);
   filled = λ all. filled_alike d e same r (is.filled all);

@@ -13,7 +13,7 @@ use Rattle.guppy_data.specs.declared.records.WorkspaceRecord.{WorkspaceRecord}
 use Rattle.guppy_metadata.specs.declared.types.Package.{Package}
 use Rattle.guppy_metadata.specs.Links.{AreLinksWith, AreLinksOfList}
 use Rattle.guppy_metadata.specs.Members.{IsListOf, AreTexts, unless_null}
-use Rattle.guppy_metadata.specs.Package.{IsTold, AreTold}
+use Rattle.guppy_metadata.specs.Package.{IsParsedPackage, AreParsedPackages}
 use Rattle.guppy_metadata.specs.Table.{IsTable}
 use Rattle.guppy_metadata.specs.Told.{IsWith, IsOther}
 use Rattle.guppy_metadata.specs.Workspace.{IsBuildDirectory, IsWorkspace}
@@ -22,8 +22,8 @@ pub differs : (text other : List ℕ) → text ≢ other → bytes_eq text other
 differs text other not_same = false_from_ne_true _ (λ same. not_same ((bytes_eq-Decides text other).0 same))
 
 module _ (d e : Json) where
-  pub told_alike : (details : Bool) (packages : List Package) → get (codes "packages") d ≡ get (codes "packages") e → AreTold details d packages → AreTold details e packages
-  told_alike details packages same are = subst (λ o. IsSomeAnd o (λ told. IsListOf (IsTold details) told packages)) same are
+  pub told_alike : (details : Bool) (packages : List Package) → get (codes "packages") d ≡ get (codes "packages") e → AreParsedPackages details d packages → AreParsedPackages details e packages
+  told_alike details packages same are = subst (λ o. IsSomeAnd o (λ told. IsListOf (IsParsedPackage details) told packages)) same are
 
   pub links_alike : (details : Bool) (links : List LinkRecord) → get (codes "packages") d ≡ get (codes "packages") e → get (codes "resolve") d ≡ get (codes "resolve") e
       → AreLinksWith details d links → AreLinksWith details e links

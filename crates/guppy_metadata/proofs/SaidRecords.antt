@@ -9,7 +9,7 @@ use Rattle.guppy_data.specs.declared.records.WorkspaceRecord.{WorkspaceRecord}
 use Rattle.guppy_metadata.specs.declared.types.Package.{Package}
 use Rattle.guppy_metadata.specs.Links.{AreLinksOfAll, AreLinksOfList, nodes_in}
 use Rattle.guppy_metadata.specs.Members.{are_among, is_among, list_of}
-use Rattle.guppy_metadata.specs.Package.{AreTold, are_known}
+use Rattle.guppy_metadata.specs.Package.{AreParsedPackages, are_known}
 use Rattle.guppy_metadata.specs.Records.{AreRecordsWith}
 use Rattle.guppy_metadata.proofs.OnceTold.{items_once, list_once}
 use Rattle.guppy_metadata.proofs.Options.{some_told}
@@ -23,11 +23,11 @@ module _ (details : Bool) (d : Json) (records : List PackageRecord) (links : Lis
   pub members_there : (ids : List (List ℕ)) × (get (codes "workspace_members") d ≡ Some (list_of ids))
   members_there = (are.packages_are.1, are.packages_are.3)
 
-  pub packages_there : (packages : List Package) × AreTold details d packages
+  pub packages_there : (packages : List Package) × AreParsedPackages details d packages
   packages_there = (are.links_are.packages, are.links_are.packages_are)
 
   -- the links are those between whatever packages are read of it, of which each member is one
-  pub links_there : (packages : List Package) (nodes : List Json) (ids : List (List ℕ)) → AreTold details d packages → nodes_in d ≡ Some (array (items_of nodes)) → get (codes "workspace_members") d ≡ Some (list_of ids)
+  pub links_there : (packages : List Package) (nodes : List Json) (ids : List (List ℕ)) → AreParsedPackages details d packages → nodes_in d ≡ Some (array (items_of nodes)) → get (codes "workspace_members") d ≡ Some (list_of ids)
       → (are_known packages ids ≡ true) × AreLinksOfAll packages nodes links
   links_there packages nodes ids tells nodes_are ids_are =
       let root = are.packages_are.0 in

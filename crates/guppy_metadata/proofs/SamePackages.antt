@@ -21,7 +21,7 @@ use Rattle.guppy_metadata.specs.Dependency.{IsDeclared}
 use Rattle.guppy_metadata.specs.Fits.{used_name, takes, same_usage, is_used, suits, are_together, is_alone, fits, is_matched, are_matched}
 use Rattle.guppy_metadata.specs.Gathered.{IsLinkOf}
 use Rattle.guppy_metadata.specs.Links.{IsResolved, IsUnasked, IsAsked, IsLink, AreLinksOf, AreLinksOfList}
-use Rattle.guppy_metadata.specs.Package.{IsTold, AreTold, with_id}
+use Rattle.guppy_metadata.specs.Package.{IsParsedPackage, AreParsedPackages, with_id}
 use Rattle.guppy_metadata.proofs.AlikeDependencies.{IsSame, same_itself, declared_once, link_same}
 use Rattle.guppy_metadata.proofs.AlikeLists.{OptionsFit, each_itself, lists_fit, fits_too, picked_alike, counted_alike, any_passes_alike, all_pass_alike, last_alike}
 use Rattle.guppy_metadata.proofs.Libraries.{library_once}
@@ -47,7 +47,7 @@ alike_itself p = record {
 }
 
 -- one JSON tells such
-told_once : (details : Bool) (d : Json) (p q : Package) → IsTold details d p → IsTold details d q → IsAlike p q
+told_once : (details : Bool) (d : Json) (p q : Package) → IsParsedPackage details d p → IsParsedPackage details d q → IsAlike p q
 told_once details d p q is also = record {
   id = text_once d (codes "id") p.id.now q.id.now is.id also.id;
   name = text_once d (codes "name") (string_bytes p.record.name) (string_bytes q.record.name) is.named.known.name also.named.known.name;
@@ -59,8 +59,8 @@ told_once details d p q is also = record {
 }
 
 -- one list tells such, place by place
-packages_once : (details : Bool) (d : Json) (packages others : List Package) → AreTold details d packages → AreTold details d others → AllZip IsAlike packages others
-packages_once details d packages others are also = lists_fit (IsTold details) (IsTold details) IsAlike (told_once details) (get (codes "packages") d) packages others are also
+packages_once : (details : Bool) (d : Json) (packages others : List Package) → AreParsedPackages details d packages → AreParsedPackages details d others → AllZip IsAlike packages others
+packages_once details d packages others are also = lists_fit (IsParsedPackage details) (IsParsedPackage details) IsAlike (told_once details) (get (codes "packages") d) packages others are also
 
 with_id_same : (id : List ℕ) (packages others : List Package) → AllZip IsAlike packages others → OptionsFit IsAlike (with_id id packages) (with_id id others)
 with_id_same id packages others all =
@@ -179,6 +179,6 @@ pub asked_once : (packages : List Package) (from : List ℕ) (d : Json) (r : Lin
 asked_once packages from d r is resolved resolved_is = asked_between packages packages (each_itself IsAlike alike_itself packages) from d r is resolved resolved_is
 
 -- what is told of links between packages is told of those between the packages that the same JSON tells
-pub links_between_told : (details : Bool) (d : Json) (packages others : List Package) (nodes : Json) (links : List LinkRecord) → AreTold details d packages → AreTold details d others
+pub links_between_told : (details : Bool) (d : Json) (packages others : List Package) (nodes : Json) (links : List LinkRecord) → AreParsedPackages details d packages → AreParsedPackages details d others
     → AreLinksOfList others nodes links → AreLinksOfList packages nodes links
 links_between_told details d packages others nodes links are also = links_of_list_between others packages (packages_once details d others packages also are) nodes links

@@ -14,7 +14,7 @@ use Rattle.guppy_metadata.specs.Dependency.{NamesSection}
 use Rattle.guppy_metadata.specs.Fits.{fits, are_matched}
 use Rattle.guppy_metadata.specs.Gathered.{IsGathered, IsLinkOf}
 use Rattle.guppy_metadata.specs.Members.{IsObject, IsText, IsListOf}
-use Rattle.guppy_metadata.specs.Package.{AreTold, with_id}
+use Rattle.guppy_metadata.specs.Package.{AreParsedPackages, with_id}
 
 -- the link leads from one ID to another, and has this name in the code
 pub record Joins (from to name : List ℕ) (r : LinkRecord) : Type 0 where
@@ -94,7 +94,7 @@ nodes_in d = option_and_then (get (codes "nodes")) (get (codes "resolve") d)
 -- the links of what is resolved, between the packages, with details or without
 pub record AreLinksWith (details : Bool) (d : Json) (links : List LinkRecord) : Type 0 where
   pub packages : List Package
-  pub packages_are : AreTold details d packages
+  pub packages_are : AreParsedPackages details d packages
   pub links_are : IsSomeAnd (nodes_in d) (λ nodes. AreLinksOfList packages nodes links)
 
 -- the links of what is resolved, between the packages

@@ -45,7 +45,7 @@ IsPublishable d (Registries names) =
     present (codes "publish") d ≡ Some (list_of (map string_bytes names.items))
 
 -- what each package has
-pub record IsKnown (d : Json) (r : PackageRecord) : Type 0 where
+pub record HasIdentity (d : Json) (r : PackageRecord) : Type 0 where
   pub id : get (codes "id") d ≡ Some (string r.id)
   pub name : get (codes "name") d ≡ Some (string (string_bytes r.name))
   pub version : (text : List ℕ) × (get (codes "version") d ≡ Some (string text))
@@ -54,19 +54,19 @@ pub record IsKnown (d : Json) (r : PackageRecord) : Type 0 where
   pub edition : get (codes "edition") d ≡ Some (string (string_bytes r.edition))
 
 -- what of a package may be left out by Cargo, and is read with details or without
-pub record IsShown (d : Json) (r : PackageRecord) : Type 0 where
+pub record HasSummary (d : Json) (r : PackageRecord) : Type 0 where
   pub description : IsText (codes "description") d (option_map string_bytes r.description)
   pub license : IsText (codes "license") d (option_map string_bytes r.license)
   pub repository : IsText (codes "repository") d (option_map string_bytes r.repository)
   pub publish : IsPublishable d r.publish
 
 -- what is read of each package, with details or without
-pub record IsNamed (d : Json) (r : PackageRecord) : Type 0 where
-  pub known : IsKnown d r
-  pub shown : IsShown d r
+pub record HasPlainFields (d : Json) (r : PackageRecord) : Type 0 where
+  pub known : HasIdentity d r
+  pub shown : HasSummary d r
 
 -- what else is told of a package for people
-pub record IsDescribed (d : Json) (r : PackageRecord) : Type 0 where
+pub record HasDescription (d : Json) (r : PackageRecord) : Type 0 where
   pub authors : AreTexts (codes "authors") d (map string_bytes r.authors.items)
   pub license_file : IsText (codes "license_file") d r.license_file
   pub categories : AreTexts (codes "categories") d (map string_bytes r.categories.items)
@@ -100,7 +100,7 @@ abbrev pub AreNamedFeatures : Json → List (String Global × Vec NamedFeatureDe
 AreNamedFeatures d features = IsSomeAnd (get (codes "features") d) (λ told. AreFeatures told features)
 
 -- what else is told of a package for Cargo
-pub record IsFilled (d : Json) (r : PackageRecord) : Type 0 where
+pub record HasCargoFields (d : Json) (r : PackageRecord) : Type 0 where
   pub metadata_table : IsTable (unwrap_or (get (codes "metadata") d) null) (view r.metadata_table)
   pub links : IsText (codes "links") d (option_map string_bytes r.links)
   pub default_run : IsText (codes "default_run") d (option_map string_bytes r.default_run)
@@ -108,7 +108,7 @@ pub record IsFilled (d : Json) (r : PackageRecord) : Type 0 where
   pub features : IsSomeAnd (get (codes "features") d) (λ told. AreFeatures told r.named_features.entries)
 
 -- nothing of this is told of a package
-pub record IsPlain (r : PackageRecord) : Type 0 where
+pub record HasNoDetails (r : PackageRecord) : Type 0 where
   pub authors : r.authors.items ≡ []
   pub license_file : r.license_file ≡ None
   pub categories : r.categories.items ≡ []
@@ -124,10 +124,10 @@ pub record IsPlain (r : PackageRecord) : Type 0 where
   pub optional_deps : r.optional_deps.keys ≡ []
 
 -- the details that are told of a package, or none of them where they are left out
-pub record IsDetailed (details : Bool) (d : Json) (r : PackageRecord) : Type 0 where
-  pub described : details ≡ true → IsDescribed d r
-  pub filled : details ≡ true → IsFilled d r
-  pub plain : details ≡ false → IsPlain r
+pub record HasDetails (details : Bool) (d : Json) (r : PackageRecord) : Type 0 where
+  pub described : details ≡ true → HasDescription d r
+  pub filled : details ≡ true → HasCargoFields d r
+  pub plain : details ≡ false → HasNoDetails r
 
 -- these are the build targets that are told of a package
 abbrev pub AreTargets : Json → List BuildTargetRecord → Type 0
@@ -147,11 +147,11 @@ abbrev pub AreDeclared : Bool → Json → List Declared → Type 0
 AreDeclared details d declared = IsSomeAnd (get (codes "dependencies") d) (λ told. IsListOf (IsDeclared details) told declared)
 
 -- a package as the JSON tells it, but for where it comes from
-pub record IsTold (details : Bool) (d : Json) (p : Package) : Type 0 where
+pub record IsParsedPackage (details : Bool) (d : Json) (p : Package) : Type 0 where
   pub id : get (codes "id") d ≡ Some (string p.id.now)
   pub source : IsText (codes "source") d (option_copied p.source)
-  pub named : IsNamed d p.record
-  pub detailed : IsDetailed details d p.record
+  pub named : HasPlainFields d p.record
+  pub detailed : HasDetails details d p.record
   pub targets : AreAskedTargets details d p.record.build_targets.items
   pub library : IsLibrary d (option_map string_bytes p.library)
   pub declared : AreDeclared details d p.declared.items
@@ -171,11 +171,11 @@ abbrev pub AreAlike : Bool → Json → Json → Type 0
 AreAlike details d e = (name : List ℕ) → IsOwn details name → get name d ≡ get name e
 
 -- the packages that the JSON tells
-abbrev pub AreTold : Bool → Json → List Package → Type 0
-AreTold details d packages = IsSomeAnd (get (codes "packages") d) (λ told. IsListOf (IsTold details) told packages)
+abbrev pub AreParsedPackages : Bool → Json → List Package → Type 0
+AreParsedPackages details d packages = IsSomeAnd (get (codes "packages") d) (λ told. IsListOf (IsParsedPackage details) told packages)
 
 -- the second is the first package, whose dependencies may have been let go
-pub record IsLetGo (p q : Package) : Type 0 where
+pub record IsSlimPackage (p q : Package) : Type 0 where
   pub id : p.id ≡ q.id
   pub source : p.source ≡ q.source
   pub library : p.library ≡ q.library
@@ -183,23 +183,23 @@ pub record IsLetGo (p q : Package) : Type 0 where
   pub declared : (p.declared.items ≡ q.declared.items) ⊎ (q.declared.items ≡ [])
 
 -- the packages that the JSON tells, whose dependencies may have been let go
-pub record AreLeft (details : Bool) (d : Json) (packages : List Package) : Type 0 where
+pub record AreSlimPackages (details : Bool) (d : Json) (packages : List Package) : Type 0 where
   pub whole : List Package
-  pub told : AreTold details d whole
-  pub left : AllZip IsLetGo whole packages
+  pub told : AreParsedPackages details d whole
+  pub left : AllZip IsSlimPackage whole packages
 
 -- the record of the package, in a workspace at the root of which these IDs are the members
 pub record IsRecordOf (root : List ℕ) (is_member : List ℕ → Bool) (p : Package) (r : PackageRecord) : Type 0 where
   pub source : IsFrom root r.manifest_path (is_member p.id.now) (option_copied p.source) r.source
-  pub named : (d : Json) → IsNamed d p.record → IsNamed d r
-  pub detailed : (details : Bool) (d : Json) → IsDetailed details d p.record → IsDetailed details d r
+  pub named : (d : Json) → HasPlainFields d p.record → HasPlainFields d r
+  pub detailed : (details : Bool) (d : Json) → HasDetails details d p.record → HasDetails details d r
   pub targets : r.build_targets ≡ p.record.build_targets
   pub optional : r.optional_deps ≡ p.record.optional_deps
 
 -- a package's record, in a workspace at the root of which these IDs are the members
 pub record IsPackage (details : Bool) (root : List ℕ) (is_member : List ℕ → Bool) (d : Json) (r : PackageRecord) : Type 0 where
-  pub named : IsNamed d r
-  pub detailed : IsDetailed details d r
+  pub named : HasPlainFields d r
+  pub detailed : HasDetails details d r
   pub targets : AreAskedTargets details d r.build_targets.items
   pub optional : details ≡ true → IsSomeAnd (get (codes "dependencies") d) (λ told. AreOptional told r.optional_deps)
   pub source : Option (List ℕ)

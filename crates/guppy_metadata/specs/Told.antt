@@ -6,7 +6,7 @@ use Rattle.json.specs.Find.{get}
 use Rattle.json.specs.Value.{members_view}
 use Rattle.guppy_metadata.specs.declared.types.Told.{Told}
 use Rattle.guppy_metadata.specs.Links.{AreLinksWith}
-use Rattle.guppy_metadata.specs.Package.{AreLeft}
+use Rattle.guppy_metadata.specs.Package.{AreSlimPackages}
 
 -- the members of the second object are those of the first, and behind them this one
 abbrev pub IsWith : List ℕ → Json → Json → Json → Type 0
@@ -18,6 +18,6 @@ IsOther name = (bytes_eq (codes "packages") name ≡ false) × (bytes_eq (codes 
 
 -- the object of the first members tells this
 pub record Tells (details : Bool) (d : Json) (told : Told) : Type 0 where
-  pub packages_are : IfSome told.packages (λ packages. AreLeft details d packages.items)
+  pub packages_are : IfSome told.packages (λ packages. AreSlimPackages details d packages.items)
   pub links_are : IfSome told.links (λ links. AreLinksWith details d links.items)
   pub others_are : (name : List ℕ) → IsOther name → get name (object (members_view told.others.items)) ≡ get name d

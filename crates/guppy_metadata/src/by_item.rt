@@ -4,7 +4,7 @@ ghost use Rattle.json.specs.Json.{Json, document};
 ghost use Rattle.json.specs.Find.{get};
 ghost use Rattle.guppy_metadata.specs.Links.{AreLinksWith};
 ghost use Rattle.guppy_metadata.specs.Members.{data_of};
-ghost use Rattle.guppy_metadata.specs.Package.{AreLeft};
+ghost use Rattle.guppy_metadata.specs.Package.{AreSlimPackages};
 ghost use Rattle.guppy_metadata.specs.Records.{AreRecordsWith};
 ghost use Rattle.guppy_metadata.specs.Told.{IsOther, Tells};
 
@@ -27,7 +27,7 @@ fn records_with(
 ) -> Result<Records, Misfit>
     ensures { IfOk result (λ r. (details : Bool) (d : Json)
         → ((name : List ℕ) → IsOther name → get name (data_of metadata.entry) ≡ get name d)
-        → AreLeft details d packages.entry.items → AreLinksWith details d links.items
+        → AreSlimPackages details d packages.entry.items → AreLinksWith details d links.items
         → AreRecordsWith details d r.packages.items r.links.items r.workspace) }
 {
     let alloc = metadata.alloc;

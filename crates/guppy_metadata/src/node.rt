@@ -5,7 +5,7 @@ ghost use Rattle.json.specs.Json.{Json, value};
 ghost use Rattle.guppy_data.specs.declared.records.LinkRecord.{LinkRecord};
 ghost use Rattle.guppy_metadata.specs.Links.{AreLinksOf};
 ghost use Rattle.guppy_metadata.specs.Node.{TellsNode};
-ghost use Rattle.guppy_metadata.specs.Package.{IsLetGo, ArePositions};
+ghost use Rattle.guppy_metadata.specs.Package.{IsSlimPackage, ArePositions};
 ghost use Rattle.guppy_metadata.specs.Told.{IsWith};
 
 use crate::link::{Packages, read_links};
@@ -81,7 +81,7 @@ fn let_go(
     positions: &IndexMap<String, usize>,
     id: &str,
 )
-    ensures { AllZip IsLetGo packages.old packages.new }
+    ensures { AllZip IsSlimPackage packages.old packages.new }
 {
     let Some(position) = positions.get(id) else {
         return;
@@ -104,7 +104,7 @@ pub(crate) fn read_node(
     ensures links { OnSome result ((told : Json) × (value 125 reader.old ≡ Some (told, reader.new))
         × (row : List LinkRecord) × (links.new.items ≡ links.old.items ++ row)
         × AreLinksOf packages.old told row) }
-    ensures left { OnSome result (AllZip IsLetGo packages.old packages.new) }
+    ensures left { OnSome result (AllZip IsSlimPackage packages.old packages.new) }
 {
     let known = Packages {
         packages: &*packages,

@@ -9,7 +9,7 @@ ghost use Rattle.guppy_data.specs.Utf8Path.{path_text};
 ghost use Rattle.guppy_metadata.specs.Dependency.{NamesOptional};
 ghost use Rattle.guppy_metadata.specs.Fault.{NoneIs, IsRead};
 ghost use Rattle.guppy_metadata.specs.Members.{data_of, is_among, is_in_set, IsText};
-ghost use Rattle.guppy_metadata.specs.Package.{IsFrom, IsNamed, IsKnown, IsShown, IsDescribed, AreNamedFeatures, IsFilled, IsPlain, IsDetailed, IsTold, IsRecordOf, IsPublishable, IsRustVersion, AreAskedTargets, IsLibrary, AreDeclared, AreTold, AreAlike, ArePositions, dots_in, zeros_behind, whole_version};
+ghost use Rattle.guppy_metadata.specs.Package.{IsFrom, HasPlainFields, HasIdentity, HasSummary, HasDescription, AreNamedFeatures, HasCargoFields, HasNoDetails, HasDetails, IsParsedPackage, IsRecordOf, IsPublishable, IsRustVersion, AreAskedTargets, IsLibrary, AreDeclared, AreParsedPackages, AreAlike, ArePositions, dots_in, zeros_behind, whole_version};
 
 use crate::declared::{declared_dependencies, optional_names};
 use crate::fault::Misfit;
@@ -39,10 +39,10 @@ fn optional_path(json: Object<'_, '_>, name: &str) -> Result<Option<Utf8PathBuf>
 
 // Fills in what else is told of a package for people.
 fn describe(made: &mut PackageRecord, json: Object<'_, '_>) -> Result<(), Misfit>
-    ensures described { OnOk result (IsDescribed (data_of json.entry) made.new) }
-    ensures refused { IfErr result (NoneIs (IsDescribed (data_of json.entry))) }
+    ensures described { OnOk result (HasDescription (data_of json.entry) made.new) }
+    ensures refused { IfErr result (NoneIs (HasDescription (data_of json.entry))) }
     ensures targets { made.new.build_targets ≡ made.old.build_targets }
-    ensures named { (d : Json) → IsNamed d made.old → IsNamed d made.new }
+    ensures named { (d : Json) → HasPlainFields d made.old → HasPlainFields d made.new }
 {
     made.authors = json.copied_texts("authors")?;
     made.license_file = optional_path(json, "license_file")?;
@@ -128,12 +128,12 @@ fn fill(
     json: Object<'_, '_>,
     declared: &[Declared<'_>],
 ) -> Result<(), Misfit>
-    ensures filled { OnOk result (IsFilled (data_of json.entry) made.new) }
-    ensures refused { IfErr result (NoneIs (IsFilled (data_of json.entry))) }
+    ensures filled { OnOk result (HasCargoFields (data_of json.entry) made.new) }
+    ensures refused { IfErr result (NoneIs (HasCargoFields (data_of json.entry))) }
     ensures optional { OnOk result (NamesOptional declared.now made.new.optional_deps) }
     ensures targets { made.new.build_targets ≡ made.old.build_targets }
-    ensures named { (d : Json) → IsNamed d made.old → IsNamed d made.new }
-    ensures described { (d : Json) → IsDescribed d made.old → IsDescribed d made.new }
+    ensures named { (d : Json) → HasPlainFields d made.old → HasPlainFields d made.new }
+    ensures described { (d : Json) → HasDescription d made.old → HasDescription d made.new }
 {
     made.metadata_table = json.table("metadata")?;
     made.links = json.optional_copied_text("links")?;
@@ -146,8 +146,8 @@ fn fill(
 
 // The record of the package with the texts that each has.
 fn known_record(json: Object<'_, '_>) -> Result<PackageRecord, Misfit>
-    ensures known { IsRead (IsKnown (data_of json.entry)) result }
-    ensures plain { IfOk result IsPlain }
+    ensures known { IsRead (HasIdentity (data_of json.entry)) result }
+    ensures plain { IfOk result HasNoDetails }
 {
     let alloc = json.alloc;
     let version = version_of(alloc, "version", json.text("version")?)?;
@@ -168,10 +168,10 @@ fn known_record(json: Object<'_, '_>) -> Result<PackageRecord, Misfit>
 
 // Fills in what of a package is read with details or without.
 fn show(made: &mut PackageRecord, json: Object<'_, '_>) -> Result<(), Misfit>
-    ensures shown { OnOk result (IsShown (data_of json.entry) made.new) }
-    ensures refused { IfErr result (NoneIs (IsShown (data_of json.entry))) }
-    ensures known { (d : Json) → IsKnown d made.old → IsKnown d made.new }
-    ensures plain { IsPlain made.old → IsPlain made.new }
+    ensures shown { OnOk result (HasSummary (data_of json.entry) made.new) }
+    ensures refused { IfErr result (NoneIs (HasSummary (data_of json.entry))) }
+    ensures known { (d : Json) → HasIdentity d made.old → HasIdentity d made.new }
+    ensures plain { HasNoDetails made.old → HasNoDetails made.new }
 {
     made.description = json.optional_copied_text("description")?;
     made.license = json.optional_copied_text("license")?;
@@ -200,11 +200,11 @@ fn add_details(
     details: bool,
 ) -> Result<(), Misfit>
     ensures targets { OnOk result (AreAskedTargets details (data_of json.entry) made.new.build_targets.items) }
-    ensures detailed { OnOk result (IsPlain made.old → IsDetailed details (data_of json.entry) made.new) }
+    ensures detailed { OnOk result (HasNoDetails made.old → HasDetails details (data_of json.entry) made.new) }
     ensures refused { IfErr result (NoneIs (λ (r : PackageRecord). AreAskedTargets details (data_of json.entry) r.build_targets.items
-        × IsDetailed details (data_of json.entry) r)) }
+        × HasDetails details (data_of json.entry) r)) }
     ensures optional { OnOk result (details ≡ true → NamesOptional declared.now made.new.optional_deps) }
-    ensures named { (d : Json) → IsNamed d made.old → IsNamed d made.new }
+    ensures named { (d : Json) → HasPlainFields d made.old → HasPlainFields d made.new }
 {
     made.build_targets = asked_targets(json, details)?;
     if details {
@@ -230,9 +230,9 @@ pub(crate) fn add_package<'a>(
         × ((d : Json) → AreAlike details (data_of json.entry) d
         → get (codes "id") (data_of json.entry) ≡ Some (string id.now)
         → IsText (codes "source") (data_of json.entry) (option_copied source.entry)
-        → IsLibrary d (option_copied library.entry) → AreDeclared details d declared.entry.items → IsTold details d p)) }
-    ensures refused { IfErr result (NoneIs (λ (r : PackageRecord). IsNamed (data_of json.entry) r
-        × AreAskedTargets details (data_of json.entry) r.build_targets.items × IsDetailed details (data_of json.entry) r)) }
+        → IsLibrary d (option_copied library.entry) → AreDeclared details d declared.entry.items → IsParsedPackage details d p)) }
+    ensures refused { IfErr result (NoneIs (λ (r : PackageRecord). HasPlainFields (data_of json.entry) r
+        × AreAskedTargets details (data_of json.entry) r.build_targets.items × HasDetails details (data_of json.entry) r)) }
 {
     let library = optional_copy(json.alloc, library)?;
     let record = known_record(json)?;
@@ -259,8 +259,8 @@ pub(crate) fn package_of<'a>(
     details: bool,
 ) -> Result<(), Misfit>
     ensures added { OnOk result ((p : Package) × (packages.new.items ≡ packages.old.items ++ p ∷ [])
-        × IsTold details (data_of json.entry) p) }
-    ensures refused { IfErr result (NoneIs (IsTold details (data_of json.entry))) }
+        × IsParsedPackage details (data_of json.entry) p) }
+    ensures refused { IfErr result (NoneIs (IsParsedPackage details (data_of json.entry))) }
 {
     let id = json.text("id")?;
     let source = json.optional_text("source")?;
@@ -278,8 +278,8 @@ pub(crate) fn package_at<'a>(
     details: bool,
 ) -> Result<(), Misfit>
     ensures added { OnOk result ((p : Package) × (packages.new.items ≡ packages.old.items ++ p ∷ [])
-        × IsTold details (value_view item.now) p) }
-    ensures refused { IfErr result (NoneIs (IsTold details (value_view item.now))) }
+        × IsParsedPackage details (value_view item.now) p) }
+    ensures refused { IfErr result (NoneIs (IsParsedPackage details (value_view item.now))) }
 {
     let json = Object::of_item(alloc, "packages", index, item)?;
     match package_of(packages, json, details) {
@@ -293,8 +293,8 @@ pub(crate) fn packages_of<'a>(
     metadata: Object<'_, 'a>,
     details: bool,
 ) -> Result<Vec<Package<'a>>, Misfit>
-    ensures { MatchResult result (λ packages. AreTold details (data_of metadata.entry) packages.items)
-        (NoneIs (AreTold details (data_of metadata.entry))) }
+    ensures { MatchResult result (λ packages. AreParsedPackages details (data_of metadata.entry) packages.items)
+        (NoneIs (AreParsedPackages details (data_of metadata.entry))) }
 {
     let alloc = metadata.alloc;
     let items = metadata.list("packages")?;

@@ -3,7 +3,7 @@ ghost use Rattle.std.specs.Prelude.{◌≡◌, ◌++◌, ◌∷◌, [], true, fa
 ghost use Rattle.std.specs.Option.{option_copied};
 ghost use Rattle.json.specs.Json.{Json, value};
 ghost use Rattle.guppy_metadata.specs.Members.{data_of};
-ghost use Rattle.guppy_metadata.specs.Package.{IsTold, IsLibrary, AreAlike, is_asked};
+ghost use Rattle.guppy_metadata.specs.Package.{IsParsedPackage, IsLibrary, AreAlike, is_asked};
 ghost use Rattle.guppy_metadata.specs.Parts.{TellsParts};
 ghost use Rattle.guppy_metadata.specs.Told.{IsWith};
 
@@ -106,7 +106,7 @@ fn package_told<'a>(
     details: bool,
 ) -> Option<()>
     ensures { OnSome result ((p : Package) × (packages.new.items ≡ packages.old.items ++ p ∷ [])
-        × ((d : Json) → TellsParts details d parts.entry → IsTold details d p)) }
+        × ((d : Json) → TellsParts details d parts.entry → IsParsedPackage details d p)) }
 {
     let Parts {
         declared,
@@ -134,7 +134,7 @@ pub(crate) fn read_package<'a>(
     details: bool,
 ) -> Option<()>
     ensures { OnSome result ((told : Json) × (value 126 reader.old ≡ Some (told, reader.new))
-        × (p : Package) × (packages.new.items ≡ packages.old.items ++ p ∷ []) × IsTold details told p) }
+        × (p : Package) × (packages.new.items ≡ packages.old.items ++ p ∷ []) × IsParsedPackage details told p) }
 {
     let parts = read_parts(alloc, reader, details)?;
     package_told(packages, alloc, parts, details)

@@ -5,7 +5,7 @@ ghost use Rattle.json.specs.Json.{Json, max_depth, value};
 ghost use Rattle.json.specs.Find.{get};
 ghost use Rattle.guppy_metadata.specs.Links.{AreLinksOfList};
 ghost use Rattle.guppy_metadata.specs.Members.{IsListOf};
-ghost use Rattle.guppy_metadata.specs.Package.{IsTold, IsLetGo, ArePositions};
+ghost use Rattle.guppy_metadata.specs.Package.{IsParsedPackage, IsSlimPackage, ArePositions};
 ghost use Rattle.guppy_metadata.specs.Told.{Tells, IsWith};
 
 use crate::node::read_node;
@@ -24,7 +24,7 @@ fn read_packages<'a>(
     details: bool,
 ) -> Option<Vec<Package<'a>>>
     ensures { IfSome result (λ packages. (told : Json)
-        × (value 127 reader.old ≡ Some (told, reader.new)) × IsListOf (IsTold details) told packages.items) }
+        × (value 127 reader.old ≡ Some (told, reader.new)) × IsListOf (IsParsedPackage details) told packages.items) }
 {
     let Some(Token::BeginArray) = reader.next() else {
         return None;
@@ -63,7 +63,7 @@ fn read_nodes(
     ensures links { IfSome result (λ links. (told : Json)
         × (value 126 reader.old ≡ Some (told, reader.new))
         × AreLinksOfList packages.old told links.items) }
-    ensures left { OnSome result (AllZip IsLetGo packages.old packages.new) }
+    ensures left { OnSome result (AllZip IsSlimPackage packages.old packages.new) }
 {
     let Some(Token::BeginArray) = reader.next() else {
         return None;
@@ -88,7 +88,7 @@ fn read_resolve(
         × (value 127 reader.old ≡ Some (told, reader.new))
         × IsSomeAnd (get (codes "nodes") told)
         (λ nodes. AreLinksOfList packages.old nodes links.items)) }
-    ensures left { OnSome result (AllZip IsLetGo packages.old packages.new) }
+    ensures left { OnSome result (AllZip IsSlimPackage packages.old packages.new) }
 {
     let Some(Token::BeginObject) = reader.next() else {
         return None;
@@ -116,7 +116,7 @@ fn read_links<'a>(
         × IsSomeAnd so_far.old.packages (λ packages. IsSomeAnd (get (codes "nodes") told)
         (λ nodes. AreLinksOfList packages.items nodes links.items))) }
     ensures left { OnSome result (IsSomeAnd so_far.old.packages (λ packages.
-        IsSomeAnd so_far.new.packages (λ left. AllZip IsLetGo packages.items left.items))) }
+        IsSomeAnd so_far.new.packages (λ left. AllZip IsSlimPackage packages.items left.items))) }
     ensures others { so_far.new.others ≡ so_far.old.others }
 {
     let packages = so_far.packages.as_mut()?.as_mut_slice();

@@ -8,7 +8,7 @@ use Rattle.guppy_search.specs.declared.graph_core.link.Link.{Link}
 use Rattle.guppy_search.specs.Links.{near_end, links_at, IsLedTo}
 use Rattle.guppy_search.specs.IxSet.{IsIn, member_count, positions_in}
 use Rattle.guppy_search.specs.Resolve.{LeavesOne}
-use Rattle.guppy_search.specs.Buffered.{Question, IsAsked, IsFound, IsTimely, AreLinks, IsOrderly, IsAskable, JudgesBuffered, Asks, EndsInError, Adds}
+use Rattle.guppy_search.specs.Buffered.{Question, IsAsked, IsFound, IsTimely, AreLinkNumbers, IsOrderly, IsAskable, JudgesBuffered, Asks, EndsInError, Adds}
 use Rattle.guppy_search.specs.Buffered.Question.{discover, filter}
 use Rattle.guppy_search.specs.Buffering.{Buffering, Takes, Stops, MayAskOn}
 use Rattle.guppy_search.proofs.Lists.{nothing_in, Contains-first, Contains-later, Contains-cons_cases, EachAfter-nil, EachAfter-push, FoldsTo-append}
@@ -64,11 +64,11 @@ module _ {E : Type 0} (d : DependencyDirection) (links : List (Link E)) (initial
     leaves_discovered-more : (n : ℕ) → LeavesOne d links (λ p. IsAsked trace (discover p)) n → LeavesOne d links (λ p. IsAsked (trace ++ (question, handed) ∷ []) (discover p)) n
     leaves_discovered-more n l = (l.0, l.1, IsAsked-more (discover (near_end d l.0)) l.2)
 
-    IsOrderly-more : IsOrderly d links initials trace → ¬ IsAsked trace question → IsTimely d links initials trace question → AreLinks links handed → IsOrderly d links initials (trace ++ (question, handed) ∷ [])
+    IsOrderly-more : IsOrderly d links initials trace → ¬ IsAsked trace question → IsTimely d links initials trace question → AreLinkNumbers links handed → IsOrderly d links initials (trace ++ (question, handed) ∷ [])
     IsOrderly-more o new timely answer = record {
       once = EachAfter-push _ trace (question, handed) o.once new;
       timely = EachAfter-push _ trace (question, handed) o.timely timely;
-      answered = All-push (λ (entry : Question × List ℕ). AreLinks links entry.1) trace (question, handed) o.answered answer;
+      answered = All-push (λ (entry : Question × List ℕ). AreLinkNumbers links entry.1) trace (question, handed) o.answered answer;
     }
 
     -- the links are followed
@@ -87,7 +87,7 @@ module _ {E : Type 0} (d : DependencyDirection) (links : List (Link E)) (initial
       ],
     )
 
-  module _ (trace : List (Question × List ℕ)) (s : List Bool) (handed added : List ℕ) (s' : List Bool) (answer : AreLinks links handed) (a : Adds d links handed s added s') (waiting : List ℕ) (balance : length (waiting ++ added) + member_count s ≡ length waiting + member_count s') where
+  module _ (trace : List (Question × List ℕ)) (s : List Bool) (handed added : List ℕ) (s' : List Bool) (answer : AreLinkNumbers links handed) (a : Adds d links handed s added s') (waiting : List ℕ) (balance : length (waiting ++ added) + member_count s ≡ length waiting + member_count s') where
     -- the next position that waits is discovered
     Buffering-discovered : (p : ℕ) → Buffering d links initials trace s (waiting ++ p ∷ []) [] → Buffering d links initials (trace ++ (discover p, handed) ∷ []) s' (waiting ++ added) (links_at d links p)
     Buffering-discovered p b =
@@ -175,7 +175,7 @@ module _ {E : Type 0} (d : DependencyDirection) (links : List (Link E)) (initial
         }
 
   -- the position that is taken from those that wait is discovered
-  pub Buffering-followed : (trace : List (Question × List ℕ)) (s : List Bool) (handed added : List ℕ) (s' : List Bool) → AreLinks links handed → Adds d links handed s added s' → (waiting waited waits : List ℕ) (p : ℕ) → waited ≡ waiting ++ p ∷ [] → waits ≡ waiting ++ added → length waits + member_count s ≡ length waiting + member_count s'
+  pub Buffering-followed : (trace : List (Question × List ℕ)) (s : List Bool) (handed added : List ℕ) (s' : List Bool) → AreLinkNumbers links handed → Adds d links handed s added s' → (waiting waited waits : List ℕ) (p : ℕ) → waited ≡ waiting ++ p ∷ [] → waits ≡ waiting ++ added → length waits + member_count s ≡ length waiting + member_count s'
       → Buffering d links initials trace s waited [] → Buffering d links initials (trace ++ (discover p, handed) ∷ []) s' waits (links_at d links p)
   Buffering-followed trace s handed added s' answer a waiting waited waits p taken more balance b = rw more (Buffering-discovered trace s handed added s' answer a waiting (rw more at balance) p (rw taken at b))
 
@@ -224,7 +224,7 @@ Takes-none d links s waiting row = record { after = λ initials trace h. rw appe
 
 module _ {E : Type 0} (d : DependencyDirection) (links : List (Link E)) (asked : List (Question × List ℕ)) (s : List Bool) (waiting row : List ℕ) (s' : List Bool) where
   -- one more link was asked about, and what was handed back followed
-  pub Takes-filtered : (handed added : List ℕ) (s'' : List Bool) (answer : AreLinks links handed) (a : Adds d links handed s' added s'') (waiting' : List ℕ) (balance : length (waiting' ++ added) + member_count s' ≡ length waiting' + member_count s'') (n : ℕ) (left : List ℕ)
+  pub Takes-filtered : (handed added : List ℕ) (s'' : List Bool) (answer : AreLinkNumbers links handed) (a : Adds d links handed s' added s'') (waiting' : List ℕ) (balance : length (waiting' ++ added) + member_count s' ≡ length waiting' + member_count s'') (n : ℕ) (left : List ℕ)
       → Takes d links asked s waiting row s' waiting' (n ∷ left) → Takes d links (asked ++ (filter n, handed) ∷ []) s waiting row s'' (waiting' ++ added) left
   Takes-filtered handed added s'' answer a waiting' balance n left h = record {
     after = λ initials trace b. subst (λ all. Buffering d links initials all s'' (waiting' ++ added) left) (append_assoc trace asked ((filter n, handed) ∷ []))

@@ -35,15 +35,15 @@ IsTimely d links initials before (discover p) = IsFound d links initials before 
 IsTimely d links initials before (filter n) = LeavesOne d links (λ p. IsAsked before (discover p)) n
 
 -- each number is a link's
-abbrev pub AreLinks : {E : Type 0} → List (Link E) → List ℕ → Type 0
-AreLinks links = All (λ n. n < length links)
+abbrev pub AreLinkNumbers : {E : Type 0} → List (Link E) → List ℕ → Type 0
+AreLinkNumbers links = All (λ n. n < length links)
 
 -- no question is asked twice, and none too early; what is handed back are links
 pub record IsOrderly {E : Type 0} (d : DependencyDirection) (links : List (Link E))
     (initials : List Bool) (trace : List (Question × List ℕ)) : Type 0 where
   pub once : EachAfter (λ before entry. ¬ IsAsked before entry.0) trace
   pub timely : EachAfter (λ before entry. IsTimely d links initials before entry.0) trace
-  pub answered : All (λ (entry : Question × List ℕ). AreLinks links entry.1) trace
+  pub answered : All (λ (entry : Question × List ℕ). AreLinkNumbers links entry.1) trace
 
 -- the trace and the set judge a buffered resolve from the initial positions
 pub record JudgesBuffered {E : Type 0} (d : DependencyDirection) (links : List (Link E))

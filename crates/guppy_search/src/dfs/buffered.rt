@@ -2,7 +2,7 @@ ghost use Rattle.std.specs.Prelude.{◌≡◌, ◌⊎◌, ℕ, ◌+◌, ◌<◌,
 ghost use Rattle.guppy_search.specs.Graph.{IsGraph};
 ghost use Rattle.guppy_search.specs.IxSet.{member_count, positions_in};
 ghost use Rattle.guppy_search.specs.Links.{links_at};
-ghost use Rattle.guppy_search.specs.Buffered.{Question, AreLinks, Adds, Answers, Asks, IsAskable, EndsInError, JudgesBuffered};
+ghost use Rattle.guppy_search.specs.Buffered.{Question, AreLinkNumbers, Adds, Answers, Asks, IsAskable, EndsInError, JudgesBuffered};
 ghost use Rattle.guppy_search.specs.Buffering.{Takes, Stops, MayAskOn};
 
 use crate::dfs::filter::BufferedEdgeFilter;
@@ -156,7 +156,7 @@ fn follow_all<G: GraphSpec>(
     waiting: &mut Vec<usize>,
 )
     requires count { length set.old ≡ length graph.now.nodes }
-    requires links { AreLinks graph.now.links numbers.items }
+    requires links { AreLinkNumbers graph.now.links numbers.items }
     requires room { length waiting.old.items + length set.old ≤ vec_capacity waiting.old +
         member_count set.old }
     ensures count { length set.new ≡ length set.old }

@@ -1,6 +1,6 @@
 ghost use Rattle.std.specs.Prelude.{◌≡◌, ⊤, ℕ, ◌<◌, Bool, List, [], ◌∷◌, length, Option, Some, None, IfOk, OnErr};
 ghost use Rattle.guppy_search.specs.Graph.{GraphValue};
-ghost use Rattle.guppy_search.specs.Buffered.{AreLinks};
+ghost use Rattle.guppy_search.specs.Buffered.{AreLinkNumbers};
 
 use crate::graph_core::Graph;
 use crate::ix::{GraphSpec, IndexType};
@@ -36,7 +36,7 @@ pub trait BufferedEdgeFilter<G: GraphSpec> {
         ensures filters { IfOk result
             (λ handed. filters graph.now self.old link (Some handed.items) self.new) }
         ensures error { OnErr result (filters graph.now self.old link None self.new) }
-        ensures links { IfOk result (λ handed. AreLinks graph.now.links handed.items) }
+        ensures links { IfOk result (λ handed. AreLinkNumbers graph.now.links handed.items) }
         ensures same_place { place self.new ≡ place self.old };
 
     /// The links to follow, each below the link count, when the search comes to the position, which
@@ -49,7 +49,7 @@ pub trait BufferedEdgeFilter<G: GraphSpec> {
             (Some handed.items) self.new) }
         ensures error { OnErr result
             (discovers graph.now self.old (G.Ix.index_of node) None self.new) }
-        ensures links { IfOk result (λ handed. AreLinks graph.now.links handed.items) }
+        ensures links { IfOk result (λ handed. AreLinkNumbers graph.now.links handed.items) }
         ensures same_place { place self.new ≡ place self.old };
 }
 

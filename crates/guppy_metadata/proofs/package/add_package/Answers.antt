@@ -3,7 +3,7 @@ use Rattle.std.specs.Prelude.{OnOk, is_ok}
 use Rattle.std.proofs.lemmas.Result.{IfErr-weaker}
 use Rattle.guppy_metadata.specs.Dependency.{NamesOptional}
 use Rattle.guppy_metadata.specs.Members.{data_of}
-use Rattle.guppy_metadata.specs.Package.{IsKnown, IsLibrary, IsNamed, IsPlain, IsTold}
+use Rattle.guppy_metadata.specs.Package.{HasIdentity, IsLibrary, HasPlainFields, HasNoDetails, IsParsedPackage}
 use Rattle.guppy_metadata.specs.declared.types.Package.{Package}
 use Rattle.guppy_metadata.proofs.AlikePackages.{plain_same, text_alike, named_alike, detailed_alike, targets_alike}
 use Rattle.guppy_metadata.proofs.Refused.{failed, lacking, refused}
@@ -36,14 +36,14 @@ returns-clause-added c =
     let shown = c.in_ok-show.ensures in
     let added = c.add_details.ensures in
     let whole : Package = record made { «record» = final } in
-    let known : IsKnown own made.record = subst (λ (q : Package). IsKnown own q.record) (sym was) c.in_ok-record.ensures.known in
-    let plain : IsPlain made.record = subst (λ (q : Package). IsPlain q.record) (sym was) c.in_ok-record.ensures.plain in
-    let named : IsNamed own final = added.named own (record { known = shown.known own known; shown = shown.shown }) in
+    let known : HasIdentity own made.record = subst (λ (q : Package). HasIdentity own q.record) (sym was) c.in_ok-record.ensures.known in
+    let plain : HasNoDetails made.record = subst (λ (q : Package). HasNoDetails q.record) (sym was) c.in_ok-record.ensures.plain in
+    let named : HasPlainFields own final = added.named own (record { known = shown.known own known; shown = shown.shown }) in
     let declared_is = c.as_slice.ensures.value ∙ ap (λ (q : Package). q.declared.items) was in
     together c.add_details.result (λ targets detailed optional. (
       whole,
       (c.push_mut.follows.holds whole (ap is_ok c.in_ok-package.was)).0,
-      λ d same id source library declared. subst (λ (q : Package). IsTold details d (record q { «record» = final })) (sym was) (record {
+      λ d same id source library declared. subst (λ (q : Package). IsParsedPackage details d (record q { «record» = final })) (sym was) (record {
         id = sym (plain_same details own d same (codes "id") refl refl) ∙ id;
         source = text_alike details own d same (codes "source") _ refl refl source;
         named = named_alike details own d same _ named;

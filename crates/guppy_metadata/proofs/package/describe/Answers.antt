@@ -1,13 +1,13 @@
 use Rattle.std.proofs.lemmas.Result.{IfOk-from_err}
 use Rattle.json.specs.Json.{Json}
 use Rattle.guppy_data.specs.declared.records.PackageRecord.{PackageRecord}
-use Rattle.guppy_metadata.specs.Package.{IsNamed}
+use Rattle.guppy_metadata.specs.Package.{HasPlainFields}
 use Rattle.guppy_metadata.proofs.Refused.{refused}
 use Rattle.guppy_metadata.proofs.package.describe.Goals as goal
 
 -- what is filled in leaves what each package has
 named_kept : (d : Json) (r : PackageRecord) (authors license_file categories keywords readme homepage documentation : _)
-    → IsNamed d r → IsNamed d (record r { authors = authors; license_file = license_file; categories = categories; keywords = keywords; readme = readme; homepage = homepage; documentation = documentation })
+    → HasPlainFields d r → HasPlainFields d (record r { authors = authors; license_file = license_file; categories = categories; keywords = keywords; readme = readme; homepage = homepage; documentation = documentation })
 named_kept d r authors license_file categories keywords readme homepage documentation is = record {
   known = record { id = is.known.id; name = is.known.name; version = is.known.version; manifest_path = is.known.manifest_path; edition = is.known.edition };
   shown = record { description = is.shown.description; license = is.shown.license; repository = is.shown.repository; publish = is.shown.publish };

@@ -1,13 +1,13 @@
 use Rattle.std.proofs.lemmas.Result.{IfOk-from_err}
 use Rattle.json.specs.Json.{Json}
 use Rattle.guppy_data.specs.declared.records.PackageRecord.{PackageRecord}
-use Rattle.guppy_metadata.specs.Package.{IsNamed, IsDescribed}
+use Rattle.guppy_metadata.specs.Package.{HasPlainFields, HasDescription}
 use Rattle.guppy_metadata.proofs.Refused.{failed, refused, lacking}
 use Rattle.guppy_metadata.proofs.package.fill.Goals as goal
 
 -- what is filled in leaves what each package has
 named_kept : (d : Json) (r : PackageRecord) (table links default_run rust_version named_features optional_deps : _)
-    → IsNamed d r → IsNamed d (record r { metadata_table = table; links = links; default_run = default_run; rust_version = rust_version; named_features = named_features; optional_deps = optional_deps })
+    → HasPlainFields d r → HasPlainFields d (record r { metadata_table = table; links = links; default_run = default_run; rust_version = rust_version; named_features = named_features; optional_deps = optional_deps })
 named_kept d r table links default_run rust_version named_features optional_deps is = record {
   known = record { id = is.known.id; name = is.known.name; version = is.known.version; manifest_path = is.known.manifest_path; edition = is.known.edition };
   shown = record { description = is.shown.description; license = is.shown.license; repository = is.shown.repository; publish = is.shown.publish };
@@ -15,7 +15,7 @@ named_kept d r table links default_run rust_version named_features optional_deps
 
 -- and what is told of it for people
 described_kept : (d : Json) (r : PackageRecord) (table links default_run rust_version named_features optional_deps : _)
-    → IsDescribed d r → IsDescribed d (record r { metadata_table = table; links = links; default_run = default_run; rust_version = rust_version; named_features = named_features; optional_deps = optional_deps })
+    → HasDescription d r → HasDescription d (record r { metadata_table = table; links = links; default_run = default_run; rust_version = rust_version; named_features = named_features; optional_deps = optional_deps })
 described_kept d r table links default_run rust_version named_features optional_deps is = record {
   authors = is.authors;
   license_file = is.license_file;

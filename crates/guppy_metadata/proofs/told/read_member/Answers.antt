@@ -5,7 +5,7 @@ use Rattle.json.specs.Find.{get_member}
 use Rattle.json.specs.Value.{value_view, members_view}
 use Rattle.json.proofs.Trees.{get_member-push}
 use Rattle.guppy_metadata.specs.Members.{IsListOf}
-use Rattle.guppy_metadata.specs.Package.{IsTold}
+use Rattle.guppy_metadata.specs.Package.{IsParsedPackage}
 use Rattle.guppy_metadata.proofs.LetGo.{whole_left, still_left, left_further, links_read}
 use Rattle.guppy_metadata.proofs.ObjectMembers.{kept, put, links_alike}
 use Rattle.guppy_metadata.proofs.Options.{if_some, if_none}
@@ -42,7 +42,7 @@ returns-in_ok-read_packages c =
       more.0,
       more.1,
       λ d e adds tells. record {
-        packages_are = whole_left c.args.details e packages.items (subst (λ o. IsSomeAnd o (λ told. IsListOf (IsTold c.args.details) told packages.items)) (put d e name more.0 adds (codes "packages") here) more.2);
+        packages_are = whole_left c.args.details e packages.items (subst (λ o. IsSomeAnd o (λ told. IsListOf (IsParsedPackage c.args.details) told packages.items)) (put d e name more.0 adds (codes "packages") here) more.2);
         links_are = if_none _ c.args.so_far.now.links c.if-is_some.ensures;
         others_are = λ wanted other. tells.others_are wanted other ∙ kept d e name more.0 adds wanted (subst (λ n. bytes_eq n wanted ≡ false) (sym is) other.0);
       },

@@ -3,12 +3,12 @@ use Rattle.std.specs.List.{AllZip}
 use Rattle.indexmap.proofs.SetLemmas.{AllZip-push}
 use Rattle.json.specs.Json.{array}
 use Rattle.json.specs.Value.{items_of}
-use Rattle.guppy_metadata.specs.Package.{IsTold}
+use Rattle.guppy_metadata.specs.Package.{IsParsedPackage}
 use Rattle.guppy_metadata.proofs.Turns.{no_item_read, next_read, item_takes, list_told}
 use Rattle.guppy_metadata.proofs.told.read_packages.Goals as goal
 
 pub loop-alloc-init : goal.loop-alloc-init
-loop-alloc-init c = ([], no_item_read 126 _, subst (AllZip (IsTold c.args.details) []) (sym c.new-packages.ensures.items) tt)
+loop-alloc-init c = ([], no_item_read 126 _, subst (AllZip (IsParsedPackage c.args.details) []) (sym c.new-packages.ensures.items) tt)
 
 pub loop-alloc-preserved : goal.loop-alloc-preserved
 loop-alloc-preserved c =
@@ -17,7 +17,7 @@ loop-alloc-preserved c =
     let more = c.in_ok-read_package.ensures in (
       were.0 ++ more.0 ∷ [],
       next_read 126 _ were.0 l.reader _ _ more.0 were.1 c.loop-alloc-test.ensures more.1,
-      subst (AllZip (IsTold c.args.details) (were.0 ++ more.0 ∷ [])) (sym more.3) (AllZip-push (IsTold c.args.details) _ _ _ _ were.2 more.4),
+      subst (AllZip (IsParsedPackage c.args.details) (were.0 ++ more.0 ∷ [])) (sym more.3) (AllZip-push (IsParsedPackage c.args.details) _ _ _ _ were.2 more.4),
     )
 
 pub loop-alloc-smaller : goal.loop-alloc-smaller
