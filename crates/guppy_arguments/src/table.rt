@@ -86,7 +86,8 @@ pub const USAGES: &[(&str, &str, &str)] = &[
         "affected PATH..",
         "the members to test when these files changed, what they depend on first; a PATH\n      \
          is relative to the workspace's root, ./-x is one, -x is not; to the scripts\n      \
-         --since REVISION adds what git says changed since then",
+         --since REVISION adds what git says changed since then, and test in the place of\n      \
+         affected runs their tests",
     ),
     (
         "publish-order",
