@@ -1,0 +1,130 @@
+-- What is asked of a graph.
+use Rattle.std.specs.Prelude.{ℕ, ◌==◌, Bool, true, false, ◌&&◌, ◌||◌, not, Option, Some, List, slice_get}
+use Rattle.std.specs.List.{list_any}
+use Rattle.std.specs.Option.{option_map_or}
+use Rattle.guppy_data.specs.Platform.{Status, Never, Always, Dependent, status_value, recorded_status, question_of as platforms_of}
+use Rattle.guppy_data.specs.declared.platform.ternary.EnabledTernary.{EnabledTernary}
+use Rattle.guppy_data.specs.declared.platform.ternary.EnabledTernary.TheVariants.{Disabled, Unknown, Enabled}
+use Rattle.guppy_data.specs.declared.texts.dependency_kind.DependencyKind.{DependencyKind}
+use Rattle.guppy_data.specs.declared.texts.dependency_kind.DependencyKind.TheVariants.{Normal, Development, Build}
+use Rattle.guppy_data.specs.declared.records.BuildTargetRecord.{BuildTargetRecord}
+use Rattle.guppy_data.specs.declared.records.OwnedBuildTargetId.{OwnedBuildTargetId}
+use Rattle.guppy_data.specs.declared.records.OwnedBuildTargetId.TheVariants.{Library}
+use Rattle.guppy_data.specs.declared.records.BuildTargetKindRecord.{BuildTargetKindRecord}
+use Rattle.guppy_data.specs.declared.records.BuildTargetKindRecord.TheVariants.{ProcMacro}
+use Rattle.guppy_graph.specs.Graph.{GraphData}
+use Rattle.guppy_target.specs.Answer.{answer_of}
+use Rattle.guppy_features.specs.declared.fact.BuildPlatform.{BuildPlatform}
+use Rattle.guppy_features.specs.declared.fact.BuildPlatform.TheVariants.{Target, Host}
+use Rattle.guppy_features.specs.declared.fact.Fact.{Fact}
+use Rattle.guppy_features.specs.declared.options.CargoResolverVersion.{CargoResolverVersion}
+use Rattle.guppy_features.specs.declared.options.CargoResolverVersion.TheVariants.{V1, V2, V3}
+use Rattle.guppy_features.specs.declared.options.CargoOptions.{CargoOptions}
+use Rattle.guppy_features.specs.declared.question.Asked.{Asked}
+use Rattle.guppy_features.specs.Facts.{part, switched_fact}
+use Rattle.guppy_features.specs.Dependencies.{DependencyData}
+
+pub record Question : Type 0 where
+  pub graph : GraphData
+  pub options : CargoOptions
+
+abbrev pub question : GraphData → CargoOptions → Question
+question g options = record { graph = g; options = options }
+
+abbrev pub question_of : Asked → Question
+question_of a = question a.graph.now a.options.now
+
+abbrev pub is_first : CargoResolverVersion → Bool
+is_first V1 = true
+is_first V2 = false
+is_first V3 = false
+
+-- whether the sides are apart
+abbrev pub splits : Question → Bool
+splits q = not (is_first q.options.resolver)
+
+-- whether the package is chosen
+abbrev pub is_initial : Question → ℕ → Bool
+is_initial q p = list_any (λ i. i.position == p) q.options.initials.items
+
+abbrev pub is_library : OwnedBuildTargetId → Bool
+is_library Library = true
+is_library other = false
+
+abbrev pub is_macro_kind : BuildTargetKindRecord → Bool
+is_macro_kind ProcMacro = true
+is_macro_kind other = false
+
+-- whether the target is a library that is a procedural macro
+abbrev pub is_macro_library : BuildTargetRecord → Bool
+is_macro_library t = is_library t.id && is_macro_kind t.kind
+
+-- whether the package has such a library
+abbrev pub is_macro : Question → ℕ → Bool
+is_macro q p = option_map_or (λ r. list_any is_macro_library r.build_targets.items)
+    (slice_get q.graph.packages p) false
+
+abbrev pub is_host : BuildPlatform → Bool
+is_host Host = true
+is_host Target = false
+
+abbrev pub is_build : DependencyKind → Bool
+is_build Build = true
+is_build Normal = false
+is_build Development = false
+
+abbrev pub is_development : DependencyKind → Bool
+is_development Development = true
+is_development Normal = false
+is_development Build = false
+
+abbrev pub is_present : Status → Bool
+is_present Never = false
+is_present Always = true
+is_present (Dependent texts) = true
+
+abbrev pub may_be : EnabledTernary → Bool
+may_be Disabled = false
+may_be Unknown = true
+may_be Enabled = true
+
+abbrev pub is_on_if : Bool → Bool → CargoOptions → Status → Bool
+is_on_if false on_host options status = is_present status
+is_on_if true true options status =
+    may_be (status_value answer_of status (platforms_of options.host_platform))
+is_on_if true false options status =
+    may_be (status_value answer_of status (platforms_of options.target_platform))
+
+-- whether what has the status is on for a package on the side, in the section: with resolver 1 if there is a platform
+-- for it, else if it may be on one that counts: of the host's side, and of build dependencies, the host's
+abbrev pub is_on : Question → BuildPlatform → DependencyKind → Status → Bool
+is_on q s section status = is_on_if (splits q) (is_host s || is_build section) q.options status
+
+-- whether dependencies of the section of the package count at all: dev-dependencies those of chosen packages alone,
+-- and where the sides are apart with tests alone
+abbrev pub may_ask : Question → ℕ → DependencyKind → Bool
+may_ask q p section = not (is_development section)
+    || ((q.options.tests || not (splits q)) && is_initial q p)
+
+-- whether the dependency counts on the side
+abbrev pub counts : Question → BuildPlatform → DependencyData → Bool
+counts q s d = may_ask q d.from d.section && is_on q s d.section (recorded_status d.part.build_if)
+
+abbrev pub side_if : Bool → Bool → BuildPlatform → BuildPlatform
+side_if true true s = Host
+side_if true false s = s
+side_if false on_host s = s
+
+-- the side that the dependency's package is on, for a package on the side: where they are apart, what is needed to
+-- build, and procedural macros, are on the host's
+abbrev pub side_of : Question → BuildPlatform → DependencyData → BuildPlatform
+side_of q s d = side_if (splits q) (is_build d.section || is_macro q d.to) s
+
+abbrev pub use_if : Bool → Question → BuildPlatform → DependencyData → Option Fact
+use_if true q s d = switched_fact q.graph.packages d.from s d.name
+use_if false q s d = Some (part d.from s)
+
+-- what holds where the dependency is used on the side: that its package takes part, or that the optional one is
+-- switched on
+abbrev pub use_of : Question → BuildPlatform → DependencyData → Option Fact
+use_of q s d = use_if d.is_optional q s d
