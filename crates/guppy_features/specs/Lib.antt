@@ -1,7 +1,8 @@
 pub mod Facts
 pub mod Dependencies
 pub mod Questions
+pub mod Adding
 pub mod Needs
 pub mod Values
-pub mod Roots
-pub mod Clauses
+pub mod Follows
+pub mod Parts

@@ -1,53 +1,43 @@
 -- What the values of features switch on.
-use Rattle.std.specs.Prelude.{ℕ, Bool, true, false, ◌&&◌, Option, Some, None, List, [], ◌∷◌, ◌++◌}
-use Rattle.std.specs.List.{flat_map}
+use Rattle.std.specs.Prelude.{◌≡◌, ℕ, Bool, true, false, IsTrue, Option, Some, None, List}
 use Rattle.std.specs.Str.{bytes_eq}
 use Rattle.std.specs.String.{string_bytes}
 use Rattle.guppy_data.specs.declared.texts.named_feature.NamedFeatureDep.{NamedFeatureDep}
 use Rattle.guppy_data.specs.declared.texts.named_feature.NamedFeatureDep.TheVariants.{NamedFeature, OptionalDependency, DependencyNamedFeature}
 use Rattle.guppy_features.specs.declared.fact.BuildPlatform.{BuildPlatform}
 use Rattle.guppy_features.specs.declared.fact.Fact.{Fact}
-use Rattle.guppy_closure.specs.declared.clause.Clause.{Clause}
-use Rattle.guppy_features.specs.Facts.{feature_fact, switched_fact, if_there, when}
+use Rattle.guppy_features.specs.Facts.{feature_fact, switched_fact}
 use Rattle.guppy_features.specs.Dependencies.{DependencyData, dependencies}
-use Rattle.guppy_features.specs.Questions.{Question, counts, side_of, use_of}
+use Rattle.guppy_features.specs.Questions.{Question, counts, use_of}
+use Rattle.guppy_features.specs.Needs.{feature_there}
+use Rattle.guppy_features.specs.Adding.{Where, Either, If, OfSome}
 
--- that a feature of the dependency's package is on
-abbrev pub feature_there : Question → BuildPlatform → List ℕ → DependencyData → Option Fact
-feature_there q s f d = feature_fact q.graph.packages d.to (side_of q s d) f
-
-abbrev pub weakly_if : Question → BuildPlatform → Option Fact → List ℕ → DependencyData → Option Fact → List (Clause Fact)
-weakly_if q s first f d (Some used) = if_there first (Some used) (feature_there q s f d)
-weakly_if q s first f d None = []
+-- always the head, if there is one
+abbrev pub Always : Option Fact → List Fact → Fact → Type 0
+Always head = Where None None head
 
 -- `x?/F`: the feature, where the dependency is used
-abbrev pub gives_weakly : Question → BuildPlatform → Option Fact → List ℕ → DependencyData → List (Clause Fact)
-gives_weakly q s first f d = weakly_if q s first f d (use_of q s d)
+abbrev pub GivesWeakly : Question → BuildPlatform → List ℕ → DependencyData → List Fact → Fact → Type 0
+GivesWeakly q s name d gate f = (used : Fact) × (use_of q s d ≡ Some used)
+    × Where None (Some used) (feature_there q s name d) gate f
 
 -- `x/F`: the feature and, of an optional dependency, that it is switched on, with the feature of its name
-abbrev pub gives_strongly : Question → BuildPlatform → Option Fact → List ℕ → DependencyData → List (Clause Fact)
-gives_strongly q s first f d = if_there first None (feature_there q s f d)
-    ++ when d.is_optional (if_there first None (use_of q s d)
-    ++ if_there first None (feature_fact q.graph.packages d.from s d.name))
+abbrev pub GivesStrongly : Question → BuildPlatform → List ℕ → DependencyData → List Fact → Fact → Type 0
+GivesStrongly q s name d = Either (Always (feature_there q s name d)) (If (IsTrue d.is_optional)
+    (Either (Always (use_of q s d)) (Always (feature_fact q.graph.packages d.from s d.name))))
 
-abbrev pub gives_either : Question → BuildPlatform → Option Fact → List ℕ → Bool → DependencyData → List (Clause Fact)
-gives_either q s first f true d = gives_weakly q s first f d
-gives_either q s first f false d = gives_strongly q s first f d
+abbrev pub GivesEither : Question → BuildPlatform → List ℕ → Bool → DependencyData → List Fact → Fact → Type 0
+GivesEither q s name true = GivesWeakly q s name
+GivesEither q s name false = GivesStrongly q s name
 
--- either of the dependency, if it has the name and counts
-abbrev pub gives_through : Question → BuildPlatform → Option Fact → List ℕ → List ℕ → Bool → DependencyData → List (Clause Fact)
-gives_through q s first x f weak d =
-    when (bytes_eq d.name x && counts q s d) (gives_either q s first f weak d)
+-- either, if the dependency is called x and counts
+abbrev pub GivesThrough : Question → BuildPlatform → List ℕ → List ℕ → Bool → DependencyData → List Fact → Fact → Type 0
+GivesThrough q s x name weak d =
+    If (IsTrue (bytes_eq d.name x) × IsTrue (counts q s d)) (GivesEither q s name weak d)
 
--- what the value of the package switches on on the side, where the first fact holds, if there is one
-abbrev pub gives : Question → ℕ → BuildPlatform → Option Fact → NamedFeatureDep → List (Clause Fact)
-gives q p s first (NamedFeature f) =
-    if_there first None (feature_fact q.graph.packages p s (string_bytes f))
-gives q p s first (OptionalDependency x) =
-    if_there first None (switched_fact q.graph.packages p s (string_bytes x))
-gives q p s first (DependencyNamedFeature x f weak) =
-    flat_map (gives_through q s first (string_bytes x) (string_bytes f) weak) (dependencies q.graph p)
-
--- what these values switch on
-abbrev pub gives_all : Question → ℕ → BuildPlatform → Option Fact → List NamedFeatureDep → List (Clause Fact)
-gives_all q p s first values = flat_map (gives q p s first) values
+-- what the value of the package switches on on the side, behind a gate of facts
+abbrev pub Gives : Question → ℕ → BuildPlatform → NamedFeatureDep → List Fact → Fact → Type 0
+Gives q p s (NamedFeature name) = Always (feature_fact q.graph.packages p s (string_bytes name))
+Gives q p s (OptionalDependency x) = Always (switched_fact q.graph.packages p s (string_bytes x))
+Gives q p s (DependencyNamedFeature x name weak) = OfSome (dependencies q.graph p)
+    (GivesThrough q s (string_bytes x) (string_bytes name) weak)

@@ -1,10 +1,12 @@
 //! All clauses of a question.
-ghost use Rattle.std.specs.Prelude.{◌≡◌, ◌++◌, ◌<◌, OnOk, IfOk, length, map, All};
-ghost use Rattle.std.specs.List.{flat_map};
+ghost use Rattle.std.specs.Prelude.{◌<◌, OnOk, IfOk, length, map, All};
+ghost use Rattle.guppy_closure.specs.Relations.{AreClausesOf};
 ghost use Rattle.guppy_features.specs.Dependencies.{seen_dependency, AreOf, IsWithin};
 ghost use Rattle.guppy_features.specs.Questions.{question_of};
-ghost use Rattle.guppy_features.specs.Needs.{needs};
-ghost use Rattle.guppy_features.specs.Clauses.{clauses, all_roots, all_packages, package_clauses, package_clauses_on, feature_clauses, feature_clauses_at};
+ghost use Rattle.guppy_features.specs.Adding.{Adds, OfBelow, OfSome};
+ghost use Rattle.guppy_features.specs.Follows.{FollowsFor};
+ghost use Rattle.guppy_features.specs.Needs.{Needs};
+ghost use Rattle.guppy_features.specs.Parts.{FollowsOf, FollowsOn, HasRoots, Switches, SwitchesAt};
 
 use crate::dependencies::{Dependency, dependencies};
 use crate::fact::{BuildPlatform, Fact};
@@ -16,7 +18,7 @@ impl Asked<'_> {
     /// The clauses.
     pub(crate) fn clauses(self) -> Result<Rules, AllocError>
         requires { All (λ i. i.position < length self.graph.now.packages) self.options.now.initials.items }
-        ensures { IfOk result (λ rules. rules.items ≡ clauses (question_of self.entry)) }
+        ensures { IfOk result (λ rules. AreClausesOf (FollowsFor (question_of self.entry)) rules.items) }
     {
         let mut rules = Vec::new(self.graph.alloc());
         self.add_all_roots(&mut rules)?;
@@ -27,7 +29,8 @@ impl Asked<'_> {
     // Adds what is asked of the chosen packages.
     fn add_all_roots(self, rules: &mut Rules) -> Result<(), AllocError>
         requires { All (λ i. i.position < length self.graph.now.packages) self.options.now.initials.items }
-        ensures { OnOk result (rules.new.items ≡ rules.old.items ++ all_roots (question_of self.entry)) }
+        ensures { OnOk result (Adds (OfSome self.options.now.initials.items (HasRoots (question_of self.entry)))
+            rules.old.items rules.new.items) }
     {
         for chosen in &self.options.initials {
             self.add_roots(rules, chosen)?;
@@ -37,8 +40,8 @@ impl Asked<'_> {
 
     // Adds what follows from facts about packages.
     fn add_packages(self, rules: &mut Rules) -> Result<(), AllocError>
-        ensures { OnOk result (rules.new.items ≡ rules.old.items
-            ++ all_packages (question_of self.entry)) }
+        ensures { OnOk result (Adds (OfBelow (length self.graph.now.packages) (FollowsOf (question_of self.entry)))
+            rules.old.items rules.new.items) }
     {
         for position in 0..self.graph.package_count() {
             self.add_package(rules, position)?;
@@ -49,8 +52,8 @@ impl Asked<'_> {
     // Adds what follows from facts about the package.
     fn add_package(self, rules: &mut Rules, position: usize) -> Result<(), AllocError>
         requires { position < length self.graph.now.packages }
-        ensures { OnOk result (rules.new.items ≡ rules.old.items
-            ++ package_clauses (question_of self.entry) position) }
+        ensures { OnOk result (Adds (FollowsOf (question_of self.entry) position)
+            rules.old.items rules.new.items) }
     {
         let dependencies = dependencies(self.graph, position)?;
         let list = dependencies.as_slice();
@@ -69,8 +72,8 @@ impl Asked<'_> {
         requires within { position < length self.graph.now.packages }
         requires within_all { All (IsWithin (length self.graph.now.packages)) dependencies.now }
         requires dependencies { AreOf self.graph.now position dependencies.now }
-        ensures { OnOk result (rules.new.items ≡ rules.old.items
-            ++ package_clauses_on (question_of self.entry) position side) }
+        ensures { OnOk result (Adds (FollowsOn (question_of self.entry) position side)
+            rules.old.items rules.new.items) }
     {
         self.add_all_needs(rules, side, dependencies)?;
         self.add_feature_clauses(rules, position, side, dependencies)
@@ -84,8 +87,8 @@ impl Asked<'_> {
         dependencies: &[Dependency<'_>],
     ) -> Result<(), AllocError>
         requires { All (IsWithin (length self.graph.now.packages)) dependencies.now }
-        ensures { OnOk result (rules.new.items ≡ rules.old.items
-            ++ flat_map (needs (question_of self.entry) side) (map seen_dependency dependencies.now)) }
+        ensures { OnOk result (Adds (OfSome (map seen_dependency dependencies.now) (Needs (question_of self.entry) side))
+            rules.old.items rules.new.items) }
     {
         for dependency in dependencies {
             self.add_needs(rules, side, dependency)?;
@@ -104,8 +107,8 @@ impl Asked<'_> {
         requires within { position < length self.graph.now.packages }
         requires within_all { All (IsWithin (length self.graph.now.packages)) dependencies.now }
         requires dependencies { AreOf self.graph.now position dependencies.now }
-        ensures { OnOk result (rules.new.items ≡ rules.old.items
-            ++ feature_clauses (question_of self.entry) position side) }
+        ensures { OnOk result (Adds (Switches (question_of self.entry) position side)
+            rules.old.items rules.new.items) }
     {
         for place in 0..self.graph.package_at(position).named_features.len() {
             self.add_feature_at(rules, position, side, dependencies, place)?;
@@ -125,8 +128,8 @@ impl Asked<'_> {
         requires within { position < length self.graph.now.packages }
         requires within_all { All (IsWithin (length self.graph.now.packages)) dependencies.now }
         requires dependencies { AreOf self.graph.now position dependencies.now }
-        ensures { OnOk result (rules.new.items ≡ rules.old.items
-            ++ feature_clauses_at (question_of self.entry) position side place) }
+        ensures { OnOk result (Adds (SwitchesAt (question_of self.entry) position side place)
+            rules.old.items rules.new.items) }
     {
         let features = &self.graph.package_at(position).named_features;
         let Some((_, values)) = features.get_index(place) else {

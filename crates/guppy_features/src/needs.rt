@@ -1,9 +1,10 @@
 //! What a dependency that is used needs.
-ghost use Rattle.std.specs.Prelude.{◌≡◌, ◌++◌, ◌<◌, OnOk, length, string_bytes};
+ghost use Rattle.std.specs.Prelude.{◌<◌, OnOk, length};
 ghost use Rattle.guppy_data.specs.Platform.{recorded_status};
 ghost use Rattle.guppy_features.specs.Dependencies.{seen_dependency};
 ghost use Rattle.guppy_features.specs.Questions.{question_of};
-ghost use Rattle.guppy_features.specs.Needs.{if_on, needs, needs_of_used, features_needed};
+ghost use Rattle.guppy_features.specs.Adding.{Adds};
+ghost use Rattle.guppy_features.specs.Needs.{IfOn, Needs, NeedsNamed, NeedsWhere};
 
 use crate::dependencies::Dependency;
 use crate::fact::{BuildPlatform, Fact};
@@ -22,8 +23,8 @@ impl Asked<'_> {
     ) -> Result<(), AllocError>
         requires from { dependency.now.from < length self.graph.now.packages }
         requires to { dependency.now.to < length self.graph.now.packages }
-        ensures { OnOk result (rules.new.items ≡ rules.old.items
-            ++ needs (question_of self.entry) side (seen_dependency dependency.now)) }
+        ensures { OnOk result (Adds (Needs (question_of self.entry) side (seen_dependency dependency.now))
+            rules.old.items rules.new.items) }
     {
         if !self.may_ask(dependency.from, dependency.section) {
             return Ok(());
@@ -43,8 +44,8 @@ impl Asked<'_> {
         used: Fact,
     ) -> Result<(), AllocError>
         requires { dependency.now.to < length self.graph.now.packages }
-        ensures { OnOk result (rules.new.items ≡ rules.old.items
-            ++ needs_of_used (question_of self.entry) side (seen_dependency dependency.now) used) }
+        ensures { OnOk result (Adds (NeedsWhere (question_of self.entry) side (seen_dependency dependency.now) used)
+            rules.old.items rules.new.items) }
     {
         let to = dependency.to;
         let to_side = self.side_of(side, dependency);
@@ -72,8 +73,8 @@ impl Asked<'_> {
         used: Fact,
     ) -> Result<(), AllocError>
         requires { dependency.now.to < length self.graph.now.packages }
-        ensures { OnOk result (rules.new.items ≡ rules.old.items
-            ++ features_needed (question_of self.entry) side (seen_dependency dependency.now) used) }
+        ensures { OnOk result (Adds (NeedsNamed (question_of self.entry) side (seen_dependency dependency.now) used)
+            rules.old.items rules.new.items) }
     {
         let to_side = self.side_of(side, dependency);
         for (name, status) in dependency.part.feature_targets.iter() {
@@ -93,9 +94,8 @@ impl Asked<'_> {
         status: &PlatformStatusImpl,
         head: Option<Fact>,
     ) -> Result<(), AllocError>
-        ensures { OnOk result (rules.new.items ≡ rules.old.items
-            ++ if_on (question_of self.entry) side (seen_dependency dependency.now) used
-            (recorded_status status.now) head) }
+        ensures { OnOk result (Adds (IfOn (question_of self.entry) side (seen_dependency dependency.now) used (recorded_status status.now) head)
+            rules.old.items rules.new.items) }
     {
         if self.is_on(side, dependency.section, status) {
             add_rule(rules, Some(used), None, head)?;

@@ -1,7 +1,8 @@
 //! What is asked of the chosen packages.
-ghost use Rattle.std.specs.Prelude.{◌≡◌, ◌++◌, ◌<◌, OnOk, length};
+ghost use Rattle.std.specs.Prelude.{◌<◌, OnOk, length};
 ghost use Rattle.guppy_features.specs.Questions.{question_of};
-ghost use Rattle.guppy_features.specs.Roots.{roots_of, roots_on, standard_roots, all_features};
+ghost use Rattle.guppy_features.specs.Adding.{Adds};
+ghost use Rattle.guppy_features.specs.Parts.{HasAll, HasRoots, HasRootsOn, HasStandard};
 
 use crate::dependencies::dependencies;
 use crate::fact::{BuildPlatform, Fact};
@@ -14,8 +15,8 @@ impl Asked<'_> {
     /// Adds that the chosen package takes part, with what is asked of it: a procedural macro on both sides.
     pub(crate) fn add_roots(self, rules: &mut Rules, initial: &Initial) -> Result<(), AllocError>
         requires { initial.now.position < length self.graph.now.packages }
-        ensures { OnOk result (rules.new.items ≡ rules.old.items
-            ++ roots_of (question_of self.entry) initial.now) }
+        ensures { OnOk result (Adds (HasRoots (question_of self.entry) initial.now)
+            rules.old.items rules.new.items) }
     {
         self.add_roots_on(rules, initial, BuildPlatform::Target)?;
         if self.splits() && self.is_macro(initial.position) {
@@ -32,8 +33,8 @@ impl Asked<'_> {
         side: BuildPlatform,
     ) -> Result<(), AllocError>
         requires { initial.now.position < length self.graph.now.packages }
-        ensures { OnOk result (rules.new.items ≡ rules.old.items
-            ++ roots_on (question_of self.entry) side initial.now) }
+        ensures { OnOk result (Adds (HasRootsOn (question_of self.entry) side initial.now)
+            rules.old.items rules.new.items) }
     {
         let position = initial.position;
         add_rule(rules, None, None, Some(Fact::part(position, side)))?;
@@ -58,8 +59,8 @@ impl Asked<'_> {
         standard: StandardFeatures,
     ) -> Result<(), AllocError>
         requires { position < length self.graph.now.packages }
-        ensures { OnOk result (rules.new.items ≡ rules.old.items
-            ++ standard_roots (question_of self.entry) position side standard) }
+        ensures { OnOk result (Adds (HasStandard (question_of self.entry) position side standard)
+            rules.old.items rules.new.items) }
     {
         match standard {
             StandardFeatures::None => Ok(()),
@@ -78,8 +79,8 @@ impl Asked<'_> {
         side: BuildPlatform,
     ) -> Result<(), AllocError>
         requires { position < length self.graph.now.packages }
-        ensures { OnOk result (rules.new.items ≡ rules.old.items
-            ++ all_features (question_of self.entry) position side) }
+        ensures { OnOk result (Adds (HasAll (question_of self.entry) position side)
+            rules.old.items rules.new.items) }
     {
         let count = self.graph.package_at(position).named_features.len();
         for place in 0..count {

@@ -1,6 +1,6 @@
 //! Clauses, as they are added to a list.
-ghost use Rattle.std.specs.Prelude.{◌≡◌, ◌++◌, OnOk};
-ghost use Rattle.guppy_features.specs.Facts.{if_there};
+ghost use Rattle.std.specs.Prelude.{OnOk};
+ghost use Rattle.guppy_features.specs.Adding.{Adds, Where};
 
 use crate::fact::Fact;
 use guppy_closure::Clause;
@@ -16,7 +16,7 @@ pub(crate) fn add_rule(
     second: Option<Fact>,
     head: Option<Fact>,
 ) -> Result<(), AllocError>
-    ensures { OnOk result (rules.new.items ≡ rules.old.items ++ if_there first second head) }
+    ensures { OnOk result (Adds (Where first second head) rules.old.items rules.new.items) }
 {
     if let Some(head) = head {
         rules.push(Clause {

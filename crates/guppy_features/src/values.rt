@@ -1,10 +1,9 @@
 //! What the values of features switch on.
-ghost use Rattle.std.specs.Prelude.{◌≡◌, ◌++◌, ◌<◌, OnOk, length, map, slice_get, All};
-ghost use Rattle.std.specs.List.{flat_map};
-ghost use Rattle.std.specs.String.{string_bytes};
-ghost use Rattle.guppy_features.specs.Dependencies.{seen_dependency, dependencies, AreOf, IsWithin};
+ghost use Rattle.std.specs.Prelude.{◌<◌, OnOk, length, map, All};
+ghost use Rattle.guppy_features.specs.Dependencies.{seen_dependency, AreOf, IsWithin};
 ghost use Rattle.guppy_features.specs.Questions.{question_of};
-ghost use Rattle.guppy_features.specs.Values.{gives, gives_weakly, gives_strongly, gives_through, gives_all};
+ghost use Rattle.guppy_features.specs.Adding.{Adds, Behind, OfSome};
+ghost use Rattle.guppy_features.specs.Values.{Gives, GivesStrongly, GivesThrough, GivesWeakly};
 
 use crate::dependencies::Dependency;
 use crate::fact::{BuildPlatform, Fact};
@@ -28,8 +27,8 @@ impl Asked<'_> {
         requires within { position < length self.graph.now.packages }
         requires within_all { All (IsWithin (length self.graph.now.packages)) dependencies.now }
         requires dependencies { AreOf self.graph.now position dependencies.now }
-        ensures { OnOk result (rules.new.items ≡ rules.old.items
-            ++ gives_all (question_of self.entry) position side first values.now) }
+        ensures { OnOk result (Adds (OfSome values.now (λ value. Behind first (Gives (question_of self.entry) position side value)))
+            rules.old.items rules.new.items) }
     {
         for value in values {
             self.add_value(rules, position, side, dependencies, first, value)?;
@@ -50,8 +49,8 @@ impl Asked<'_> {
         requires within { position < length self.graph.now.packages }
         requires within_all { All (IsWithin (length self.graph.now.packages)) dependencies.now }
         requires dependencies { AreOf self.graph.now position dependencies.now }
-        ensures { OnOk result (rules.new.items ≡ rules.old.items
-            ++ gives (question_of self.entry) position side first value.now) }
+        ensures { OnOk result (Adds (Behind first (Gives (question_of self.entry) position side value.now))
+            rules.old.items rules.new.items) }
     {
         match value {
             NamedFeatureDep::NamedFeature(name) => {
@@ -98,9 +97,9 @@ impl Asked<'_> {
         weak: bool,
     ) -> Result<(), AllocError>
         requires { All (IsWithin (length self.graph.now.packages)) dependencies.now }
-        ensures { OnOk result (rules.new.items ≡ rules.old.items
-            ++ flat_map (gives_through (question_of self.entry) side first name.now feature.now weak)
-            (map seen_dependency dependencies.now)) }
+        ensures { OnOk result (Adds (OfSome (map seen_dependency dependencies.now)
+            (λ d. Behind first (GivesThrough (question_of self.entry) side name.now feature.now weak d)))
+            rules.old.items rules.new.items) }
     {
         for dependency in dependencies {
             self.add_through(rules, side, dependency, first, name, feature, weak)?;
@@ -121,9 +120,8 @@ impl Asked<'_> {
     ) -> Result<(), AllocError>
         requires from { dependency.now.from < length self.graph.now.packages }
         requires to { dependency.now.to < length self.graph.now.packages }
-        ensures { OnOk result (rules.new.items ≡ rules.old.items
-            ++ gives_through (question_of self.entry) side first name.now feature.now weak
-            (seen_dependency dependency.now)) }
+        ensures { OnOk result (Adds (Behind first (GivesThrough (question_of self.entry) side name.now feature.now weak (seen_dependency dependency.now)))
+            rules.old.items rules.new.items) }
     {
         if dependency.name != name || !self.counts(side, dependency) {
             return Ok(());
@@ -146,8 +144,8 @@ impl Asked<'_> {
     ) -> Result<(), AllocError>
         requires from { dependency.now.from < length self.graph.now.packages }
         requires to { dependency.now.to < length self.graph.now.packages }
-        ensures { OnOk result (rules.new.items ≡ rules.old.items
-            ++ gives_weakly (question_of self.entry) side first feature.now (seen_dependency dependency.now)) }
+        ensures { OnOk result (Adds (Behind first (GivesWeakly (question_of self.entry) side feature.now (seen_dependency dependency.now)))
+            rules.old.items rules.new.items) }
     {
         let Some(used) = self.use_of(side, dependency) else {
             return Ok(());
@@ -172,8 +170,8 @@ impl Asked<'_> {
     ) -> Result<(), AllocError>
         requires from { dependency.now.from < length self.graph.now.packages }
         requires to { dependency.now.to < length self.graph.now.packages }
-        ensures { OnOk result (rules.new.items ≡ rules.old.items
-            ++ gives_strongly (question_of self.entry) side first feature.now (seen_dependency dependency.now)) }
+        ensures { OnOk result (Adds (Behind first (GivesStrongly (question_of self.entry) side feature.now (seen_dependency dependency.now)))
+            rules.old.items rules.new.items) }
     {
         let to_side = self.side_of(side, dependency);
         add_rule(
