@@ -1,9 +1,10 @@
 -- How what is added in steps comes together.
-use Rattle.std.proofs.Common.{◌≡◌, ◌⊎◌, ◌↔◌, ℕ, ◌+◌, ◌<◌, List, [], ◌∷◌, ◌++◌, Option, Some, None, inl, inr, refl, ap, sym, subst, take, get_or, length, arith, append_assoc}
+use Rattle.std.proofs.Common.{◌≡◌, ◌⊎◌, ◌↔◌, ℕ, ◌+◌, ◌<◌, ◌≤◌, map, List, [], ◌∷◌, ◌++◌, Option, Some, None, ◌∙◌, inl, inr, refl, ap, sym, subst, take, get_or, length, arith, append_assoc}
 use Rattle.std.specs.Prelude.{Contains, option_to_list}
 use Rattle.std.proofs.lemmas.List.Elements.{Contains-append_cases, Contains-append_left, Contains-append_right}
 use Rattle.std.proofs.lemmas.Bool.{cases_lt}
-use Rattle.guppy_search.proofs.Lists.{nothing_in, Contains-first, Contains-cons_cases}
+use Rattle.std.proofs.lemmas.List.{take_more, take_all, map-append}
+use Rattle.guppy_search.proofs.Lists.{nothing_in, Contains-first, Contains-later, Contains-cons_cases}
 use Rattle.guppy_closure.specs.declared.clause.Clause.{Clause}
 use Rattle.guppy_closure.specs.Clauses.{InBody}
 use Rattle.guppy_closure.specs.Named.{body_of}
@@ -86,10 +87,23 @@ module _ {F : Type 0} where
     ],
     λ r. elim (Contains-append_cases xs (x ∷ []) r.0 r.1) as (λ _. OfSome xs R body f ⊎ R x body f) [
       | inl i ↦ inl (r.0, i, r.2)
-      | inr i ↦ elim (Contains-cons_cases r.0 x [] i) as (λ _. OfSome xs R body f ⊎ R x body f) [
-        | inl e ↦ inr (subst (λ y. R y body f) e r.2)
+      | inr i ↦ elim (Contains-cons_cases x r.0 [] i) as (λ _. OfSome xs R body f ⊎ R x body f) [
+        | inl e ↦ inr (subst (λ (y : X). R y body f) (sym e) r.2)
         | inr none ↦ absurd (nothing_in r.0 none)
       ]
+    ],
+  )) (adds_then a b)
+
+  -- the first element's, and then that of the others
+  pub adds_of_next : {X : Type 0} {R : X → List F → F → Type 0} (x : X) (xs : List X) {old between new : List (Clause F)} → Adds (R x) old between → Adds (OfSome xs R) between new → Adds (OfSome (x ∷ xs) R) old new
+  adds_of_next {X} {R} x xs a b = adds_same (λ body f. (
+    λ e. elim e as (λ _. OfSome (x ∷ xs) R body f) [
+      | inl r ↦ (x, Contains-first x xs, r)
+      | inr s ↦ (s.0, Contains-later x s.0 xs s.1, s.2)
+    ],
+    λ r. elim (Contains-cons_cases x r.0 xs r.1) as (λ _. R x body f ⊎ OfSome xs R body f) [
+      | inl e ↦ inl (subst (λ (y : X). R y body f) (sym e) r.2)
+      | inr i ↦ inr (r.0, i, r.2)
     ],
   )) (adds_then a b)
 
@@ -131,3 +145,56 @@ module _ {F : Type 0} where
     ];
     whole = a.whole;
   }
+
+  -- what is stated if so
+  pub adds_if : {R : List F → F → Type 0} {P : Type 0} {old new : List (Clause F)} → P → Adds R old new → Adds (If P R) old new
+  adds_if p a = adds_same (λ body f. (λ r. (p, r), λ r. r.1)) a
+
+  pub adds_if_not : {R : List F → F → Type 0} {P : Type 0} (xs : List (Clause F)) → (P → ⊥) → Adds (If P R) xs xs
+  adds_if_not xs not_so = adds_nothing xs (λ body f r. not_so r.0)
+
+  -- What is stated behind a fact.
+
+  pub behind_none : {R : List F → F → Type 0} {old new : List (Clause F)} → Adds R old new → Adds (Behind None R) old new
+  behind_none {R} a = adds_same (λ body f. (λ r. (body, refl, r), λ r. subst (λ (ys : List F). R ys f) (sym r.1) r.2)) a
+
+  pub behind_where : (first second head : Option F) {old new : List (Clause F)} → Adds (Where first second head) old new → Adds (Behind first (Where None second head)) old new
+  behind_where first second head a = adds_same (λ body f. (
+    λ w. (option_to_list second, w.0, (refl, w.1)),
+    λ r. (r.1 ∙ ap (λ (ys : List F). option_to_list first ++ ys) r.2.0, r.2.1),
+  )) a
+
+  pub behind_either : {R S : List F → F → Type 0} (first : Option F) {old new : List (Clause F)} → Adds (Either (Behind first R) (Behind first S)) old new → Adds (Behind first (Either R S)) old new
+  behind_either {R} {S} first a = adds_same (λ body f. (
+    λ e. elim e as (λ _. Behind first (Either R S) body f) [ inl r ↦ (r.0, r.1, inl r.2) | inr s ↦ (s.0, s.1, inr s.2) ],
+    λ b. elim b.2 as (λ _. Either (Behind first R) (Behind first S) body f) [ inl r ↦ inl (b.0, b.1, r) | inr s ↦ inr (b.0, b.1, s) ],
+  )) a
+
+  pub behind_if : {R : List F → F → Type 0} {P : Type 0} (first : Option F) {old new : List (Clause F)} → Adds (If P (Behind first R)) old new → Adds (Behind first (If P R)) old new
+  behind_if first a = adds_same (λ body f. (λ r. (r.1.0, r.1.1, (r.0, r.1.2)), λ b. (b.2.0, (b.0, b.1, b.2.1)))) a
+
+  pub behind_of_some : {X : Type 0} {R : X → List F → F → Type 0} (first : Option F) (xs : List X) {old new : List (Clause F)} → Adds (OfSome xs (λ x. Behind first (R x))) old new → Adds (Behind first (OfSome xs R)) old new
+  behind_of_some first xs a = adds_same (λ body f. (λ r. (r.2.0, r.2.1, (r.0, r.1, r.2.2)), λ b. (b.2.0, b.2.1, (b.0, b.1, b.2.2)))) a
+
+  -- A loop over a list, and one over what is seen of its elements.
+
+  pub adds_take_more : {X : Type 0} {R : X → List F → F → Type 0} (xs : List X) (i : ℕ) (x : X) → i < length xs → x ≡ get_or xs i x → {old between new : List (Clause F)} → Adds (OfSome (take i xs) R) old between → Adds (R x) between new → Adds (OfSome (take (i + 1) xs) R) old new
+  adds_take_more {X} {R} xs i x below at {old} {between} {new} a b =
+      let taken : take (i + 1) xs ≡ take i xs ++ x ∷ [] = take_more xs i x below ∙ ap (λ (y : X). take i xs ++ y ∷ []) (sym at) in
+      subst (λ (ys : List X). Adds (OfSome ys R) old new) (sym taken) (adds_of_more (take i xs) x a b)
+
+  pub adds_take_all : {X : Type 0} {R : X → List F → F → Type 0} (xs : List X) (i : ℕ) → length xs ≤ i → {old new : List (Clause F)} → Adds (OfSome (take i xs) R) old new → Adds (OfSome xs R) old new
+  adds_take_all {X} {R} xs i past {old} {new} a = subst (λ (ys : List X). Adds (OfSome ys R) old new) (take_all i xs past) a
+
+  pub adds_map_more : {X Y : Type 0} {R : Y → List F → F → Type 0} (v : X → Y) (xs : List X) (i : ℕ) (x : X) → i < length xs → x ≡ get_or xs i x → {old between new : List (Clause F)} → Adds (OfSome (map v (take i xs)) R) old between → Adds (R (v x)) between new → Adds (OfSome (map v (take (i + 1) xs)) R) old new
+  adds_map_more {X} {Y} {R} v xs i x below at {old} {between} {new} a b =
+      let taken : take (i + 1) xs ≡ take i xs ++ x ∷ [] = take_more xs i x below ∙ ap (λ (y : X). take i xs ++ y ∷ []) (sym at) in
+      let mapped : map v (take (i + 1) xs) ≡ map v (take i xs) ++ v x ∷ [] = ap (map v) taken ∙ map-append v (take i xs) (x ∷ []) in
+      subst (λ (ys : List Y). Adds (OfSome ys R) old new) (sym mapped) (adds_of_more (map v (take i xs)) (v x) a b)
+
+  pub adds_map_all : {X Y : Type 0} {R : Y → List F → F → Type 0} (v : X → Y) (xs : List X) (i : ℕ) → length xs ≤ i → {old new : List (Clause F)} → Adds (OfSome (map v (take i xs)) R) old new → Adds (OfSome (map v xs) R) old new
+  adds_map_all {X} {Y} {R} v xs i past {old} {new} a = subst (λ (ys : List X). Adds (OfSome (map v ys) R) old new) (take_all i xs past) a
+
+  -- a loop over the numbers below one that is this
+  pub adds_below_all : {R : ℕ → List F → F → Type 0} (i n : ℕ) → i ≡ n → {old new : List (Clause F)} → Adds (OfBelow i R) old new → Adds (OfBelow n R) old new
+  adds_below_all {R} i n same {old} {new} a = subst (λ (k : ℕ). Adds (OfBelow k R) old new) same a
