@@ -1,1 +1,2 @@
+pub mod LeavingLinks
 pub mod Adding
