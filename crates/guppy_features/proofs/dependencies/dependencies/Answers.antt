@@ -3,7 +3,6 @@ use Rattle.std.specs.List.{flat_map}
 use Rattle.std.proofs.lemmas.List.{take_all}
 use Rattle.guppy_search.specs.declared.ix.direction.DependencyDirection.TheVariants.{Forward}
 use Rattle.guppy_search.specs.Links.{links_at, seen_link}
-use Rattle.guppy_graph.specs.Ids.{ix_position}
 use Rattle.guppy_features.specs.Dependencies.{dependencies_of}
 use Rattle.guppy_features.proofs.LeavingLinks.{dependencies_at, dependencies_by_number, dependencies_more}
 use Rattle.guppy_features.proofs.dependencies.dependencies.Goals as goal
@@ -24,8 +23,5 @@ returns-clause-dependencies c =
     let g = c.args.graph.now in
     let numbers = c.links_of-number-items.result.now in
     let all : take c.loop-number.number-index numbers ≡ numbers = take_all _ numbers c.loop-number-test.false in
-    let are : numbers ≡ links_at Forward g.links c.args.position =
-        c.links_of-number-items.ensures.links
-        ∙ ap (λ links. links_at Forward links (ix_position c.ix_at-ix.result)) c.dep_graph.ensures.links
-        ∙ ap (links_at Forward g.links) c.ix_at-ix.ensures in
+    let are : numbers ≡ links_at Forward g.links c.args.position = cc in
     c.loop-number.invariant.gathered ∙ ap (flat_map (dependencies_at g.links)) (all ∙ are) ∙ dependencies_by_number g c.args.position
