@@ -1,2 +1,3 @@
+pub mod LeavingLinks
 pub mod Adding
 pub mod Adders

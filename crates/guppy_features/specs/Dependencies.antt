@@ -1,11 +1,8 @@
 -- The dependencies of a package: of each section of each link that leaves it the required and the optional part.
-use Rattle.std.specs.Prelude.{◌≡◌, ℕ, ◌<◌, Bool, true, false, Some, None, Option, List, [], ◌∷◌, ◌++◌, map, slice_get}
+use Rattle.std.specs.Prelude.{◌≡◌, ◌==◌, ℕ, ◌<◌, Bool, true, false, List, [], ◌∷◌, ◌++◌, map, filter}
 use Rattle.std.specs.List.{flat_map}
-use Rattle.std.specs.Option.{option_map_or}
 use Rattle.std.specs.String.{string_bytes}
-use Rattle.guppy_search.specs.declared.ix.direction.DependencyDirection.TheVariants.{Forward}
 use Rattle.guppy_search.specs.declared.graph_core.link.Link.{Link}
-use Rattle.guppy_search.specs.Links.{links_at}
 use Rattle.guppy_data.specs.declared.texts.dependency_kind.DependencyKind.{DependencyKind}
 use Rattle.guppy_data.specs.declared.texts.dependency_kind.DependencyKind.TheVariants.{Normal, Development, Build}
 use Rattle.guppy_data.specs.declared.records.DependencyReqImpl.{DependencyReqImpl}
@@ -62,13 +59,13 @@ abbrev pub dependencies_of : Link LinkRecord → List DependencyData
 dependencies_of l = section_dependencies l Normal ++ section_dependencies l Build
     ++ section_dependencies l Development
 
-abbrev pub dependencies_if : Option (Link LinkRecord) → List DependencyData
-dependencies_if (Some l) = dependencies_of l
-dependencies_if None = []
+-- the links that leave the package, ascending by number
+abbrev pub links_from : GraphData → ℕ → List (Link LinkRecord)
+links_from g p = filter (λ l. l.from == p) g.links
 
--- those of the links that leave the package
+-- the package's: those of the links that leave it, one link after the other
 abbrev pub dependencies : GraphData → ℕ → List DependencyData
-dependencies g p = flat_map (λ n. dependencies_if (slice_get g.links n)) (links_at Forward g.links p)
+dependencies g p = flat_map dependencies_of (links_from g p)
 
 -- the list has the package's dependencies
 abbrev pub AreOf : GraphData → ℕ → List Dependency → Type 0

@@ -1,5 +1,5 @@
--- What may hold of a package, and the clauses that say what follows.
-use Rattle.std.specs.Prelude.{ℕ, Bool, true, false, Option, Some, None, List, [], ◌∷◌, slice_get, option_map}
+-- What may hold of a package.
+use Rattle.std.specs.Prelude.{ℕ, Option, List, slice_get, option_map}
 use Rattle.std.specs.Option.{option_and_then}
 use Rattle.std.specs.Str.{bytes_eq}
 use Rattle.std.specs.String.{string_bytes}
@@ -9,7 +9,6 @@ use Rattle.guppy_data.specs.declared.records.PackageRecord.{PackageRecord}
 use Rattle.guppy_features.specs.declared.fact.BuildPlatform.{BuildPlatform}
 use Rattle.guppy_features.specs.declared.fact.FactKind.TheVariants.{Part, Switched, Feature}
 use Rattle.guppy_features.specs.declared.fact.Fact.{Fact}
-use Rattle.guppy_closure.specs.declared.clause.Clause.{Clause}
 
 -- the package takes part on the side
 abbrev pub part : ℕ → BuildPlatform → Fact
@@ -40,13 +39,3 @@ feature_fact packages p s name =
 abbrev pub switched_fact : List PackageRecord → ℕ → BuildPlatform → List ℕ → Option Fact
 switched_fact packages p s name =
     option_and_then (λ r. option_map (switched p s) (optional_place r name)) (slice_get packages p)
-
--- the clause with this body and this head, if there is a head
-abbrev pub if_there : Option Fact → Option Fact → Option Fact → List (Clause Fact)
-if_there first second (Some head) = record { first = first; second = second; head = head } ∷ []
-if_there first second None = []
-
--- these clauses, if so
-abbrev pub when : Bool → List (Clause Fact) → List (Clause Fact)
-when true rules = rules
-when false rules = []

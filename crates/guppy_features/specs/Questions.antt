@@ -1,10 +1,11 @@
 -- What is asked of a graph.
-use Rattle.std.specs.Prelude.{ℕ, ◌==◌, Bool, true, false, ◌&&◌, ◌||◌, not, Option, Some, List, slice_get}
+use Rattle.std.specs.Prelude.{ℕ, ◌==◌, Bool, true, false, ◌&&◌, ◌||◌, not, if◌then◌else◌, Option, Some, slice_get}
 use Rattle.std.specs.List.{list_any}
 use Rattle.std.specs.Option.{option_map_or}
 use Rattle.guppy_data.specs.Platform.{Status, Never, Always, Dependent, status_value, recorded_status, question_of as platforms_of}
 use Rattle.guppy_data.specs.declared.platform.ternary.EnabledTernary.{EnabledTernary}
 use Rattle.guppy_data.specs.declared.platform.ternary.EnabledTernary.TheVariants.{Disabled, Unknown, Enabled}
+use Rattle.guppy_data.specs.declared.platform.spec.PlatformSpec.{PlatformSpec}
 use Rattle.guppy_data.specs.declared.texts.dependency_kind.DependencyKind.{DependencyKind}
 use Rattle.guppy_data.specs.declared.texts.dependency_kind.DependencyKind.TheVariants.{Normal, Development, Build}
 use Rattle.guppy_data.specs.declared.records.BuildTargetRecord.{BuildTargetRecord}
@@ -14,6 +15,7 @@ use Rattle.guppy_data.specs.declared.records.BuildTargetKindRecord.{BuildTargetK
 use Rattle.guppy_data.specs.declared.records.BuildTargetKindRecord.TheVariants.{ProcMacro}
 use Rattle.guppy_graph.specs.Graph.{GraphData}
 use Rattle.guppy_target.specs.Answer.{answer_of}
+use Rattle.guppy_target.specs.Platform.{PlatformData}
 use Rattle.guppy_features.specs.declared.fact.BuildPlatform.{BuildPlatform}
 use Rattle.guppy_features.specs.declared.fact.BuildPlatform.TheVariants.{Target, Host}
 use Rattle.guppy_features.specs.declared.fact.Fact.{Fact}
@@ -88,17 +90,18 @@ may_be Disabled = false
 may_be Unknown = true
 may_be Enabled = true
 
-abbrev pub is_on_if : Bool → Bool → CargoOptions → Status → Bool
-is_on_if false on_host options status = is_present status
-is_on_if true true options status =
-    may_be (status_value answer_of status (platforms_of options.host_platform))
-is_on_if true false options status =
-    may_be (status_value answer_of status (platforms_of options.target_platform))
+-- the platforms that count for a package on the side, in the section: on the host's side, and for build dependencies,
+-- the host's
+abbrev pub platforms_for : Question → BuildPlatform → DependencyKind → PlatformSpec PlatformData
+platforms_for q s section =
+    if is_host s || is_build section then q.options.host_platform else q.options.target_platform
 
--- whether what has the status is on for a package on the side, in the section: with resolver 1 if there is a platform
--- for it, else if it may be on one that counts: of the host's side, and of build dependencies, the host's
+-- whether what has the status is on for a package on the side, in the section: where the sides are apart, if it may be
+-- on one of the platforms that count there, else if it is on any platform
 abbrev pub is_on : Question → BuildPlatform → DependencyKind → Status → Bool
-is_on q s section status = is_on_if (splits q) (is_host s || is_build section) q.options status
+is_on q s section status = if splits q
+    then may_be (status_value answer_of status (platforms_of (platforms_for q s section)))
+    else is_present status
 
 -- whether dependencies of the section of the package count at all: dev-dependencies those of chosen packages alone,
 -- and where the sides are apart with tests alone
@@ -110,21 +113,13 @@ may_ask q p section = not (is_development section)
 abbrev pub counts : Question → BuildPlatform → DependencyData → Bool
 counts q s d = may_ask q d.from d.section && is_on q s d.section (recorded_status d.part.build_if)
 
-abbrev pub side_if : Bool → Bool → BuildPlatform → BuildPlatform
-side_if true true s = Host
-side_if true false s = s
-side_if false on_host s = s
-
 -- the side that the dependency's package is on, for a package on the side: where they are apart, what is needed to
 -- build, and procedural macros, are on the host's
 abbrev pub side_of : Question → BuildPlatform → DependencyData → BuildPlatform
-side_of q s d = side_if (splits q) (is_build d.section || is_macro q d.to) s
-
-abbrev pub use_if : Bool → Question → BuildPlatform → DependencyData → Option Fact
-use_if true q s d = switched_fact q.graph.packages d.from s d.name
-use_if false q s d = Some (part d.from s)
+side_of q s d = if splits q && (is_build d.section || is_macro q d.to) then Host else s
 
 -- what holds where the dependency is used on the side: that its package takes part, or that the optional one is
 -- switched on
 abbrev pub use_of : Question → BuildPlatform → DependencyData → Option Fact
-use_of q s d = use_if d.is_optional q s d
+use_of q s d =
+    if d.is_optional then switched_fact q.graph.packages d.from s d.name else Some (part d.from s)

@@ -21,8 +21,8 @@ pub enum FactKind {
     Feature,
 }
 
-/// What may hold of a package on a side. A place is one in the package's record, as
-/// [`FeatureIndexInPackage`](guppy::FeatureIndexInPackage) has it.
+/// What may hold of a package on a side. A place is one in the package's record: of an optional dependency in
+/// `optional_deps`, of a feature in `named_features`.
 #[derive(Clone, Copy, Debug, PartialEq, Eq, PartialOrd, Ord)]
 pub struct Fact {
     /// The position of the package.

@@ -1,10 +1,24 @@
-//! What Cargo resolves for a build: which packages take part, on which side, and with which features.
+//! Which packages take part in a build, on which side and with which features, as Cargo resolves it.
 //!
-//! - `fact`: what may hold of a package: that it takes part, that an optional dependency of its is switched on, that a
-//!   feature of its is on;
+//! A fact says of a package, on a side, that it takes part, that an optional dependency of its is switched on, or that a
+//! feature of its is on. Some facts hold because they are asked for. Others follow, by the packages' features and
+//! dependencies, from facts that hold. A [`CargoSet`] has these facts and no other.
+//!
+//! A package that takes part need not be built: build dependencies take part even where there is no build script. And
+//! only Cargo's resolver of features is followed. That of versions, which runs first, can leave out an optional
+//! dependency that nothing but a dev-dependency's feature, as in `f = ["testkit/g"]`, leads to; it takes part here, and
+//! Cargo builds without it.
+//!
+//! The modules, from the bottom up:
+//!
+//! - `fact`: what may hold of a package;
 //! - `options`: what is asked of Cargo;
+//! - `dependencies`: the dependencies of a package, six for each link that leaves it;
 //! - `question`: the graph with what is asked, and what both say of a dependency;
-//! - `needs`, `values`, `roots`: the clauses by which facts follow from others, a module a rule;
+//! - `rules`: a list of clauses, each of which says that a fact follows from at most two;
+//! - `needs`, `values` and `roots`: the clauses by what a dependency needs, by what a feature's value switches on, and by
+//!   what is asked of a chosen package;
+//! - `clauses`: all of them;
 //! - `set`: the facts that hold.
 #![tactic(auto)]
 

@@ -5,7 +5,7 @@ ghost use Rattle.guppy_data.specs.Platform.{recorded_status, seen_status, status
 ghost use Rattle.guppy_target.specs.Answer.{answer_of};
 ghost use Rattle.guppy_features.specs.Facts.{feature_fact, switched_fact};
 ghost use Rattle.guppy_features.specs.Dependencies.{seen_dependency};
-ghost use Rattle.guppy_features.specs.Questions.{question_of, splits, is_initial, is_macro, is_macro_library, is_on, may_ask, may_be, counts, side_of, use_of};
+ghost use Rattle.guppy_features.specs.Questions.{question_of, splits, is_initial, is_macro, is_macro_library, is_on, platforms_for, may_ask, may_be, counts, side_of, use_of};
 
 use crate::dependencies::Dependency;
 use crate::fact::{BuildPlatform, Fact};
@@ -64,10 +64,21 @@ impl<'a> Asked<'a> {
         if !self.splits() {
             return status.is_present();
         }
+        may_be_on(status, self.platforms_for(side, section))
+    }
+
+    // The platforms that count for a package on the side, in the section.
+    fn platforms_for(
+        self,
+        side: BuildPlatform,
+        section: DependencyKind,
+    ) -> &'a PlatformSpec<Platform>
+        ensures { result.now ≡ platforms_for (question_of self.entry) side section }
+    {
         if side == BuildPlatform::Host || section == DependencyKind::Build {
-            may_be_on(status, &self.options.host_platform)
+            &self.options.host_platform
         } else {
-            may_be_on(status, &self.options.target_platform)
+            &self.options.target_platform
         }
     }
 
