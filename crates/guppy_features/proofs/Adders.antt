@@ -1,6 +1,6 @@
 -- What each step adds, of what the steps within it add.
-use Rattle.std.proofs.Common.{◌≡◌, ◌⊎◌, ℕ, ◌×◌, Bool, true, false, ◌&&◌, List, [], ◌∷◌, ◌++◌, Option, Some, None, ◌∙◌, inl, inr, refl, ap, sym, subst}
-use Rattle.std.specs.Prelude.{IsTrue, Contains, slice_get, option_to_list}
+use Rattle.std.proofs.Common.{◌≡◌, ◌⊎◌, ℕ, Bool, true, false, ◌&&◌, List, [], ◌∷◌, ◌++◌, Option, Some, None, ◌∙◌, inl, inr, refl, ap, sym, subst}
+use Rattle.std.specs.Prelude.{IsTrue, Contains, length, slice_get, option_to_list}
 use Rattle.std.specs.declared.string.String.{String}
 use Rattle.std.specs.declared.vec.Vec.{Vec}
 use Rattle.std.specs.declared.alloc.Global.{Global}
@@ -15,7 +15,7 @@ use Rattle.guppy_features.specs.Questions.{Question, may_ask, use_of}
 use Rattle.guppy_features.specs.Adding.{Adds, Where, Behind, OfSome}
 use Rattle.guppy_features.specs.Needs.{Needs, NeedsWhere, feature_there}
 use Rattle.guppy_features.specs.Values.{Gives, GivesWeakly, GivesStrongly}
-use Rattle.guppy_features.specs.Follows.{HasValue}
+use Rattle.guppy_features.specs.Follows.{HasValue, feature_count}
 use Rattle.guppy_features.specs.Parts.{SwitchesAt}
 use Rattle.guppy_features.proofs.Adding.{adds_same, adds_then, adds_if, adds_if_not, behind_where, behind_either, behind_if}
 
@@ -60,3 +60,9 @@ module _ (q : Question) (p : ℕ) (s : BuildPlatform) (n : ℕ) {old new : List 
     λ o. (o.0, (r, e, record_is, entry_is, o.1), o.2),
     λ w. (w.0, values_same q p n r e w.0 record_is entry_is w.1, w.2),
   ))
+
+pub count_is : (q : Question) (p : ℕ) (r : PackageRecord) → slice_get q.graph.packages p ≡ Some r → feature_count q p ≡ length r.named_features.entries
+count_is q p r is = rw is refl
+
+pub both_true : (a b : Bool) → IsTrue a → IsTrue b → IsTrue (a && b)
+both_true a b h k = rw (h, k) refl

@@ -47,11 +47,11 @@ module _ (q : Question) where
   ]
 
   needed_follows : (d : DependencyData) (s : BuildPlatform) (used : Fact) → IsDependency q d → IsUse q s d used → (body : List Fact) (f : Fact) → NeedsWhere q s d used body f → FollowsFor q body f
-  needed_follows d s used of use body f h = elim h as (λ _. FollowsFor q body f) [
-    | inl w ↦ moved body (used ∷ []) f (part d.to (side_of q s d)) w.1.0 (some_same w.1.1) (needs d s used of use w.0)
+  needed_follows d s used of used_there body f h = elim h as (λ _. FollowsFor q body f) [
+    | inl w ↦ moved body (used ∷ []) f (part d.to (side_of q s d)) w.1.0 (some_same w.1.1) (needs d s used of used_there w.0)
     | inr k ↦ elim k as (λ _. FollowsFor q body f) [
-      | inl w ↦ moved body (used ∷ []) f f w.1.0 refl (needs_feature d s used of use (inl (w.0, w.1.1)))
-      | inr w ↦ moved body (used ∷ []) f f w.2.1.0 refl (needs_feature d s used of use (inr (w.0, w.1, w.2.0, w.2.1.1)))
+      | inl w ↦ moved body (used ∷ []) f f w.1.0 refl (needs_feature d s used of used_there (inl (w.0, w.1.1)))
+      | inr w ↦ moved body (used ∷ []) f f w.2.1.0 refl (needs_feature d s used of used_there (inr (w.0, w.1, w.2.0, w.2.1.1)))
     ]
   ]
 
@@ -94,10 +94,10 @@ module _ (q : Question) where
   follows_all gate f (asked i s value root among gives) = of_root i s root gate f (inr (inr (value, among, (gate, refl, gives))))
   follows_all _ f (switches p s n value {gate} has gives) =
       of_package p s (slice_get_within q.graph.packages p has.0 has.2) (feature p s n ∷ gate) f (inr (n, count_above p n value has, (value, has, (gate, refl, gives))))
-  follows_all _ _ (needs d s used of use on) =
-      of_package of.0 s of.1 (used ∷ []) (part d.to (side_of q s d)) (inl (d, of.2, (used, use, inl (on, (refl, refl)))))
-  follows_all _ f (needs_feature d s used of use asks) =
-      of_package of.0 s of.1 (used ∷ []) f (inl (d, of.2, (used, use, inr (elim asks [
+  follows_all _ _ (needs d s used of used_there on) =
+      of_package of.0 s of.1 (used ∷ []) (part d.to (side_of q s d)) (inl (d, of.2, (used, used_there, inl (on, (refl, refl)))))
+  follows_all _ f (needs_feature d s used of used_there asks) =
+      of_package of.0 s of.1 (used ∷ []) f (inl (d, of.2, (used, used_there, inr (elim asks [
         | inl w ↦ inl (w.0, (refl, w.1))
         | inr w ↦ inr (w.0, w.1, (w.2, (refl, w.3)))
       ]))))

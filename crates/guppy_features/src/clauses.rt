@@ -29,7 +29,7 @@ impl Asked<'_> {
     // Adds what is asked of the chosen packages.
     fn add_all_roots(self, rules: &mut Rules) -> Result<(), AllocError>
         requires { All (λ i. i.position < length self.graph.now.packages) self.options.now.initials.items }
-        ensures { OnOk result (Adds (OfSome self.options.now.initials.items (HasRoots (question_of self.entry)))
+        ensures { OnOk result (Adds (OfSome self.entry.options.now.initials.items (HasRoots (question_of self.entry)))
             rules.old.items rules.new.items) }
     {
         for chosen in &self.options.initials {
@@ -40,7 +40,7 @@ impl Asked<'_> {
 
     // Adds what follows from facts about packages.
     fn add_packages(self, rules: &mut Rules) -> Result<(), AllocError>
-        ensures { OnOk result (Adds (OfBelow (length self.graph.now.packages) (FollowsOf (question_of self.entry)))
+        ensures { OnOk result (Adds (OfBelow (length self.entry.graph.now.packages) (FollowsOf (question_of self.entry)))
             rules.old.items rules.new.items) }
     {
         for position in 0..self.graph.package_count() {
