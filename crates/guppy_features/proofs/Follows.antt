@@ -5,6 +5,10 @@ use Rattle.std.specs.Option.{option_map_or}
 use Rattle.std.proofs.lemmas.Option.{slice_get_within}
 use Rattle.guppy_data.specs.declared.records.PackageRecord.{PackageRecord}
 use Rattle.guppy_data.specs.declared.texts.named_feature.NamedFeatureDep.{NamedFeatureDep}
+use Rattle.guppy_closure.specs.declared.clause.Clause.{Clause}
+use Rattle.guppy_closure.specs.Clauses.{Holds}
+use Rattle.guppy_closure.specs.Relations.{HoldsBy, AreClausesOf}
+use Rattle.guppy_closure.proofs.Relations.{holds_by}
 use Rattle.guppy_features.specs.declared.fact.BuildPlatform.{BuildPlatform}
 use Rattle.guppy_features.specs.declared.fact.BuildPlatform.TheVariants.{Target, Host}
 use Rattle.guppy_features.specs.declared.fact.Fact.{Fact}
@@ -104,3 +108,9 @@ module _ (q : Question) where
 
   pub what_follows : (body : List Fact) (f : Fact) → AllOf body f ↔ FollowsFor q body f
   what_follows body f = (all_follow body f, follows_all body f)
+
+-- the facts of a list are those that hold by the clauses
+pub facts_follow : (q : Question) (clauses : List (Clause Fact)) (facts : List Fact) → AreClausesOf (FollowsFor q) clauses → ((f : Fact) → Contains facts f ↔ Holds clauses f) → (f : Fact) → Contains facts f ↔ HoldsBy (FollowsFor q) f
+facts_follow q clauses facts are holds f =
+    let same = holds_by (FollowsFor q) clauses are f in
+    (λ i. same.1 ((holds f).0 i), λ h. (holds f).1 (same.0 h))

@@ -23,8 +23,14 @@ pub struct CargoSet<'a> {
 impl<'a> Model for CargoSet<'a> {
     ghost use Rattle.guppy_closure.specs.Relations.{AreClausesOf};
     ghost use Rattle.guppy_features.specs.Questions.{Question, question_of};
+    ghost use Rattle.guppy_features.specs.Follows.{FollowsFor};
+    ghost use Rattle.guppy_graph.specs.contracts.graph.RecordGraph as of_graph;
+    ghost use Rattle.guppy_features.specs.contracts.options.CargoOptions as of_options;
+    ghost use Rattle.std.specs.Coded.{codes};
 
     ghost Value = { Question };
+
+    ghost coded = { Prim.hlevel (codes, of_graph.the_row.coded, of_options.the_row.coded) };
 
     ghost view = { λ s. question_of s.asked };
 
