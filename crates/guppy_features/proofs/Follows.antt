@@ -101,10 +101,18 @@ module _ (q : Question) where
   follows_all _ _ (needs d s used of used_there on) =
       of_package of.0 s of.1 (used ∷ []) (part d.to (side_of q s d)) (inl (d, of.2, (used, used_there, inl (on, (refl, refl)))))
   follows_all _ f (needs_feature d s used of used_there asks) =
-      of_package of.0 s of.1 (used ∷ []) f (inl (d, of.2, (used, used_there, inr (elim asks [
-        | inl w ↦ inl (w.0, (refl, w.1))
-        | inr w ↦ inr (w.0, w.1, (w.2, (refl, w.3)))
-      ]))))
+      of_package of.0 s of.1 (used ∷ []) f (inl (
+        d,
+        of.2,
+        (
+          used,
+          used_there,
+          inr (elim asks [
+            | inl w ↦ inl (w.0, (refl, w.1))
+            | inr w ↦ inr (w.0, w.1, (w.2, (refl, w.3)))
+          ]),
+        ),
+      ))
 
   pub what_follows : (body : List Fact) (f : Fact) → AllOf body f ↔ FollowsFor q body f
   what_follows body f = (all_follow body f, follows_all body f)

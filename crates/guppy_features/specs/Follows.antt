@@ -6,6 +6,7 @@ use Rattle.std.specs.declared.string.String.{String}
 use Rattle.std.specs.declared.vec.Vec.{Vec}
 use Rattle.std.specs.declared.alloc.Global.{Global}
 use Rattle.guppy_data.specs.Platform.{recorded_status}
+use Rattle.guppy_data.specs.declared.platform.status.PlatformStatusImpl.{PlatformStatusImpl}
 use Rattle.guppy_data.specs.declared.records.PackageRecord.{PackageRecord}
 use Rattle.guppy_data.specs.declared.texts.named_feature.NamedFeatureDep.{NamedFeatureDep}
 use Rattle.guppy_features.specs.declared.fact.BuildPlatform.{BuildPlatform}
@@ -47,7 +48,7 @@ abbrev pub AsksFor : Question → BuildPlatform → DependencyData → Fact → 
 AsksFor q s d f =
     (IsTrue (is_on q s d.section (recorded_status d.part.default_features_if))
     × (feature_there q s (codes "default") d ≡ Some f))
-    ⊎ ((e : _) × Contains d.part.feature_targets.entries e
+    ⊎ ((e : String Global × PlatformStatusImpl) × Contains d.part.feature_targets.entries e
     × IsTrue (is_on q s d.section (recorded_status e.1)) × (feature_there q s (string_bytes e.0) d ≡ Some f))
 
 -- where all of the body holds, so does the head

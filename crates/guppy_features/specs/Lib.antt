@@ -6,3 +6,4 @@ pub mod Needs
 pub mod Values
 pub mod Follows
 pub mod Parts
+pub mod FactOrder

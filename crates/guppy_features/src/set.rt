@@ -1,6 +1,8 @@
 //! What Cargo resolves.
 ghost use Rattle.std.specs.Prelude.{◌≡◌, ◌↔◌, ◌<◌, All, Contains, IfOk, IsTrue, length};
+ghost use Rattle.std.specs.List.Sorted.{IsStrictlySortedBy};
 ghost use Rattle.guppy_closure.specs.Relations.{HoldsBy};
+ghost use Rattle.guppy_features.specs.FactOrder.{fact_cmp};
 ghost use Rattle.guppy_features.specs.declared.fact.Fact.{Fact};
 ghost use Rattle.guppy_features.specs.Questions.{question};
 ghost use Rattle.guppy_features.specs.Follows.{FollowsFor};
@@ -68,7 +70,9 @@ impl<'a> CargoSet<'a> {
 
     /// The facts that hold, ascending, each once. Takes memory for them, and fails only where there is none.
     pub fn facts(&self, alloc: Global) -> Result<Vec<Fact>, AllocError>
-        ensures { IfOk result (λ facts. (f : Fact) → Contains facts.items f ↔ HoldsBy (FollowsFor self.now) f) }
+        ensures holds { IfOk result (λ facts.
+            (f : Fact) → Contains facts.items f ↔ HoldsBy (FollowsFor self.now) f) }
+        ensures order { IfOk result (λ facts. IsStrictlySortedBy fact_cmp facts.items) }
     {
         self.known.facts(alloc)
     }

@@ -9,7 +9,7 @@ pub loop-place-preserved : goal.loop-place-preserved
 loop-place-preserved c = adds_below_more c.loop-place.place c.loop-place.invariant (rw c.feature.ensures at c.in_ok-add_rule.ensures)
 
 pub returns : goal.returns
-returns c = 
+returns c =
     let count = count_is (question_of c.args.self) c.args.position c.package_at.result.now c.package_at.ensures in
     let same : c.loop-place.place ≡ feature_count (question_of c.args.self) c.args.position = rw count (omega arith) in
     adds_below_all c.loop-place.place (feature_count (question_of c.args.self) c.args.position) same c.loop-place.invariant

@@ -6,7 +6,7 @@ use Rattle.guppy_features.proofs.Adders.{adds_switches}
 use Rattle.guppy_features.proofs.question.Asked.add_feature_at.Goals as goal
 
 pub returns : goal.returns
-returns c = 
+returns c =
     let values = c.in-Some.values.now in
     let entry : slice_get c.package_at.result.now.named_features.entries c.args.place ≡ Some (c.in-Some.field-0-0.now, values) = sym c.in-Some.ensures.entry in
     let added = rw (c.feature.ensures, c.as_slice.ensures.value) at c.add_values.ensures in

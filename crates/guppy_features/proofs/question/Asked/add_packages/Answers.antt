@@ -6,6 +6,6 @@ pub loop-position-preserved : goal.loop-position-preserved
 loop-position-preserved c = adds_below_more c.loop-position.position c.loop-position.invariant c.in_ok-add_package.ensures
 
 pub returns : goal.returns
-returns c = 
+returns c =
     let same : c.loop-position.position ≡ length c.args.self.graph.now.packages = omega arith in
     adds_below_all c.loop-position.position (length c.args.self.graph.now.packages) same c.loop-position.invariant

@@ -10,13 +10,13 @@ use Rattle.guppy_features.proofs.Adding.{adds_if, behind_if}
 use Rattle.guppy_features.proofs.question.Asked.add_through.Goals as goal
 
 pub returns-then-weak : goal.returns-then-weak
-returns-then-weak c = 
+returns-then-weak c =
     let named : IsTrue (bytes_eq c.args.dependency.now.name.now c.args.name.now) = search rules in
     let counted : IsTrue (counts (question_of c.args.self) c.args.side (seen_dependency c.args.dependency.now)) = sym c.counts.ensures ∙ c.if-not-counts.false in
     rw c.if-weak.true (on_ok_weaker c.add_weakly.result (λ (a : Adds (Behind c.args.first (GivesWeakly (question_of c.args.self) c.args.side c.args.feature.now (seen_dependency c.args.dependency.now))) c.args.rules.now.items c.add_weakly.new.rules.items). behind_if c.args.first (adds_if (named, counted) a)) c.add_weakly.ensures)
 
 pub returns-else-weak : goal.returns-else-weak
-returns-else-weak c = 
+returns-else-weak c =
     let named : IsTrue (bytes_eq c.args.dependency.now.name.now c.args.name.now) = search rules in
     let counted : IsTrue (counts (question_of c.args.self) c.args.side (seen_dependency c.args.dependency.now)) = sym c.counts.ensures ∙ c.if-not-counts.false in
     rw c.if-weak.false (on_ok_weaker c.add_strongly.result (λ (a : Adds (Behind c.args.first (GivesStrongly (question_of c.args.self) c.args.side c.args.feature.now (seen_dependency c.args.dependency.now))) c.args.rules.now.items c.add_strongly.new.rules.items). behind_if c.args.first (adds_if (named, counted) a)) c.add_strongly.ensures)
