@@ -1,6 +1,6 @@
 -- What each step adds, of what the steps within it add.
-use Rattle.std.proofs.Common.{◌≡◌, ◌⊎◌, ℕ, Bool, true, false, ◌&&◌, List, [], ◌∷◌, ◌++◌, Option, Some, None, ◌∙◌, inl, inr, refl, ap, sym, subst}
-use Rattle.std.specs.Prelude.{IsTrue, Contains, length, slice_get, option_to_list}
+use Rattle.std.proofs.Common.{◌≡◌, ℕ, Bool, true, false, ◌&&◌, List, Option, Some, None, ◌∙◌, refl, sym, subst}
+use Rattle.std.specs.Prelude.{IsTrue, Contains, length, slice_get}
 use Rattle.std.specs.declared.string.String.{String}
 use Rattle.std.specs.declared.vec.Vec.{Vec}
 use Rattle.std.specs.declared.alloc.Global.{Global}

@@ -1,5 +1,5 @@
 -- How what is added in steps comes together.
-use Rattle.std.proofs.Common.{◌≡◌, ◌⊎◌, ◌↔◌, ℕ, ◌+◌, ◌<◌, ◌≤◌, map, List, [], ◌∷◌, ◌++◌, Option, Some, None, ◌∙◌, inl, inr, refl, ap, sym, subst, take, get_or, length, arith, append_assoc}
+use Rattle.std.proofs.Common.{◌≡◌, ◌⊎◌, ◌↔◌, ℕ, ◌+◌, ◌<◌, ◌≤◌, map, List, [], ◌∷◌, ◌++◌, Option, Some, None, ◌∙◌, inl, inr, refl, ap, sym, subst, take, get_or, length, arith}
 use Rattle.std.specs.Prelude.{Contains, option_to_list}
 use Rattle.std.proofs.lemmas.List.Elements.{Contains-append_cases, Contains-append_left, Contains-append_right}
 use Rattle.std.proofs.lemmas.Bool.{cases_lt}
@@ -9,7 +9,6 @@ use Rattle.guppy_closure.specs.declared.clause.Clause.{Clause}
 use Rattle.guppy_closure.specs.Clauses.{InBody}
 use Rattle.guppy_closure.specs.Named.{body_of}
 use Rattle.guppy_closure.specs.Relations.{AreClausesOf}
-use Rattle.guppy_closure.proofs.Relations.{in_body_of}
 use Rattle.guppy_features.specs.Adding.{Adds, Where, Behind, Either, If, OfSome, OfBelow}
 
 split : (i n : ℕ) → i < n + 1 → (i < n) ⊎ (i ≡ n)

@@ -1,6 +1,6 @@
 -- What the steps add is what follows.
-use Rattle.std.proofs.Common.{◌≡◌, ◌⊎◌, ◌↔◌, ℕ, ◌<◌, List, [], ◌∷◌, ◌++◌, Option, Some, None, length, inl, inr, refl, ap, sym, subst}
-use Rattle.std.specs.Prelude.{IsTrue, Contains, slice_get}
+use Rattle.std.proofs.Common.{◌≡◌, ◌↔◌, ℕ, ◌<◌, List, [], ◌∷◌, Option, Some, length, inl, inr, refl, sym, subst}
+use Rattle.std.specs.Prelude.{Contains}
 use Rattle.std.specs.Option.{option_map_or}
 use Rattle.std.proofs.lemmas.Option.{slice_get_within}
 use Rattle.guppy_data.specs.declared.records.PackageRecord.{PackageRecord}
@@ -20,7 +20,6 @@ use Rattle.guppy_features.specs.Dependencies.{DependencyData}
 use Rattle.guppy_features.specs.Questions.{Question, side_of}
 use Rattle.guppy_features.specs.Adding.{Either, OfSome, OfBelow}
 use Rattle.guppy_features.specs.Needs.{IsUse, NeedsWhere}
-use Rattle.guppy_features.specs.Values.{Always}
 use Rattle.guppy_features.specs.Follows.{FollowsFor, chosen, default_features, all_features, asked, switches, needs, needs_feature, IsRoot, IsDependency, HasValue, feature_count}
 use Rattle.guppy_features.specs.Parts.{HasStandard, HasRootsOn, HasRoots, FollowsOn, FollowsOf}
 

@@ -1,5 +1,5 @@
 -- Clauses that are added to a list, as a relation between bodies and heads states them.
-use Rattle.std.specs.Prelude.{◌≡◌, ◌⊎◌, ℕ, ◌<◌, Option, Some, List, [], ◌∷◌, ◌++◌, Contains, option_to_list}
+use Rattle.std.specs.Prelude.{◌≡◌, ◌⊎◌, ℕ, ◌<◌, Option, Some, List, ◌++◌, Contains, option_to_list}
 use Rattle.guppy_closure.specs.declared.clause.Clause.{Clause}
 use Rattle.guppy_closure.specs.Clauses.{InBody}
 use Rattle.guppy_closure.specs.Named.{body_of}

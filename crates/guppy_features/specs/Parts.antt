@@ -1,5 +1,5 @@
 -- What is asked of the chosen packages, and what the packages' features and dependencies add to it.
-use Rattle.std.specs.Prelude.{◌≡◌, codes, ℕ, IsTrue, Option, Some, None, List, length}
+use Rattle.std.specs.Prelude.{codes, ℕ, IsTrue, Some, None, List}
 use Rattle.guppy_features.specs.declared.fact.BuildPlatform.{BuildPlatform}
 use Rattle.guppy_features.specs.declared.fact.BuildPlatform.TheVariants.{Target, Host}
 use Rattle.guppy_features.specs.declared.fact.Fact.{Fact}

@@ -1,6 +1,3 @@
-use Rattle.std.proofs.Common.{◌≡◌, Some, None, ◌∙◌, sym, subst}
-use Rattle.guppy_features.specs.declared.fact.Fact.{Fact}
-use Rattle.guppy_features.specs.Adding.{Adds, Where}
 use Rattle.guppy_features.proofs.Adding.{adds_clause, adds_nothing}
 use Rattle.guppy_features.proofs.rules.add_rule.Goals as goal
 

@@ -1,4 +1,4 @@
-use Rattle.std.proofs.Common.{◌≡◌, arith, sym}
+use Rattle.std.proofs.Common.{◌≡◌, arith}
 use Rattle.guppy_features.specs.Questions.{question_of}
 use Rattle.guppy_features.specs.Follows.{feature_count}
 use Rattle.guppy_features.proofs.Adding.{adds_below_more, adds_below_all}

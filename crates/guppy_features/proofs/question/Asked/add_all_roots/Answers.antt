@@ -1,4 +1,3 @@
-use Rattle.std.proofs.Common.{◌≡◌, length, sym, subst}
 use Rattle.guppy_features.proofs.Adding.{adds_take_more, adds_take_all}
 use Rattle.guppy_features.proofs.question.Asked.add_all_roots.Goals as goal
 
