@@ -1,6 +1,7 @@
 -- What each step adds, of what the steps within it add.
 use Rattle.std.proofs.Common.{◌≡◌, ℕ, Bool, true, false, ◌&&◌, List, Option, Some, None, ◌∙◌, refl, sym, subst}
 use Rattle.std.specs.Prelude.{IsTrue, Contains, length, slice_get}
+use Rattle.std.specs.Str.{bytes_eq}
 use Rattle.std.specs.declared.string.String.{String}
 use Rattle.std.specs.declared.vec.Vec.{Vec}
 use Rattle.std.specs.declared.alloc.Global.{Global}
@@ -11,10 +12,10 @@ use Rattle.guppy_features.specs.declared.fact.BuildPlatform.{BuildPlatform}
 use Rattle.guppy_features.specs.declared.fact.Fact.{Fact}
 use Rattle.guppy_features.specs.Facts.{feature, feature_fact}
 use Rattle.guppy_features.specs.Dependencies.{DependencyData}
-use Rattle.guppy_features.specs.Questions.{Question, may_ask, use_of}
+use Rattle.guppy_features.specs.Questions.{Question, may_ask, counts, use_of}
 use Rattle.guppy_features.specs.Adding.{Adds, Where, Behind, OfSome}
 use Rattle.guppy_features.specs.Needs.{Needs, NeedsWhere, feature_there}
-use Rattle.guppy_features.specs.Values.{Gives, GivesWeakly, GivesStrongly}
+use Rattle.guppy_features.specs.Values.{Gives, GivesEither, GivesThrough, GivesWeakly, GivesStrongly}
 use Rattle.guppy_features.specs.Follows.{HasValue, feature_count}
 use Rattle.guppy_features.specs.Parts.{SwitchesAt}
 use Rattle.guppy_features.proofs.Adding.{adds_same, adds_then, adds_if, adds_if_not, behind_where, behind_either, behind_if}
@@ -66,3 +67,7 @@ count_is q p r is = rw is refl
 
 pub both_true : (a b : Bool) → IsTrue a → IsTrue b → IsTrue (a && b)
 both_true a b h k = rw (h, k) refl
+
+module _ (q : Question) (s : BuildPlatform) (d : DependencyData) (x name : List ℕ) (weak : Bool) (first : Option Fact) {old new : List (Clause Fact)} where
+  pub adds_through : IsTrue (bytes_eq d.name x) → IsTrue (counts q s d) → Adds (Behind first (GivesEither q s name weak d)) old new → Adds (Behind first (GivesThrough q s x name weak d)) old new
+  adds_through named counted a = behind_if first (adds_if (named, counted) a)
