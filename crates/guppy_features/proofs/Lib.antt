@@ -1,0 +1,4 @@
+pub mod LeavingLinks
+pub mod Adding
+pub mod Adders
+pub mod Follows
