@@ -26,6 +26,18 @@ pub(crate) fn are_names(parts: Components<'_>) -> bool
     true
 }
 
+/// Whether the components are names alone.
+pub(crate) fn all_names(parts: &[Component<'_>]) -> bool
+    ensures { IsTrue result ↔ All IsName (map part_shown parts.now) }
+{
+    for part in parts {
+        if !is_name(*part) {
+            return false;
+        }
+    }
+    true
+}
+
 /// Takes the last component, and tells whether that was a name.
 pub(crate) fn pop_name(parts: &mut Vec<Component<'_>>) -> bool
     ensures name { IsTrue result → (part : Part) × IsName part

@@ -1,4 +1,4 @@
-use Rattle.std.proofs.Common.{◌≡◌, ◌∙◌, ap, sym, List, [], ◌∷◌, ◌++◌, append_assoc}
+use Rattle.std.proofs.Common.{◌∙◌, ap, sym, List, [], ◌∷◌, ◌++◌, append_assoc}
 use Rattle.guppy_data.specs.Path.{Part, Name}
 use Rattle.guppy_data.specs.Component.{part_shown, parts_left}
 use Rattle.guppy_folders.proofs.LastNames.{same_last}

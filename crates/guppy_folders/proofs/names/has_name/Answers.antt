@@ -1,4 +1,4 @@
-use Rattle.std.proofs.Common.{◌≡◌, subst, sym, true, List, [], ◌∷◌, ℕ, zero, suc, Contains, arith}
+use Rattle.std.proofs.Common.{◌≡◌, subst, sym, true, List, [], ◌∷◌, ℕ, zero, suc, arith}
 use Rattle.std.proofs.lemmas.List.Elements.{Contains-append_right}
 use Rattle.guppy_data.specs.Path.{Part, Name}
 use Rattle.guppy_data.specs.Component.{part_shown, parts_left}
