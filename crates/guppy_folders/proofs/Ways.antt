@@ -4,7 +4,7 @@ use Rattle.std.proofs.lemmas.List.{map_push, reverse-append}
 use Rattle.guppy_data.specs.Path.{Part}
 use Rattle.guppy_data.specs.Component.{part_shown}
 use Rattle.guppy_data.specs.declared.texts.component.Component.{Component}
-use Rattle.guppy_folders.specs.Places.{up, stepped, walked}
+use Rattle.guppy_folders.specs.Places.{stepped, walked}
 
 -- what is pushed stands first
 pub pushed : (items more : List Component) (part : Component) → more ≡ items ++ part ∷ [] → reverse (map part_shown more) ≡ part_shown part ∷ reverse (map part_shown items)

@@ -8,8 +8,7 @@ pub loop-part-preserved : goal.loop-part-preserved
 loop-part-preserved c =
     let name = c.args.name.now in
     let part = part_shown c.in-Some.part in
-    let seen = c.loop-part.invariant.0 in
-    (
+    let seen = c.loop-part.invariant.0 in (
       seen ++ part ∷ [],
       c.loop-part.invariant.1 ∙ ap (λ (l : List Part). seen ++ l) c.in-Some.ensures.steps ∙ sym (append_assoc seen (part ∷ []) (parts_left c.next.new.self)),
       (
