@@ -3,6 +3,7 @@
 //! The modules, from the bottom up:
 //!
 //! - `folders`: the folders of the packages of this machine; `guppy_folders` tells which of them holds a path;
+//! - `elsewhere`: targets whose sources lie outside of their packages' folders;
 //! - `touched`: the packages that changed themselves;
 //! - `tested`: the packages whose tests are built from changed ones;
 //! - the crate itself: the members among these.
@@ -13,6 +14,7 @@ ghost use Rattle.guppy.specs.Query.{IsSetWhere};
 ghost use Rattle.guppy_affected.specs.Affected.{AreAffectedIds, IsAffected};
 ghost use Rattle.guppy_affected.specs.Tested.{AreTestedAfter};
 
+mod elsewhere;
 mod folders;
 mod tested;
 mod touched;
