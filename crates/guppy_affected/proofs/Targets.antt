@@ -1,5 +1,5 @@
 -- Packages with targets elsewhere, and where paths lead.
-use Rattle.std.proofs.Common.{◌≡◌, refl, sym, subst, ℕ, Bool, List, ◌++◌, map, Contains, Some}
+use Rattle.std.proofs.Common.{◌≡◌, refl, sym, subst, ℕ, Bool, List, ◌++◌, map, Contains, None, Some}
 use Rattle.std.specs.Prelude.{◌↔◌, IsTrue, Option, IsSomeAnd, slice_get}
 use Rattle.std.proofs.lemmas.List.Sorted.{Contains-permutation, IsPermutation-sym}
 use Rattle.guppy.specs.Path.{Part, components}
@@ -40,23 +40,20 @@ lists_lead root paths ignored lists places those are found = (
       (Contains-map (λ (path : List Part). resolved (components root ++ path)) lists (components path) ((those (components path)).1 (path, there, counts, refl)))),
 )
 
-module _ (own : Option (List ℕ)) (record_of : Option PackageRecord) (P : List ℕ → PackageRecord → Type 0) where
-  -- what holds of both, with a path for it
-  one_out : (C : List ℕ → Type 0) (Q : List ℕ → List ℕ → PackageRecord → Type 0) → ((o : List ℕ) (r : PackageRecord) → P o r → (path : List ℕ) × C path × Q path o r)
-      → IsSomeAnd own (λ o. IsSomeAnd record_of (P o)) → (path : List ℕ) × C path × IsSomeAnd own (λ o. IsSomeAnd record_of (Q path o))
-  one_out C Q give both =
-      let o = with_own _ own both in
-      let r = with_own _ record_of o.2 in
-      let given = give o.0 r.0 r.2 in
-      (given.0, given.1, rw (o.1, r.1) given.2)
+-- what holds of both, with a path for it
+one_out : (own : Option (List ℕ)) (record_of : Option PackageRecord) (P : List ℕ → PackageRecord → Type 0) (C : List ℕ → Type 0) (Q : List ℕ → List ℕ → PackageRecord → Type 0)
+    → ((o : List ℕ) (r : PackageRecord) → P o r → (path : List ℕ) × C path × Q path o r)
+    → IsSomeAnd own (λ o. IsSomeAnd record_of (P o)) → (path : List ℕ) × C path × IsSomeAnd own (λ o. IsSomeAnd record_of (Q path o))
+one_out None record_of P C Q give both = absurd both
+one_out (Some o) None P C Q give both = absurd both
+one_out (Some o) (Some r) P C Q give both = give o r both
 
-  -- and what follows from it
-  both_along : (Q : List ℕ → PackageRecord → Type 0) → ((o : List ℕ) (r : PackageRecord) → P o r → Q o r)
-      → IsSomeAnd own (λ o. IsSomeAnd record_of (P o)) → IsSomeAnd own (λ o. IsSomeAnd record_of (Q o))
-  both_along Q along both =
-      let o = with_own _ own both in
-      let r = with_own _ record_of o.2 in
-      rw (o.1, r.1) (along o.0 r.0 r.2)
+-- and what follows from it
+both_along : (own : Option (List ℕ)) (record_of : Option PackageRecord) (P Q : List ℕ → PackageRecord → Type 0) → ((o : List ℕ) (r : PackageRecord) → P o r → Q o r)
+    → IsSomeAnd own (λ o. IsSomeAnd record_of (P o)) → IsSomeAnd own (λ o. IsSomeAnd record_of (Q o))
+both_along None record_of P Q along both = absurd both
+both_along (Some o) None P Q along both = absurd both
+both_along (Some o) (Some r) P Q along both = along o r both
 
 -- a folder meets one of the places where it meets that of one of the paths
 module _ (g : GraphData) (paths ignored : List (List ℕ)) (places : List (List Part)) (lead : ArePlaces g.workspace.root paths ignored places) (p : ℕ) where

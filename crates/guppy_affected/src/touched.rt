@@ -66,7 +66,7 @@ fn add_if_changed<'g>(
 ) -> Result<(), Error>
     requires same_graph { set.old.graph ≡ (graph_of metadata).now }
     ensures graph { IfOk result (λ _. set.new.graph ≡ set.old.graph) }
-    ensures added { IfOk result (λ _. IsAdded (graph_of metadata).now (IsChangedBy (graph_of metadata).now
+    ensures added { IfOk result (λ _. IsAdded (graph_of metadata.entry).now (IsChangedBy (graph_of metadata.entry).now
         (lists_in folders.now) (lists_in paths.now) (lists_in places.now)) (package_position metadata.entry)
         set.old.included set.new.included) }
     ensures error { IsOkUnless result Error.OutOfMemory }
