@@ -1,6 +1,6 @@
 -- The packages of this machine, by their folders.
-use Rattle.std.proofs.Common.{◌≡◌, inl, inr, ⊎_elim, sym, ap, subst, ℕ, zero, suc, ◌<◌, List, [], ◌∷◌, ◌++◌, length, Contains, Bor, arith}
-use Rattle.std.specs.Prelude.{◌↔◌, IsSomeAnd, None, Some}
+use Rattle.std.proofs.Common.{◌≡◌, inl, inr, ⊎_elim, refl, sym, ap, subst, ℕ, zero, suc, ◌<◌, List, [], ◌∷◌, ◌++◌, length, Contains, Bor, arith}
+use Rattle.std.specs.Prelude.{◌↔◌, Option, IsSomeAnd, None, Some}
 use Rattle.std.specs.List.{range_with_len}
 use Rattle.std.specs.List.Sorted.{IsPermutation}
 use Rattle.std.proofs.lemmas.List.Elements.{Contains-append_left, Contains-push, Contains-push_cases}
@@ -17,6 +17,11 @@ use Rattle.guppy_folders.proofs.Elements.{Contains-map, from_map, One, One-push}
 -- the package that is seen is of this machine, with this folder
 abbrev pub HasFolder : List Part → Bor GraphData × ℕ → Type 0
 HasFolder folder seen = IsSomeAnd (folder_at seen.0.now.packages seen.1) (λ own. components own ≡ folder)
+
+-- what is there, with what holds of it
+pub with_own : {X : Type 0} (P : X → Type 0) (o : Option X) → IsSomeAnd o P → (own : X) × (o ≡ Some own) × P own
+with_own P None h = absurd h
+with_own P (Some own) h = (own, refl, h)
 
 in_range : (n p : ℕ) → p < n → Contains (range_with_len 0 n) p
 in_range n p below = (p, rw (length-range_with_len 0 n) below, let at = get_or-range_with_len 0 n p p below in omega arith)

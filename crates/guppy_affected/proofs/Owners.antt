@@ -1,6 +1,6 @@
 -- Which packages the paths touch, by the folders that hold them.
-use Rattle.std.proofs.Common.{◌≡◌, ◌∙◌, ◌⊎◌, inl, inr, ⊎_elim, refl, sym, ap, subst, ℕ, zero, suc, ◌<◌, Bool, false, List, [], ◌∷◌, length, replicate, Contains, Bor, None, Some, arith}
-use Rattle.std.specs.Prelude.{◌↔◌, Option, IsSomeAnd}
+use Rattle.std.proofs.Common.{◌≡◌, ◌∙◌, ◌⊎◌, inl, inr, ⊎_elim, refl, sym, ap, subst, ℕ, zero, suc, ◌<◌, Bool, false, List, [], ◌∷◌, length, replicate, Contains, Bor, Some, arith}
+use Rattle.std.specs.Prelude.{◌↔◌, IsSomeAnd}
 use Rattle.std.specs.List.Sorted.{IsPermutation}
 use Rattle.std.proofs.lemmas.List.Elements.{Contains-append_right}
 use Rattle.guppy.specs.IxSet.{IsIn, IsUnion}
@@ -11,13 +11,14 @@ use Rattle.guppy.specs.Iterators.{packages_of}
 use Rattle.guppy.specs.Members.{IsMember}
 use Rattle.guppy.specs.Query.{IsSetWhere}
 use Rattle.guppy_folders.specs.Folders.{IsInside, LiesIn, IsLongest, HoldsNone, HoldsNoneBelow, HoldsOne}
-use Rattle.guppy_folders.specs.Touched.{IsOneOutside, AreLongest, AreCounted}
+use Rattle.guppy_folders.specs.Touched.{IsIgnored, IsOneOutside, AreLongest, AreCounted}
 use Rattle.guppy_folders.proofs.LongestFolders.{no_components}
-use Rattle.guppy_affected.specs.Folders.{folder_at, Holds, Belongs, IsHeldByRoot, depth}
+use Rattle.guppy_affected.specs.Folders.{folder_at, Holds, Belongs, IsBelow, IsHeldByRoot, depth}
 use Rattle.guppy_affected.specs.Found.{AreFolders}
-use Rattle.guppy_affected.specs.Changed.{IsForAll, AreChanged, HasFolderIn, IsAdded}
+use Rattle.guppy_affected.specs.Changed.{IsForAll, IsTouched, AreChanged, HasFolderIn, IsChangedBy, IsAdded, ArePlaces}
 use Rattle.guppy_affected.proofs.Iterators.{where_along}
-use Rattle.guppy_affected.proofs.Local.{was_seen, of_graph}
+use Rattle.guppy_affected.proofs.Targets.{elsewhere_touched}
+use Rattle.guppy_affected.proofs.Local.{was_seen, of_graph, with_own}
 use Rattle.guppy_affected.proofs.Tests.{none_in}
 
 -- of the packages with P, those that were seen are in the set, and the others are still to come
@@ -63,29 +64,21 @@ module _ (graph : GraphData) (P : ℕ → Type 0) (set : List Bool) where
       rest = λ p h. ⊎_elim (λ k. inl k) (λ (b, there). ⊎_elim (λ same. absurd (has_not (subst P (sym same) h))) (λ later. inr (b, later)) (first_or_later b p there)) (are.rest p h);
     }
 
--- with one more package, where its folder is one of these or lies in one of the paths
-module _ (g : GraphData) (folders paths : List (List Part)) (e : Bor GraphData × ℕ) (left : List (Bor GraphData × ℕ)) (set more : List Bool)
-    (picked : ArePicked g (HasFolderIn g.packages folders paths) (e ∷ left) set) (added : IsAdded e.0.now.packages folders paths e.1 set more) where
-  added_here : IsAdded g.packages folders paths e.1 set more
-  added_here = subst (λ (g : GraphData). IsAdded g.packages folders paths e.1 set more) (picked_graph g (HasFolderIn g.packages folders paths) set e left picked) added
-
-  pub picked_added : ArePicked g (HasFolderIn g.packages folders paths) left more
-  picked_added = ⊎_elim (λ (has, count, both). picked_more g (HasFolderIn g.packages folders paths) set e left picked has more both)
-      (λ (has_not, same). subst (ArePicked g (HasFolderIn g.packages folders paths) left) (sym same) (picked_not g (HasFolderIn g.packages folders paths) set e left picked has_not)) added_here
+-- with one more package, where P holds of it
+module _ (g : GraphData) (P : ℕ → Type 0) (e : Bor GraphData × ℕ) (left : List (Bor GraphData × ℕ)) (set more : List Bool)
+    (picked : ArePicked g P (e ∷ left) set) (added : IsAdded g P e.1 set more) where
+  pub picked_added : ArePicked g P left more
+  picked_added = ⊎_elim (λ (has, count, both). picked_more g P set e left picked has more both)
+      (λ (has_not, same). subst (ArePicked g P left) (sym same) (picked_not g P set e left picked has_not)) added
 
   pub count_added : length set ≡ length g.packages → length more ≡ length g.packages
-  count_added count_is = ⊎_elim (λ (has, count, both). count) (λ (has_not, same). ap length same ∙ count_is) added_here
+  count_added count_is = ⊎_elim (λ (has, count, both). count) (λ (has_not, same). ap length same ∙ count_is) added
 
 pub union_with_one : (set one more : List Bool) (n : ℕ) → ((p : ℕ) → IsIn one p ↔ (p ≡ n)) → IsUnion set one more → (p : ℕ) → IsIn more p ↔ (IsIn set p ⊎ (p ≡ n))
 union_with_one set one more n only both p = (
   λ h. ⊎_elim (λ k. inl k) (λ k. inr ((only p).0 k)) ((both p).0 h),
   λ either. (both p).1 (⊎_elim (λ k. inl k) (λ same. inr ((only p).1 same)) either),
 )
-
--- the folder of a package of this machine, with what holds of it
-with_own : (P : List ℕ → Type 0) (o : Option (List ℕ)) → IsSomeAnd o P → (own : List ℕ) × (o ≡ Some own) × P own
-with_own P None h = absurd h
-with_own P (Some own) h = (own, refl, h)
 
 module _ (packages : List PackageRecord) (folders : List (List Part)) (are : AreFolders packages folders) where
   -- a package's own folder is one of them
@@ -159,27 +152,43 @@ module _ (packages : List PackageRecord) (folders : List (List Part)) (are : Are
           (λ apart. inr (⊎_elim (λ none. inl (λ folder is inside. let q = holding path folder is inside in none q.0 q.1)) (λ alone. inr (held_by_root path alone.0, alone.1)) apart)) everyones,
     )
 
-    -- where one of the paths is everyone's, the members changed
-    pub changed_all : (set : List Bool) → IsOneOutside folders paths ignored → IsSetWhere packages (IsMember packages) set → AreChanged packages paths ignored set
-    changed_all set outside where_members = inl (outside_all outside, where_members)
+module _ (g : GraphData) (folders : List (List Part)) (are : AreFolders g.packages folders) (paths ignored : List (List ℕ)) where
+  -- where one of the paths is everyone's, the members changed
+  pub changed_all : (set : List Bool) → IsOneOutside folders paths ignored → IsSetWhere g.packages (IsMember g.packages) set → AreChanged g paths ignored set
+  changed_all set outside where_members = inl (outside_all g.packages folders are paths ignored outside, where_members)
 
-    -- and else the packages with the longest folders, and those whose folders lie in the paths
-    pub changed_some : (set : List Bool) (touched counted : List (List Part)) → AreLongest folders paths ignored touched → AreCounted paths ignored counted → IsSetWhere packages (HasFolderIn packages touched counted) set → AreChanged packages paths ignored set
-    changed_some set touched counted longest those where_in = inr (
-      λ all. longest.inside (all_outside all),
-      where_along packages set (λ p. (
-        λ has.
-            let own = with_own (λ own. Contains touched (components own) ⊎ HoldsOne counted (components own)) (folder_at packages p) has in
-            ⊎_elim (λ there. let one = (longest.longest (components own.0)).0 there in (one.0, one.1, one.2, inl (longest_belongs one.0 p own.0 own.1 one.3)))
-            (λ (list, there, inside). let one = (those list).0 there in
-            (one.0, one.1, one.2, inr (rw own.1 (subst (λ (l : List Part). IsInside l (components own.0)) (sym one.3) inside)))) own.2,
-        λ (path, there, counts, changes). ⊎_elim
-            (λ belongs.
-            let own = with_own (λ own. IsLongest folders (components path) (components own)) (folder_at packages p) (belongs_longest path p belongs) in
-            rw own.1 (inl ((longest.longest (components own.0)).1 (path, there, counts, own.2))))
-            (λ below.
-            let own = with_own (λ own. LiesIn path own) (folder_at packages p) below in
-            rw own.1 (inr (components path, (those (components path)).1 (path, there, counts, refl), own.2)))
-            changes,
-      )) where_in,
-    )
+  module _ (touched counted places : List (List Part)) (longest : AreLongest folders paths ignored touched) (those : AreCounted paths ignored counted) (lead : ArePlaces g.workspace.root paths ignored places) (p : ℕ) where
+    -- a package changed where its folder is one of the longest or lies in one of the paths
+    folder_touched : HasFolderIn g.packages touched counted p → IsTouched g paths ignored p
+    folder_touched has =
+        let own = with_own (λ own. Contains touched (components own) ⊎ HoldsOne counted (components own)) (folder_at g.packages p) has in
+        ⊎_elim (λ there. let one = (longest.longest (components own.0)).0 there in (one.0, one.1, one.2, inl (longest_belongs g.packages folders are one.0 p own.0 own.1 one.3)))
+        (λ (list, there, inside). let one = (those list).0 there in
+        (one.0, one.1, one.2, inr (inl (rw own.1 (subst (λ (l : List Part). IsInside l (components own.0)) (sym one.3) inside))))) own.2
+
+    touched_folder : (path : List ℕ) → Contains paths path → (IsIgnored ignored path → ⊥) → Belongs g.packages path p ⊎ IsBelow g.packages path p → HasFolderIn g.packages touched counted p
+    touched_folder path there counts changes = ⊎_elim
+        (λ belongs.
+        let own = with_own (λ own. IsLongest folders (components path) (components own)) (folder_at g.packages p) (belongs_longest g.packages folders are path p belongs) in
+        rw own.1 (inl ((longest.longest (components own.0)).1 (path, there, counts, own.2))))
+        (λ below.
+        let own = with_own (λ own. LiesIn path own) (folder_at g.packages p) below in
+        rw own.1 (inr (components path, (those (components path)).1 (path, there, counts, refl), own.2)))
+        changes
+
+    -- or where a target of it lies elsewhere, in a folder that meets one of the places
+    changed_touched : IsChangedBy g touched counted places p ↔ IsTouched g paths ignored p
+    changed_touched =
+        let far = elsewhere_touched g paths ignored places lead p in (
+          λ changed. ⊎_elim folder_touched (λ elsewhere. let one = far.0 elsewhere in (one.0, one.1, one.2, inr (inr one.3))) changed,
+          λ (path, there, counts, changes). ⊎_elim (λ belongs. inl (touched_folder path there counts (inl belongs)))
+              (λ more. ⊎_elim (λ below. inl (touched_folder path there counts (inr below))) (λ elsewhere. inr (far.1 (path, there, counts, elsewhere))) more) changes,
+        )
+
+  -- and else the packages that are changed by one of them
+  pub changed_some : (set : List Bool) (touched counted places : List (List Part)) → AreLongest folders paths ignored touched → AreCounted paths ignored counted → ArePlaces g.workspace.root paths ignored places
+      → IsSetWhere g.packages (IsChangedBy g touched counted places) set → AreChanged g paths ignored set
+  changed_some set touched counted places longest those lead where_changed = inr (
+    λ all. longest.inside (all_outside g.packages folders are paths ignored all),
+    where_along g.packages set (λ p. changed_touched touched counted places longest those lead p) where_changed,
+  )

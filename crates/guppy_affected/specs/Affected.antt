@@ -29,7 +29,7 @@ IsTestedWith g p q = (p ≡ q)
 -- a package that it is tested with
 abbrev pub Affects : GraphData → List ℕ → ℕ → Type 0
 Affects g path p = IsEveryones g.packages path
-    ⊎ ((q : ℕ) × Changes g.packages path q × IsTestedWith g p q)
+    ⊎ ((q : ℕ) × Changes g path q × IsTestedWith g p q)
 
 -- the package at the position is a member, and one of the paths that aren't to be left out affects it
 abbrev pub IsAffected : GraphData → List (List ℕ) → List (List ℕ) → ℕ → Type 0

@@ -1,12 +1,14 @@
 -- Which packages the paths touch, and the folders that this is told by.
 use Rattle.std.specs.Prelude.{◌≡◌, ◌⊎◌, ◌↔◌, ℕ, Bool, List, length, Contains, IsSomeAnd}
+use Rattle.guppy.specs.Graph.{GraphData}
 use Rattle.guppy.specs.IxSet.{IsIn}
 use Rattle.guppy.specs.Path.{Part, components}
 use Rattle.guppy.specs.DataTypes.records.PackageRecord.{PackageRecord}
 use Rattle.guppy.specs.Members.{IsMember}
 use Rattle.guppy.specs.Query.{IsSetWhere}
-use Rattle.guppy_affected.specs.Folders.{folder_at, Changes}
+use Rattle.guppy_affected.specs.Folders.{folder_at, place, HasTargetElsewhere, Changes}
 use Rattle.guppy_folders.specs.Folders.{HoldsOne}
+use Rattle.guppy_folders.specs.Places.{MeetsOne}
 use Rattle.guppy_affected.specs.Affected.{OfOne, IsEveryones}
 
 -- one of the paths is everyone's
@@ -14,27 +16,35 @@ abbrev pub IsForAll : List PackageRecord → List (List ℕ) → List (List ℕ)
 IsForAll packages paths ignored = OfOne paths ignored (IsEveryones packages)
 
 -- a change at one of the paths is one of the package at the position
-abbrev pub IsTouched : List PackageRecord → List (List ℕ) → List (List ℕ) → ℕ → Type 0
-IsTouched packages paths ignored p = OfOne paths ignored (λ path. Changes packages path p)
+abbrev pub IsTouched : GraphData → List (List ℕ) → List (List ℕ) → ℕ → Type 0
+IsTouched g paths ignored p = OfOne paths ignored (λ path. Changes g path p)
 
 -- one of the paths is everyone's, and the set is that of the members; or none is, and it is that of the
 -- packages that they change
-abbrev pub AreChanged : List PackageRecord → List (List ℕ) → List (List ℕ) → List Bool → Type 0
-AreChanged packages paths ignored set =
-    (IsForAll packages paths ignored × IsSetWhere packages (IsMember packages) set)
-    ⊎ ((¬ IsForAll packages paths ignored)
-    × IsSetWhere packages (IsTouched packages paths ignored) set)
+abbrev pub AreChanged : GraphData → List (List ℕ) → List (List ℕ) → List Bool → Type 0
+AreChanged g paths ignored set =
+    (IsForAll g.packages paths ignored × IsSetWhere g.packages (IsMember g.packages) set)
+    ⊎ ((¬ IsForAll g.packages paths ignored)
+    × IsSetWhere g.packages (IsTouched g paths ignored) set)
 
 -- the folder of the package at the position is one of these, or lies in one of the paths
 abbrev pub HasFolderIn : List PackageRecord → List (List Part) → List (List Part) → ℕ → Type 0
 HasFolderIn packages folders paths p = IsSomeAnd (folder_at packages p)
     (λ own. Contains folders (components own) ⊎ HoldsOne paths (components own))
 
--- the set has the package at the position, too, where its folder is one of these or lies in one of the paths,
--- and else is as before
-abbrev pub IsAdded : List PackageRecord → List (List Part) → List (List Part) → ℕ → List Bool → List Bool
-    → Type 0
-IsAdded packages folders paths p set more = (HasFolderIn packages folders paths p
-    × (length more ≡ length packages)
+-- that holds of the package at the position, or one of its targets lies elsewhere, in a folder that meets one of
+-- the places
+abbrev pub IsChangedBy : GraphData → List (List Part) → List (List Part) → List (List Part) → ℕ → Type 0
+IsChangedBy g folders paths places p = HasFolderIn g.packages folders paths p
+    ⊎ HasTargetElsewhere g (λ folder. MeetsOne folder places) p
+
+-- the set has the position, too, where P holds of it, and else is as before
+abbrev pub IsAdded : GraphData → (ℕ → Type 0) → ℕ → List Bool → List Bool → Type 0
+IsAdded g P p set more = (P p × (length more ≡ length g.packages)
     × ((q : ℕ) → IsIn more q ↔ (IsIn set q ⊎ (q ≡ p))))
-    ⊎ ((¬ HasFolderIn packages folders paths p) × (more ≡ set))
+    ⊎ ((¬ P p) × (more ≡ set))
+
+-- exactly the places that the paths that count lead to
+abbrev pub ArePlaces : List ℕ → List (List ℕ) → List (List ℕ) → List (List Part) → Type 0
+ArePlaces root paths ignored places = (found : List Part)
+    → Contains places found ↔ OfOne paths ignored (λ path. place root path ≡ found)

@@ -1,10 +1,13 @@
 -- The folders of the packages of this machine, and to which of these packages a path belongs.
-use Rattle.std.specs.Prelude.{◌≡◌, ◌⊎◌, ℕ, ◌≤◌, List, length, Option, IsSomeAnd}
-use Rattle.guppy.specs.Path.{components}
+use Rattle.std.specs.Prelude.{◌≡◌, ◌⊎◌, ℕ, ◌≤◌, List, length, Contains, Option, IsSomeAnd, slice_get}
+use Rattle.guppy.specs.Path.{Part, components}
+use Rattle.guppy.specs.DataTypes.records.BuildTargetRecord.{BuildTargetRecord}
 use Rattle.guppy.specs.DataTypes.records.PackageRecord.{PackageRecord}
+use Rattle.guppy.specs.Graph.{GraphData}
 use Rattle.guppy.specs.Keys.{or_empty, item_key}
 use Rattle.guppy.specs.PackageSource.{local_path, recorded_origin}
-pub use Rattle.guppy_folders.specs.Folders.{LiesIn}
+pub use Rattle.guppy_folders.specs.Folders.{LiesIn, IsInside}
+pub use Rattle.guppy_folders.specs.Places.{place, place_above, Meets}
 
 -- the folder of a package of this machine: the path of a member, or the path that the package comes from
 abbrev pub folder_of : PackageRecord → Option (List ℕ)
@@ -36,6 +39,28 @@ IsHeldByRoot packages path = (p : ℕ) → Holds packages path p → depth packa
 abbrev pub IsBelow : List PackageRecord → List ℕ → ℕ → Type 0
 IsBelow packages path p = IsSomeAnd (folder_at packages p) (λ folder. LiesIn path folder)
 
--- a change at the path is one of the package at the position: the path belongs to it, or holds its folder
-abbrev pub Changes : List PackageRecord → List ℕ → ℕ → Type 0
-Changes packages path p = Belongs packages path p ⊎ IsBelow packages path p
+-- the source of the target lies in a folder outside of this one, with P
+abbrev pub LiesElsewhere : List ℕ → List Part → (List Part → Type 0) → BuildTargetRecord → Type 0
+LiesElsewhere root own P t = (¬ IsInside own (place_above root t.path)) × P (place_above root t.path)
+
+-- one of the targets does
+abbrev pub OneElsewhere : List ℕ → List Part → (List Part → Type 0) → List BuildTargetRecord → Type 0
+OneElsewhere root own P targets =
+    (t : BuildTargetRecord) × Contains targets t × LiesElsewhere root own P t
+
+-- the package at the position is one of this machine, and the source of one of its targets lies outside of its
+-- folder, in a folder with P
+abbrev pub HasTargetElsewhere : GraphData → (List Part → Type 0) → ℕ → Type 0
+HasTargetElsewhere g P p = IsSomeAnd (folder_at g.packages p) (λ own. IsSomeAnd (slice_get g.packages p)
+    (λ r. OneElsewhere g.workspace.root (place g.workspace.root own) P r.build_targets.items))
+
+-- the path leads into the folder of such a target's source, or that folder lies where it leads
+abbrev pub IsElsewhere : GraphData → List ℕ → ℕ → Type 0
+IsElsewhere g path p =
+    HasTargetElsewhere g (λ folder. Meets folder (place g.workspace.root path)) p
+
+-- a change at the path is one of the package at the position: the path belongs to it, or holds its folder, or is
+-- where a target of it lies elsewhere
+abbrev pub Changes : GraphData → List ℕ → ℕ → Type 0
+Changes g path p =
+    Belongs g.packages path p ⊎ (IsBelow g.packages path p ⊎ IsElsewhere g path p)

@@ -28,4 +28,4 @@ AreTestedWith set tested = (p : ℕ) → IsIn tested.included p
 -- exactly the packages that are tested with one that the paths touch
 abbrev pub AreTestedAfter : GraphData → List (List ℕ) → List (List ℕ) → SetData → Type 0
 AreTestedAfter g paths ignored tested = (changed : SetData) × (changed.graph ≡ g)
-    × AreChanged g.packages paths ignored changed.included × AreTestedWith changed tested
+    × AreChanged g paths ignored changed.included × AreTestedWith changed tested

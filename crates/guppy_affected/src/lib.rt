@@ -3,6 +3,7 @@
 //! The modules, from the bottom up:
 //!
 //! - `folders`: the folders of the packages of this machine; `guppy_folders` tells which of them holds a path;
+//! - `elsewhere`: targets whose sources lie outside of their packages' folders;
 //! - `touched`: the packages that changed themselves;
 //! - `tested`: the packages whose tests are built from changed ones;
 //! - the crate itself: the members among these.
@@ -13,6 +14,7 @@ ghost use Rattle.guppy.specs.Query.{IsSetWhere};
 ghost use Rattle.guppy_affected.specs.Affected.{AreAffectedIds, IsAffected};
 ghost use Rattle.guppy_affected.specs.Tested.{AreTestedAfter};
 
+mod elsewhere;
 mod folders;
 mod tested;
 mod touched;
@@ -62,21 +64,24 @@ fn affected_set<'g>(
 ///
 /// Any other belongs to the package of this machine, a member or one that comes from a path, with the
 /// longest folder that holds it: where packages have one folder, to each of these. It is a change of this
-/// package, and of each whose own folder it holds, as a submodule does, which git tells as one path. It
-/// affects the members that are tested with these: the packages themselves, and those from which a link of
-/// any kind leads to a package from which links that aren't dev-only lead to one, since a package's
-/// dev-dependencies are built for its own tests alone.
+/// package, and of each whose own folder it holds, as a submodule does, which git tells as one path. It is
+/// also one of each package with a target whose source lies outside of the package's folder, where the path
+/// leads into the folder of that source, or holds it: from the workspace's root, with each `.` and `..`
+/// resolved as if there were no symbolic links. It affects the members that are tested with these: the
+/// packages themselves, and those from which a link of any kind leads to a package from which links that
+/// aren't dev-only lead to one, since a package's dev-dependencies are built for its own tests alone.
 ///
-/// All members are affected by a path that no such folder holds, as `../x`, or only that of a package at the
-/// workspace's root, but for `build.rs` and what lies in `src`, `tests`, `examples` and `benches`; and by
-/// the workspace's own `Cargo.toml`, `Cargo.lock`, `rust-toolchain` and `rust-toolchain.toml`, and what
-/// lies in its `.cargo`.
+/// All members are affected by a path that no package's own folder holds, as `../x`, or only that of a
+/// package at the workspace's root, but for `build.rs` and what lies in `src`, `tests`, `examples` and
+/// `benches`; by the workspace's own `Cargo.toml` and `Cargo.lock`; and wherever they lie, by each
+/// `rust-toolchain` and `rust-toolchain.toml`, and what is or lies in a `.cargo`.
 ///
 /// `OutOfMemory` comes where a growth was refused, and no other error. Time grows with the packages and
 /// links, times the logarithm of the packages; with each path, times the folders to leave out, and times
 /// its components and the logarithm of the packages; with each package, times its folder's components and
-/// the logarithm of the paths; and with each package that changed, times the packages, 64 to a step. Takes
-/// memory for the components of each folder and path, and some numbers a package.
+/// the logarithm of the paths; with each target, and where its source lies outside of its package's folder,
+/// times the paths; and with each package that changed, times the packages, 64 to a step. Takes memory for
+/// the components of each folder and path, and some numbers a package.
 pub fn affected<'g>(
     graph: &'g PackageGraph,
     paths: &[String],

@@ -1,15 +1,17 @@
 //! The packages that changed.
-ghost use Rattle.std.specs.Prelude.{◌≡◌, ◌⊎◌, ◌↔◌, IsTrue, map, string_bytes, Contains, IfOk, IsOkUnless};
+ghost use Rattle.std.specs.Prelude.{◌≡◌, ◌⊎◌, ◌↔◌, IsTrue, ◌++◌, map, string_bytes, Contains, IfOk, IsOkUnless};
 ghost use Rattle.guppy.specs.Path.{components};
 ghost use Rattle.guppy.specs.Utf8Path.{path_text};
 ghost use Rattle.guppy.specs.Query.{IsSetWhere};
 ghost use Rattle.guppy.specs.Views.{graph_of, graph_packages, package_position};
 ghost use Rattle.guppy_folders.specs.Folders.{lists_in, HoldsOne};
-ghost use Rattle.guppy_affected.specs.Changed.{AreChanged, HasFolderIn, IsAdded};
+ghost use Rattle.guppy_folders.specs.Places.{resolved};
+ghost use Rattle.guppy_affected.specs.Changed.{AreChanged, HasFolderIn, IsChangedBy, IsAdded};
 
+use crate::elsewhere::has_target_elsewhere;
 use crate::folders::{all_folders, folder_of};
 use guppy::{Component, Error, PackageGraph, PackageMetadata, PackageSet, SortedSet, Utf8Path};
-use guppy_folders::{counted_paths, is_one_of, lies_in_one, touched_folders};
+use guppy_folders::{counted_paths, is_one_of, lies_in_one, places_of, touched_folders};
 use std::alloc::{AllocError, Global};
 
 // Whether the folder is one of these, or lies in one of the paths.
@@ -40,52 +42,81 @@ fn has_folder_in<'a>(
     }
 }
 
-// Adds the package to the set, where its folder is one of these, or lies in one of the paths.
-fn add_if_in<'g>(
+// Whether the package's folder is one of these, or lies in one of the paths, or one of its targets lies elsewhere,
+// where one of the paths leads.
+fn is_changed<'a>(
+    metadata: PackageMetadata<'a>,
+    folders: &SortedSet<Vec<Component<'a>>>,
+    paths: &SortedSet<Vec<Component<'a>>>,
+    places: &[Vec<Component<'_>>],
+) -> Result<bool, AllocError>
+    ensures { IfOk result (λ is. IsTrue is ↔ IsChangedBy (graph_of metadata.entry).now
+        (lists_in folders.now) (lists_in paths.now) (lists_in places.now) (package_position metadata.entry)) }
+{
+    Ok(has_folder_in(metadata, folders, paths)? || has_target_elsewhere(metadata, places)?)
+}
+
+// Adds the package to the set, where it changed.
+fn add_if_changed<'g>(
     set: &mut PackageSet<'g>,
     folders: &SortedSet<Vec<Component<'_>>>,
     paths: &SortedSet<Vec<Component<'_>>>,
+    places: &[Vec<Component<'_>>],
     metadata: PackageMetadata<'g>,
 ) -> Result<(), Error>
     requires same_graph { set.old.graph ≡ (graph_of metadata).now }
     ensures graph { IfOk result (λ _. set.new.graph ≡ set.old.graph) }
-    ensures added { IfOk result (λ _. IsAdded (graph_packages metadata.entry) (lists_in folders.now)
-        (lists_in paths.now) (package_position metadata.entry) set.old.included set.new.included) }
+    ensures added { IfOk result (λ _. IsAdded (graph_of metadata.entry).now (IsChangedBy (graph_of metadata.entry).now
+        (lists_in folders.now) (lists_in paths.now) (lists_in places.now)) (package_position metadata.entry)
+        set.old.included set.new.included) }
     ensures error { IsOkUnless result Error.OutOfMemory }
 {
-    if has_folder_in(metadata, &*folders, &*paths)? {
+    if is_changed(metadata, &*folders, &*paths, places)? {
         *set = set.union(&metadata.to_package_set()?)?;
     }
     Ok(())
 }
 
-// The packages whose folders are these, or lie in the paths.
-fn packages_in<'g>(
+// The packages that changed.
+fn packages_changed<'g>(
     graph: &'g PackageGraph,
     folders: &SortedSet<Vec<Component<'_>>>,
     paths: &SortedSet<Vec<Component<'_>>>,
+    places: &[Vec<Component<'_>>],
 ) -> Result<PackageSet<'g>, Error>
     ensures graph { IfOk result (λ set. set.graph ≡ graph.now) }
     ensures members { IfOk result (λ set. IsSetWhere graph.now.packages
-        (HasFolderIn graph.now.packages (lists_in folders.now) (lists_in paths.now)) set.included) }
+        (IsChangedBy graph.now (lists_in folders.now) (lists_in paths.now) (lists_in places.now)) set.included) }
     ensures error { IsOkUnless result Error.OutOfMemory }
 {
     let mut all = graph.resolve_none()?;
     for package in graph.packages() {
-        add_if_in(&mut all, folders, paths, package)?;
+        add_if_changed(&mut all, folders, paths, places, package)?;
     }
     Ok(all)
 }
 
+// The places that the paths lead to, from the workspace's root.
+fn found_places<'a>(
+    graph: &'a PackageGraph,
+    paths: &SortedSet<Vec<Component<'a>>>,
+) -> Result<Vec<Vec<Component<'a>>>, AllocError>
+    ensures { IfOk result (λ places. lists_in places.items
+        ≡ map (λ path. resolved (components graph.now.workspace.root ++ path)) (lists_in paths.now)) }
+{
+    places_of(graph.alloc(), graph.workspace().root(), paths)
+}
+
 // The packages that changes of the files at the paths touch: all members where one of the paths is
-// everyone's, and else the packages that the paths belong to, and those whose folders lie in them.
+// everyone's, and else the packages that the paths belong to, those whose folders lie in them, and those with
+// targets elsewhere, where the paths lead.
 pub(crate) fn changed_packages<'g>(
     graph: &'g PackageGraph,
     paths: &[String],
     ignored: &[String],
 ) -> Result<PackageSet<'g>, Error>
     ensures graph { IfOk result (λ set. set.graph ≡ graph.now) }
-    ensures changed { IfOk result (λ set. AreChanged graph.now.packages
+    ensures changed { IfOk result (λ set. AreChanged graph.now
         (map string_bytes paths.now) (map string_bytes ignored.now) set.included) }
     ensures error { IsOkUnless result Error.OutOfMemory }
 {
@@ -93,7 +124,8 @@ pub(crate) fn changed_packages<'g>(
     match touched_folders(graph.alloc(), &folders, paths, ignored)? {
         Some(touched) => {
             let counted = counted_paths(graph.alloc(), paths, ignored)?;
-            packages_in(graph, &touched, &counted)
+            let places = found_places(graph, &counted)?;
+            packages_changed(graph, &touched, &counted, places.as_slice())
         }
         None => graph.resolve_workspace(),
     }

@@ -42,6 +42,14 @@ from_map f (x ∷ xs) y (suc k, within, same) =
     let later = from_map f xs y (k, omega arith, same) in
     (later.0, Contains-append_right (x ∷ []) xs later.0 later.1, later.2)
 
+-- what is done to the elements of a list, in their order
+module _ {X Y : Type 0} (f : X → Y) (xs : List X) (i : ℕ) (x : X) (within : i < length xs) (is : x ≡ get_or xs i x) where
+  pub there_mapped : Contains (map f xs) (f x)
+  there_mapped = Contains-map f xs x (i, within, sym is)
+
+  pub one_more_mapped : map f (take (i + 1) xs) ≡ map f (take i xs) ++ f x ∷ []
+  one_more_mapped = ap (map f) (take_more xs i x within) ∙ map_push f (take i xs) (get_or xs i x) ∙ ap (λ y. map f (take i xs) ++ f y ∷ []) (sym is)
+
 -- texts in the order of their list
 module _ (texts : List (String Global)) (i : ℕ) (text : String Global) (within : i < length texts) (is : text ≡ get_or texts i text) where
   pub text_there : Contains (map string_bytes texts) (string_bytes text)

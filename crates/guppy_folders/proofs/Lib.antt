@@ -4,3 +4,4 @@ pub mod Prefixes
 pub mod Sets
 pub mod SamePaths
 pub mod LongestFolders
+pub mod Ways

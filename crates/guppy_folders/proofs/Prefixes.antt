@@ -1,5 +1,5 @@
 -- When a path is inside a folder, component by component.
-use Rattle.std.proofs.Common.{◌≡◌, refl, sym, ap, true, false, List, [], ◌∷◌, None, Some}
+use Rattle.std.proofs.Common.{◌≡◌, refl, sym, ap, subst, true, false, List, [], ◌∷◌, ◌++◌, length, None, Some, arith}
 use Rattle.std.specs.Prelude.{◌↔◌, Option, All}
 use Rattle.std.specs.Option.{option_eq}
 use Rattle.std.specs.Iterator.{YieldsFirstBy}
@@ -26,6 +26,25 @@ Inside-over x xs (rest, names, is) = absurd (cc)
 
 Inside-first : (x y : Part) (xs ys : List Part) → IsInside (x ∷ xs) (y ∷ ys) → x ≡ y
 Inside-first x y xs ys (rest, names, is) = cc
+
+-- a path that is cut where the folder would end
+pub inside_split : (folder front rest : List Part) → length front ≡ length folder → IsInside folder (front ++ rest) ↔ ((front ≡ folder) × All IsName rest)
+inside_split [] [] rest long = (λ h. (refl, (Inside-nothing rest).0 h), λ h. (Inside-nothing rest).1 h.1)
+inside_split [] (y ∷ front) rest long = absurd (omega arith)
+inside_split (x ∷ folder) [] rest long = absurd (omega arith)
+inside_split (x ∷ folder) (y ∷ front) rest long =
+    let later = inside_split folder front rest (omega arith) in
+    let more = Inside-more x folder (front ++ rest) in (
+      λ h.
+          let first = Inside-first x y folder (front ++ rest) h in
+          let both = later.0 (more.1 (subst (λ (p : Part). IsInside (x ∷ folder) (p ∷ (front ++ rest))) (sym first) h)) in
+          let behind : front ≡ folder = both.0 in
+          (cc, both.1),
+      λ (same, names).
+          let first : x ≡ y = cc in
+          let behind : front ≡ folder = cc in
+          subst (λ (p : Part). IsInside (x ∷ folder) (p ∷ (front ++ rest))) first (more.0 (later.1 (behind, names))),
+    )
 
 -- components that are equal show the same
 pub equal_shown : (a b : Component) → eq-value.it a b ≡ true → part_shown a ≡ part_shown b

@@ -22,7 +22,8 @@ both_true : (a b : Bool) → (a && b) ≡ true → (a ≡ true) × (b ≡ true)
 both_true true b h = (refl, h)
 both_true false b h = absurd (cc)
 
-parts_same : (xs ys : List Component) → pointwise eq-value.it xs ys ≡ true → map part_shown xs ≡ map part_shown ys
+-- lists of equal components show the same, and the other way round
+pub parts_same : (xs ys : List Component) → pointwise eq-value.it xs ys ≡ true → map part_shown xs ≡ map part_shown ys
 parts_same [] [] h = refl
 parts_same [] (y ∷ ys) h = absurd (cc)
 parts_same (x ∷ xs) [] h = absurd (cc)
@@ -32,7 +33,7 @@ parts_same (x ∷ xs) (y ∷ ys) h =
     let rest : map part_shown xs ≡ map part_shown ys = parts_same xs ys both.1 in
     cc
 
-parts_equal : (xs ys : List Component) → map part_shown xs ≡ map part_shown ys → pointwise eq-value.it xs ys ≡ true
+pub parts_equal : (xs ys : List Component) → map part_shown xs ≡ map part_shown ys → pointwise eq-value.it xs ys ≡ true
 parts_equal [] [] e = refl
 parts_equal [] (y ∷ ys) e = absurd (cc)
 parts_equal (x ∷ xs) [] e = absurd (cc)

@@ -10,6 +10,14 @@ use Rattle.guppy_data.specs.declared.texts.component.Component.{Component}
 abbrev pub IsName : Part → Type 0
 IsName part = (name : List ℕ) × (part ≡ Name name)
 
+-- the name stands in the list
+abbrev pub HasName : List ℕ → List Part → Type 0
+HasName name list = Contains list (Name name)
+
+-- the name stands at the list's end
+abbrev pub EndsInName : List ℕ → List Part → Type 0
+EndsInName name list = (front : List Part) × (list ≡ front ++ Name name ∷ [])
+
 -- the path is the folder or lies in it: the folder's components begin the path's, and behind them stand
 -- names alone
 abbrev pub IsInside : List Part → List Part → Type 0

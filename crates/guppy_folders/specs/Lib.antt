@@ -1,2 +1,3 @@
 pub mod Folders
 pub mod Touched
+pub mod Places

@@ -4,7 +4,7 @@ use Rattle.std.specs.declared.vec.Vec.{Vec}
 use Rattle.std.specs.declared.alloc.Global.{Global}
 use Rattle.guppy_data.specs.Path.{Part, components}
 use Rattle.guppy_data.specs.declared.texts.component.Component.{Component}
-use Rattle.guppy_folders.specs.Folders.{LiesIn, lists_in, HoldsNone, HoldsNoneBelow, IsLongest}
+use Rattle.guppy_folders.specs.Folders.{HasName, EndsInName, LiesIn, lists_in, HoldsNone, HoldsNoneBelow, IsLongest}
 
 -- one of the folders to leave out holds the path
 abbrev pub IsIgnored : List (List ℕ) → List ℕ → Type 0
@@ -18,12 +18,16 @@ OfOne paths ignored P = (path : List ℕ) × Contains paths path × (¬ IsIgnore
 abbrev pub IsPath : List ℕ → List ℕ → Type 0
 IsPath text path = components path ≡ components text
 
--- the path is that of the workspace's own manifest, of what Cargo locked or of the toolchain, or lies in the
--- folder of Cargo's settings
+-- the path chooses a toolchain, or is or lies in a folder of Cargo's settings, wherever that is
+abbrev pub IsOfSettings : List ℕ → Type 0
+IsOfSettings path = EndsInName (codes "rust-toolchain") (components path)
+    ⊎ (EndsInName (codes "rust-toolchain.toml") (components path)
+    ⊎ HasName (codes ".cargo") (components path))
+
+-- the path is that of the workspace's own manifest or of what Cargo locked, or is of settings
 abbrev pub IsOfWorkspace : List ℕ → Type 0
 IsOfWorkspace path = IsPath (codes "Cargo.toml") path ⊎ (IsPath (codes "Cargo.lock") path
-    ⊎ (IsPath (codes "rust-toolchain") path ⊎ (IsPath (codes "rust-toolchain.toml") path
-    ⊎ LiesIn (codes ".cargo") path)))
+    ⊎ IsOfSettings path)
 
 -- the path is where Cargo by itself looks for the tests, examples and benchmarks of a package at the workspace's
 -- root

@@ -24,7 +24,10 @@ pub(crate) fn lies_in(path: Utf8Path<'_>, folder: Utf8Path<'_>) -> bool
 }
 
 /// The components of the path.
-fn parts_of<'a>(alloc: Global, path: Utf8Path<'a>) -> Result<Vec<Component<'a>>, AllocError>
+pub(crate) fn parts_of<'a>(
+    alloc: Global,
+    path: Utf8Path<'a>,
+) -> Result<Vec<Component<'a>>, AllocError>
     ensures { IfOk result (λ parts. map part_shown parts.items ≡ components (path_text path.entry)) }
 {
     path.components().collect(alloc)

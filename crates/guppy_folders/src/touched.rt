@@ -4,9 +4,10 @@ ghost use Rattle.guppy_data.specs.Path.{components};
 ghost use Rattle.guppy_data.specs.Component.{part_shown};
 ghost use Rattle.guppy_data.specs.Utf8Path.{path_text};
 ghost use Rattle.guppy_folders.specs.Folders.{LiesIn, lists_in, IsLongest};
-ghost use Rattle.guppy_folders.specs.Touched.{IsIgnored, IsPath, IsOfWorkspace, IsOfRootsTests, IsOfRootsTargets, IsOutside, AreTouchedFolders, AreCounted};
+ghost use Rattle.guppy_folders.specs.Touched.{IsIgnored, IsPath, IsOfSettings, IsOfWorkspace, IsOfRootsTests, IsOfRootsTargets, IsOutside, AreTouchedFolders, AreCounted};
 
 use crate::folders::{add_folder, lies_in, longest};
+use crate::names::{ends_in_name, has_name};
 use guppy_data::{Component, SortedSet, Utf8Path};
 use std::alloc::{AllocError, Global};
 
@@ -29,15 +30,20 @@ fn is_path(path: Utf8Path<'_>, text: &str) -> bool
     path == Utf8Path::new(text)
 }
 
-// Whether the path is of the workspace itself.
+// Whether the path chooses a toolchain, or is or lies in a folder of Cargo's settings.
+fn is_of_settings(path: Utf8Path<'_>) -> bool
+    ensures { IsTrue result ↔ IsOfSettings (path_text path.entry) }
+{
+    ends_in_name(path, "rust-toolchain")
+        || ends_in_name(path, "rust-toolchain.toml")
+        || has_name(path, ".cargo")
+}
+
+// Whether the path is of the workspace itself, or of settings.
 fn is_of_workspace(path: Utf8Path<'_>) -> bool
     ensures { IsTrue result ↔ IsOfWorkspace (path_text path.entry) }
 {
-    is_path(path, "Cargo.toml")
-        || is_path(path, "Cargo.lock")
-        || is_path(path, "rust-toolchain")
-        || is_path(path, "rust-toolchain.toml")
-        || lies_in(path, Utf8Path::new(".cargo"))
+    is_path(path, "Cargo.toml") || is_path(path, "Cargo.lock") || is_of_settings(path)
 }
 
 // Whether the path is that of the folder which the text gives, or lies in it.

@@ -1,13 +1,13 @@
 use Rattle.std.proofs.Common.{◌≡◌, length}
 use Rattle.guppy.specs.Iterators.{packages_left}
 use Rattle.guppy_folders.specs.Folders.{lists_in}
-use Rattle.guppy_affected.specs.Changed.{HasFolderIn}
+use Rattle.guppy_affected.specs.Changed.{IsChangedBy}
 use Rattle.guppy_affected.proofs.Owners.{ArePicked}
-use Rattle.guppy_affected.proofs.touched.packages_in.Given as goal
+use Rattle.guppy_affected.proofs.touched.packages_changed.Given as goal
 
 abbrev pub invariant-loop-package : goal.invariant-loop-package
 invariant-loop-package l = record {
   same : l.all.graph ≡ l.graph;
   count : length l.all.included ≡ length l.graph.packages;
-  picked : ArePicked l.graph (HasFolderIn l.graph.packages (lists_in l.folders) (lists_in l.paths)) (packages_left l.package-iterator) l.all.included;
+  picked : ArePicked l.graph (IsChangedBy l.graph (lists_in l.folders) (lists_in l.paths) (lists_in l.places)) (packages_left l.package-iterator) l.all.included;
 }
