@@ -36,17 +36,15 @@ fn load<F: Format>(
         (asked_shown asked.now).question input.now fault (F.Fault.cause fault)) }
 {
     let mut records = F::records_of(alloc, input, are_named(&asked.platforms))?;
-    if keep_counting(
+    let Ok(()) = keep_counting(
         alloc,
         &asked.platforms,
         &PlatformSpec::Any,
         records.packages.as_slice(),
         &mut records.links,
-    )
-    .is_err()
-    {
+    ) else {
         return Err(want_of_memory());
-    }
+    };
     keep_links(asked.options.kinds, &mut records.links);
     let Ok(names) = F::names_of(alloc, records.packages.as_slice()) else {
         return Err(want_of_memory());
