@@ -74,6 +74,9 @@ class Graph:
         self.firm = {(a, b) for a, b, kinds in ends if any(it["kind"] != "dev" for it in kinds)}
         self.onward, self.firmly = reach_of(self.names, self.links), reach_of(self.names, self.firm)
         self.back = reach_of(self.names, reverse(self.links))
+        macros = {called[it["id"]] for it in packages if any("proc-macro" in target["crate_types"] for target in it["targets"])}
+        built = {b for (_, b), sections in self.sections.items() if "build" in sections}
+        self.hosted = set().union(*(self.onward[it] for it in macros | built))
         members, root = set(self.data["workspace_members"]), self.data["workspace_root"]
         paths = {it["id"]: os.path.relpath(it["manifest_path"], root) for it in packages if it["source"] is None}
         self.local = {called[it]: path.split("/")[:-1] for it, path in paths.items()}
@@ -428,16 +431,22 @@ def try_platforms(graph):
             with open(file, "w", encoding="utf-8") as held:
                 held.write(cfgs_of(triple))
             words = ["--platform", triple, "--cfgs", file]
-            wanted = sorted(graph.called[it] for it in there.packages)
+            # What runs on the host, which isn't known, stays as it is, and cargo's metadata have it on the platform alone.
+            kept = {ends for ends, kinds in graph.sections.items() if ends[0] in graph.hosted or "build" in kinds}
+            kept |= {(graph.called[a], graph.called[b]) for a, b in there.links}
+            onward = reach_of(graph.names, kept)
+            wanted = set().union(*(onward[it] for it in members))
+            yield f"packages on {triple}", [], sorted({graph.called[it] for it in there.packages} - wanted)
             reached = graph.ask("reach", "forward", *members, *words)
-            yield f"reach forward on {triple}", wanted, reached
+            yield f"reach forward on {triple}", sorted(wanted), reached
             walked = [tuple(line.split(" ")) for line in graph.ask(*words, "links", "forward")]
-            yield f"links on {triple}", sorted((graph.called[a], graph.called[b]) for a, b in there.links), sorted(
+            yield f"links on {triple}", sorted(it for it in kept if it[0] in wanted), sorted(
                 it for it in walked if it[0] in reached
             )
             if there.tree is not None:
                 reached = graph.ask("reach", "forward", *members, *words, "--kinds", there.kinds)
-                yield f"cargo tree on {triple}", sorted(there.tree), sorted(graph.forms[graph.ids[it]][1] for it in reached)
+                missed = set(there.tree) - {graph.forms[graph.ids[it]][1] for it in reached}
+                yield f"cargo tree on {triple}", [], sorted(missed)
         every = [word for it in graph.on for word in ("--platform", it, "--cfgs", os.path.join(room, it))]
         both = sorted({graph.called[it] for there in graph.on.values() for it in there.packages})
         yield "reach forward on each of them", [], sorted(set(both) - set(graph.ask("reach", "forward", *members, *every)))

@@ -81,6 +81,20 @@ APART = {
     "m": '[target."cfg(windows)".dependencies]\nb.path = "../b"\n[dev-dependencies]\nb.path = "../b"\n',
     "n": '[dependencies]\nm.path = "../m"\n',
 }
+# Members of which some run on the host: what `s` is built with, the macro `p`, and what these need there.
+HOSTED = {
+    "d": "",
+    "e": "",
+    "f": '[target."cfg(unix)".dependencies]\nd.path = "../d"\n[target."cfg(unix)".dev-dependencies]\ng.path = "../g"\n',
+    "g": "",
+    "p": '[lib]\nproc-macro = true\n[target."cfg(unix)".dependencies]\ne.path = "../e"\n[dev-dependencies]\nf.path = "../f"\n',
+    "s": '[target."cfg(unix)".build-dependencies]\nf.path = "../f"\n',
+    "u": '[dependencies]\np.path = "../p"\n',
+    "w": '[target."cfg(unix)".dependencies]\ng.path = "../g"\n',
+}
+# What is told beyond what cargo builds: `f` needs these for its own tests, or where it is built for the target, on unix
+# alone.
+BEYOND = {("d", "f"), ("g", "f")}
 HOOK = b"0000 1111 refs/heads/main\n"
 
 
@@ -224,6 +238,20 @@ def try_platforms(world):
             ran = world.run(["guppy-cargo", *words.split(), "--platform", triple], where=top)
             yield f"{words} on {triple}", ran == (0, wanted, ""), ran
     yield "no file is left", not world.left(), world.left()
+
+
+def try_host(world):
+    """Which members a change affects through what runs on the host, beside what cargo builds to test them."""
+    top = world.room / "a workspace"
+    make(top, HOSTED)
+    (top / "s/build.rs").write_text("fn main() {}\n")
+    world.build()
+    for triple in ("x86_64-unknown-linux-gnu", "x86_64-pc-windows-msvc"):
+        built = {it: tested_with(top, it, triple) for it in HOSTED}
+        for member in HOSTED:
+            got = lines(world.run(["guppy-cargo", "affected", f"{member}/src/lib.rs", "--platform", triple], where=top))
+            wanted = [it for it in sorted(HOSTED) if member in built[it] or (member, it) in BEYOND]
+            yield f"affected {member} on {triple}", sorted(got) == wanted, (got, built)
 
 
 def try_given(world):

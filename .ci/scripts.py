@@ -18,7 +18,7 @@ import time
 from concurrent.futures import ThreadPoolExecutor
 from pathlib import Path
 
-from metadata import try_asked, try_flags, try_given, try_metadata_refused, try_platforms
+from metadata import try_asked, try_flags, try_given, try_host, try_metadata_refused, try_platforms
 from since import try_since, try_since_answers, try_since_locked, try_since_refused
 from tested import try_tests, try_tests_on_branches, try_tests_refused
 
@@ -441,6 +441,7 @@ PARTS = {
     "what cargo is asked": (try_asked, []),
     "flags that cargo gives": (try_flags, []),
     "members on a platform": (try_platforms, []),
+    "members on the host": (try_host, []),
     "metadata": (try_given, []),
     "metadata, refusals": (try_metadata_refused, []),
     "quick tests": (try_quick, []),

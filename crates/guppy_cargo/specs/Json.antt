@@ -1,5 +1,5 @@
 -- What `guppy-cargo` reads, and what it calls packages.
-use Rattle.std.specs.Prelude.{◌≡◌, ◌↔◌, ℕ, false, List, None, IsSomeAnd}
+use Rattle.std.specs.Prelude.{◌≡◌, ◌↔◌, ℕ, Bool, List, None, IsSomeAnd}
 use Rattle.std.specs.Str.{IsUtf8}
 use Rattle.json.specs.Json.{document}
 use Rattle.guppy_data.specs.declared.records.PackageRecord.{PackageRecord}
@@ -17,23 +17,23 @@ use Rattle.guppy_arguments.specs.Told.{Tells}
 use Rattle.guppy_command.specs.Asked.{Asks}
 use Rattle.guppy_cargo.specs.Unknown.{TellsUnknown}
 
--- the input is JSON that says these records, without details
-abbrev pub SaysRecords : List ℕ → List PackageRecord → List LinkRecord → WorkspaceRecord → Type 0
-SaysRecords input packages links workspace =
-    IsSomeAnd (document input) (λ d. AreRecordsWith false d packages links workspace)
+-- the input is JSON that says these records, with details or without
+abbrev pub SaysRecords : Bool → List ℕ → List PackageRecord → List LinkRecord → WorkspaceRecord → Type 0
+SaysRecords details input packages links workspace =
+    IsSomeAnd (document input) (λ d. AreRecordsWith details d packages links workspace)
 
 -- that the input is no JSON is told exactly where it is none, that no dependencies are resolved exactly where it is an
--- object that says nothing of them, and any fault only where it says no records, not even without details
-pub record IsMisread (input : List ℕ) (fault : MetadataFault) : Type 0 where
+-- object that says nothing of them, and any fault only where it says no such records
+pub record IsMisread (details : Bool) (input : List ℕ) (fault : MetadataFault) : Type 0 where
   pub no_json : IsNotJson fault ↔ (document input ≡ None)
   pub not_resolved : IsNotResolved fault ↔ IsUnresolved input
-  pub no_records : SaysNoRecordsWith false input
+  pub no_records : SaysNoRecordsWith details input
 
 -- the input is no UTF-8, or the JSON has the fault
-abbrev pub IsInputFault : List ℕ → CargoFault → Type 0
-IsInputFault input (Metadata fault) = IsMisread input fault
-IsInputFault input NoText = ¬ IsUtf8 input
-IsInputFault input _ = ⊥
+abbrev pub IsInputFault : Bool → List ℕ → CargoFault → Type 0
+IsInputFault details input (Metadata fault) = IsMisread details input fault
+IsInputFault details input NoText = ¬ IsUtf8 input
+IsInputFault details input _ = ⊥
 
 -- JSON says records, and a package is called by its name, its name and version, or its ID
 abbrev pub json_format : Format CargoFault

@@ -1,7 +1,8 @@
 //! What `guppy-cargo` reads: the JSON that `cargo metadata` prints.
-ghost use Rattle.std.specs.Prelude.{◌≡◌, map, string_bytes, IfOk, List};
+ghost use Rattle.std.specs.Prelude.{◌≡◌, map, string_bytes, IfOk, IfErr, List};
 ghost use Rattle.guppy_program.specs.Format.{alternatives};
-ghost use Rattle.guppy_cargo.specs.Json.{json_format};
+ghost use Rattle.guppy_metadata.specs.Fault.{IsOutOfMemory};
+ghost use Rattle.guppy_cargo.specs.Json.{json_format, IsMisread, SaysRecords};
 ghost use Rattle.guppy_arguments.specs.Names.{AreNames, text};
 ghost use Rattle.guppy_data.specs.declared.records.PackageRecord.{PackageRecord as PackageData};
 
@@ -10,7 +11,7 @@ use guppy::{PackageGraph, PackageId};
 use guppy_arguments::{CargoFault, Names, asked_of};
 use guppy_command::{Asked, Files};
 use guppy_data::{PackageRecord, Records};
-use guppy_metadata::plain_records_of;
+use guppy_metadata::{MetadataFault, plain_records_of, records_of};
 use guppy_program::Format;
 use guppy_program::format::has_package;
 use simdutf8::basic::from_utf8;
@@ -32,6 +33,19 @@ fn choices_of(alloc: Global, names: &Names, ids: &[PackageId]) -> Result<String,
     texts.join(alloc, " or ")
 }
 
+// The records that the JSON says, with details or without.
+fn records_in(alloc: Global, json: &str, details: bool) -> Result<Records, MetadataFault>
+    ensures said { IfOk result (λ r. SaysRecords details json.now r.packages.items r.links.items
+        r.workspace) }
+    ensures refused { IfErr result (λ fault. ¬ IsOutOfMemory fault → IsMisread details json.now fault) }
+{
+    if details {
+        records_of(alloc, json)
+    } else {
+        plain_records_of(alloc, json)
+    }
+}
+
 impl Format for Json {
     type Fault = CargoFault;
 
@@ -49,11 +63,11 @@ impl Format for Json {
         asked_of(alloc, args, files)
     }
 
-    fn records_of(alloc: Global, input: &[u8]) -> Result<Records, CargoFault> {
+    fn records_of(alloc: Global, input: &[u8], details: bool) -> Result<Records, CargoFault> {
         let Ok(text) = from_utf8(input) else {
             return Err(CargoFault::NoText);
         };
-        Ok(plain_records_of(alloc, text)?)
+        Ok(records_in(alloc, text, details)?)
     }
 
     fn names_of(alloc: Global, packages: &[PackageRecord]) -> Result<Names, AllocError> {

@@ -50,8 +50,8 @@ AreBad has args fault =
 -- lines say records, and a package is called by its ID
 abbrev pub lines_format : Format RunFault
 lines_format = record {
-  says = SayRecords;
-  refuses = TellsBadLine;
+  says = λ details. SayRecords;
+  refuses = λ details. TellsBadLine;
   asks = λ has. Asks has lines_program;
   misreads = AreBad;
   text = λ packages id. id;

@@ -88,7 +88,7 @@ impl Format for Lines {
         }
     }
 
-    fn records_of(alloc: Global, input: &[u8]) -> Result<Records, RunFault> {
+    fn records_of(alloc: Global, input: &[u8], _details: bool) -> Result<Records, RunFault> {
         records_of(alloc, input)
     }
 

@@ -1,1 +1,3 @@
 pub mod Replaced
+pub mod Numbers
+pub mod HostFacts

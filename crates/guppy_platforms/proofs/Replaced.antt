@@ -31,3 +31,7 @@ module _ {X : Type 0} (R : X → X → Type 0) (old new : List X) (i : ℕ) (x y
   -- what is still to come is as it was
   pub rest_same : drop (i + 1) (slice_set new i y) ≡ drop (i + 1) old
   rest_same = drop-set-lt (i + 1) new i y (omega arith) ∙ (ap (λ n. drop n new) (add-one i) ∙ (ap tail_of both ∙ sym (ap (λ n. drop n old) (add-one i))))
+
+  -- and what is replaced was the same
+  pub item_same : x ≡ get_or old i x
+  item_same = is ∙ ap head_of both

@@ -1,5 +1,5 @@
 -- Which sections of a link count on the platforms that are asked about.
-use Rattle.std.specs.Prelude.{Bool, true, false, ◌||◌}
+use Rattle.std.specs.Prelude.{Bool, true, false, ◌||◌, ◌&&◌}
 use Rattle.guppy_data.specs.declared.platform.ternary.EnabledTernary.{EnabledTernary}
 use Rattle.guppy_data.specs.declared.platform.ternary.EnabledTernary.TheVariants.{Disabled}
 use Rattle.guppy_data.specs.declared.records.DependencyReqImpl.{DependencyReqImpl}
@@ -19,12 +19,16 @@ may_be_on _ = true
 abbrev pub counts : Question PlatformData → DependencyReqImpl → Bool
 counts question section = may_be_on (section_value answer_of question section)
 
--- which sections of the link count
-abbrev pub counting_of : Question PlatformData → LinkRecord → Counting
-counting_of question r = record {
-  normal = counts question r.normal;
-  build = counts question r.build;
-  dev = counts question r.dev;
+-- the section counts on the platforms in question or, where it is judged there too, on the host
+abbrev pub counts_either : Question PlatformData → Question PlatformData → Bool → DependencyReqImpl → Bool
+counts_either question host there section = counts question section || (there && counts host section)
+
+-- which sections count of a link whose package runs on the host, or doesn't: what it builds with runs there
+abbrev pub counting_of : Question PlatformData → Question PlatformData → Bool → LinkRecord → Counting
+counting_of question host runs r = record {
+  normal = counts_either question host runs r.normal;
+  build = counts_either question host true r.build;
+  dev = counts_either question host runs r.dev;
 }
 
 -- the section asks for the dependency, required or optional, on some platform

@@ -1,2 +1,4 @@
 pub mod Counting
+pub mod Host
+pub mod HostClauses
 pub mod Kept

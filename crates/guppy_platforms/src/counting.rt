@@ -1,7 +1,7 @@
 //! Which sections of a link count on the platforms that are asked about.
 ghost use Rattle.std.specs.Prelude.{◌≡◌};
 ghost use Rattle.guppy_data.specs.Platform.{question_of};
-ghost use Rattle.guppy_platforms.specs.Counting.{counts, counting_of, is_asked_for, has_section};
+ghost use Rattle.guppy_platforms.specs.Counting.{counts, counts_either, counting_of, is_asked_for, has_section};
 
 use guppy_data::{DependencyReq, DependencyReqImpl, EnabledTernary, LinkRecord, PlatformSpec};
 use guppy_target::{CfgEval, Platform};
@@ -28,15 +28,32 @@ pub fn counts(platforms: &PlatformSpec<Platform>, section: &DependencyReqImpl) -
         != EnabledTernary::Disabled
 }
 
+// Whether the section counts on the platforms or, where it is judged there too, on the host.
+fn counts_either(
+    platforms: &PlatformSpec<Platform>,
+    host: &PlatformSpec<Platform>,
+    there: bool,
+    section: &DependencyReqImpl,
+) -> bool
+    ensures { result ≡ counts_either (question_of platforms.now) (question_of host.now) there section.now }
+{
+    counts(platforms, section) || (there && counts(host, section))
+}
+
 impl Counting {
-    // The sections of the link that count on the platforms.
-    pub(crate) fn of(platforms: &PlatformSpec<Platform>, link: &LinkRecord) -> Self
-        ensures { result ≡ counting_of (question_of platforms.now) link.now }
+    // The sections that count of the link whose package runs on the host, or doesn't.
+    pub(crate) fn of(
+        platforms: &PlatformSpec<Platform>,
+        host: &PlatformSpec<Platform>,
+        runs: bool,
+        link: &LinkRecord,
+    ) -> Self
+        ensures { result ≡ counting_of (question_of platforms.now) (question_of host.now) runs link.now }
     {
         Counting {
-            normal: counts(platforms, &link.normal),
-            build: counts(platforms, &link.build),
-            dev: counts(platforms, &link.dev),
+            normal: counts_either(platforms, host, runs, &link.normal),
+            build: counts_either(platforms, host, true, &link.build),
+            dev: counts_either(platforms, host, runs, &link.dev),
         }
     }
 }

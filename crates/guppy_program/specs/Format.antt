@@ -1,5 +1,5 @@
 -- What a program is asked, how it reads its input, and what it calls packages.
-use Rattle.std.specs.Prelude.{◌≡◌, ◌<◌, ℕ, List, [], length, map, codes}
+use Rattle.std.specs.Prelude.{◌≡◌, ◌<◌, ℕ, Bool, List, [], length, map, codes}
 use Rattle.std.specs.List.{join_by}
 use Rattle.guppy_data.specs.declared.records.PackageRecord.{PackageRecord}
 use Rattle.guppy_data.specs.declared.records.LinkRecord.{LinkRecord}
@@ -9,10 +9,10 @@ use Rattle.guppy_command.specs.Asked.{Asked}
 use Rattle.guppy_command.specs.Cause.{Cause, library, bad_arguments, ambiguous, bad_input, OrMemory}
 
 pub record Format (Fault : Type 0) : Type 1 where
-  -- the input says these records
-  pub says : List ℕ → List PackageRecord → List LinkRecord → WorkspaceRecord → Type 0
-  -- the input says no records, and the fault tells why
-  pub refuses : List ℕ → Fault → Type 0
+  -- the input says these records, with details or without
+  pub says : Bool → List ℕ → List PackageRecord → List LinkRecord → WorkspaceRecord → Type 0
+  -- the input says no such records, and the fault tells why
+  pub refuses : Bool → List ℕ → Fault → Type 0
   -- the arguments ask this, of which the files that they name have some
   pub asks : (List ℕ → List ℕ → Type 0) → List (List ℕ) → Asked → Type 0
   -- the arguments ask nothing, and the fault tells why
@@ -31,11 +31,11 @@ IsAskingFault format has args fault bad_arguments = format.misreads has args fau
 IsAskingFault format has args fault (library error) = OrMemory ⊥ error
 IsAskingFault format has args fault _ = ⊥
 
--- the input says no records, and the fault tells why, or memory ran out
-abbrev pub IsReadingFault : {Fault : Type 0} → Format Fault → List ℕ → Fault → Cause → Type 0
-IsReadingFault format input fault bad_input = format.refuses input fault
-IsReadingFault format input fault (library error) = OrMemory ⊥ error
-IsReadingFault format input fault _ = ⊥
+-- the input says no such records, and the fault tells why, or memory ran out
+abbrev pub IsReadingFault : {Fault : Type 0} → Format Fault → Bool → List ℕ → Fault → Cause → Type 0
+IsReadingFault format details input fault bad_input = format.refuses details input fault
+IsReadingFault format details input fault (library error) = OrMemory ⊥ error
+IsReadingFault format details input fault _ = ⊥
 
 -- these texts, parted by ` or `
 abbrev pub alternatives : List (List ℕ) → List ℕ

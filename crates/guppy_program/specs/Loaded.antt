@@ -4,7 +4,7 @@ use Rattle.guppy_data.specs.declared.records.PackageRecord.{PackageRecord}
 use Rattle.guppy_data.specs.declared.records.LinkRecord.{LinkRecord}
 use Rattle.guppy_data.specs.declared.records.WorkspaceRecord.{WorkspaceRecord}
 use Rattle.guppy_data.specs.declared.texts.error.Error.{Error}
-use Rattle.guppy_data.specs.Platform.{Question}
+use Rattle.guppy_data.specs.Platform.{Question, OnAny}
 use Rattle.guppy.specs.Accepted.{IsAccepted}
 use Rattle.guppy.specs.Graph.{GraphData, Holds}
 use Rattle.guppy.specs.Refused.{IsRefusal}
@@ -12,20 +12,20 @@ use Rattle.guppy_target.specs.Platform.{PlatformData}
 use Rattle.guppy_command.specs.Cause.{Cause, library, bad_input, OrMemory}
 use Rattle.guppy_command.specs.declared.options.Kinds.{Kinds}
 use Rattle.guppy_command.specs.Options.{kept_links}
-use Rattle.guppy_platforms.specs.Kept.{AreKept}
+use Rattle.guppy_platforms.specs.Kept.{AreKept, are_named}
 use Rattle.guppy_program.specs.Format.{Format}
 
 module _ {Fault : Type 0} (format : Format Fault) (kinds : Option Kinds) (question : Question PlatformData)
     (input : List ℕ) where
-  -- the input says records, and P holds of them with what counts of their links on the platforms in question, and of
-  -- that the links of these kinds, or all
+  -- the input says records, with details where platforms are named, and P holds of them with what counts of their links
+  -- on these or may on the host, of which nothing is known, and of that the links of these kinds, or all
   pub record OfRecords (P : List PackageRecord → List LinkRecord → WorkspaceRecord → Type 0) : Type 0 where
     pub packages : List PackageRecord
     pub links : List LinkRecord
     pub workspace : WorkspaceRecord
-    pub said : format.says input packages links workspace
+    pub said : format.says (are_named question) input packages links workspace
     pub counting : List LinkRecord
-    pub counted : AreKept question links counting
+    pub counted : AreKept question OnAny packages links counting
     pub holds : P packages (kept_links kinds counting) workspace
 
   -- these records break no rule, and the graph holds exactly these
@@ -37,8 +37,8 @@ module _ {Fault : Type 0} (format : Format Fault) (kinds : Option Kinds) (questi
   abbrev pub AreRefused : Error → Type 0
   AreRefused error = OfRecords (λ packages links workspace. IsRefusal packages links workspace error)
 
-  -- the input says no records, and the fault tells why, or these records break a rule, or memory ran out
+  -- the input says no such records, and the fault tells why, or these records break a rule, or memory ran out
   abbrev pub IsLoadFault : Fault → Cause → Type 0
-  IsLoadFault fault bad_input = format.refuses input fault
+  IsLoadFault fault bad_input = format.refuses (are_named question) input fault
   IsLoadFault fault (library error) = OrMemory (AreRefused error) error
   IsLoadFault fault _ = ⊥

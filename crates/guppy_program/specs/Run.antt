@@ -4,6 +4,7 @@ use Rattle.std.specs.Io.KnownBytes.{IsAtEnd, Appends}
 use Rattle.guppy.specs.Graph.{GraphData}
 use Rattle.guppy_command.specs.Asked.{Asked}
 use Rattle.guppy_command.specs.Cause.{Cause, library, bad_arguments, ambiguous, no_walk, bad_input, input_failed, output_failed, OrMemory, caused, is_input_fault, is_output_fault}
+use Rattle.guppy_platforms.specs.Kept.{are_named}
 use Rattle.guppy_program.specs.Format.{Format}
 use Rattle.guppy_program.specs.Loaded.{IsLoaded, AreRefused}
 use Rattle.guppy_program.specs.Answer.{Answer, IsAnswer, IsCommandFault, shown}
@@ -32,7 +33,7 @@ IsRefusedOf format asked input fault cause = (g : GraphData)
 
 -- the fault, with this cause, is one of the input, or of the command on this graph
 abbrev pub IsFaultOf : {Fault : Type 0} → Format Fault → Asked → List ℕ → Fault → Cause → Type 0
-IsFaultOf format asked input fault bad_input = format.refuses input fault
+IsFaultOf format asked input fault bad_input = format.refuses (are_named asked.question) input fault
 IsFaultOf format asked input fault (library error) =
     OrMemory (AreRefused format asked.options.kinds asked.question input error
     ⊎ IsRefusedOf format asked input fault (library error)) error

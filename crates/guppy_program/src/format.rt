@@ -39,12 +39,12 @@ pub trait Format {
         ensures misread { IfErr result (λ fault. IsAskingFault format (D.has files.now)
             (map string_bytes args.now) fault (Self.Fault.cause fault)) };
 
-    /// The records that the input says.
-    fn records_of(alloc: Global, input: &[u8]) -> Result<Records, Self::Fault>
+    /// The records that the input says, with details, as the build targets of packages, or without.
+    fn records_of(alloc: Global, input: &[u8], details: bool) -> Result<Records, Self::Fault>
         ensures said { IfOk result (λ r.
-            format.says input.now r.packages.items r.links.items r.workspace) }
+            format.says details input.now r.packages.items r.links.items r.workspace) }
         ensures refused { IfErr result (λ fault.
-            IsReadingFault format input.now fault (Self.Fault.cause fault)) };
+            IsReadingFault format details input.now fault (Self.Fault.cause fault)) };
 
     /// The names of the packages.
     fn names_of(alloc: Global, packages: &[PackageRecord]) -> Result<Self::Names, AllocError>

@@ -18,7 +18,8 @@ use guppy_command::fault::{passed_on, want_of_memory};
 use guppy_command::options::keep_links;
 use guppy_command::transfer::{read_all, write_text};
 use guppy_command::{Asked, Files, Sink, Source};
-use guppy_platforms::keep_counting;
+use guppy_data::PlatformSpec;
+use guppy_platforms::{are_named, keep_counting};
 use std::alloc::Global;
 use std::mem;
 
@@ -34,8 +35,16 @@ fn load<F: Format>(
     ensures err { IfErr result (λ fault. IsLoadFault F.format asked.now.options.kinds
         (asked_shown asked.now).question input.now fault (F.Fault.cause fault)) }
 {
-    let mut records = F::records_of(alloc, input)?;
-    keep_counting(alloc, &asked.platforms, &mut records.links);
+    let mut records = F::records_of(alloc, input, are_named(&asked.platforms))?;
+    let Ok(()) = keep_counting(
+        alloc,
+        &asked.platforms,
+        &PlatformSpec::Any,
+        records.packages.as_slice(),
+        &mut records.links,
+    ) else {
+        return Err(want_of_memory());
+    };
     keep_links(asked.options.kinds, &mut records.links);
     let Ok(names) = F::names_of(alloc, records.packages.as_slice()) else {
         return Err(want_of_memory());
