@@ -1,2 +1,3 @@
 pub mod Replaced
 pub mod Adding
+pub mod FirmLinks

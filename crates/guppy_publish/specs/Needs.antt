@@ -1,5 +1,5 @@
 -- The links by which packages need each other to be published.
-use Rattle.std.specs.Prelude.{◌≡◌, ◌≢◌, ◌⊎◌, ℕ, true, List, [], ◌∷◌, ◌++◌, map, None, Contains, All, AllPairs, String, string_bytes}
+use Rattle.std.specs.Prelude.{◌≡◌, ◌≢◌, ◌⊎◌, ℕ, true, false, List, [], ◌∷◌, ◌++◌, map, None, Contains, All, AllPairs, String, string_bytes}
 use Rattle.std.specs.declared.alloc.Global.{Global}
 use Rattle.std.specs.List.{AllZip}
 use Rattle.guppy_data.specs.declared.records.LinkRecord.{LinkRecord}
@@ -22,6 +22,10 @@ ends r = (r.from, r.to)
 abbrev pub IsLinked : List LinkRecord → Pair → Type 0
 IsLinked links pair = Contains (map ends links) pair
 
+-- one of the links goes from the one package to the other, and isn't dev-only
+abbrev pub IsFirmlyLinked : List LinkRecord → Pair → Type 0
+IsFirmlyLinked links pair = (r : LinkRecord) × Contains links r × (ends r ≡ pair) × (is_dev_only r ≡ false)
+
 -- the same link, but required in its normal section on all platforms
 pub record IsMadeFirm (link firm : LinkRecord) : Type 0 where
   pub from : firm.from ≡ link.from
@@ -40,9 +44,9 @@ abbrev pub IsDeclaredDevOnly : List Pair → LinkRecord → Type 0
 IsDeclaredDevOnly declared link = (is_dev_only link ≡ true) × Contains declared (ends link)
 
 -- such a link is required, any other is as it was
-pub record IsNeedOf (declared : List Pair) (link need : LinkRecord) : Type 0 where
-  pub firm : IsDeclaredDevOnly declared link → IsMadeFirm link need
-  pub same : ¬ IsDeclaredDevOnly declared link → need ≡ link
+abbrev pub IsNeedOf : List Pair → LinkRecord → LinkRecord → Type 0
+IsNeedOf declared link need = (IsDeclaredDevOnly declared link × IsMadeFirm link need)
+    ⊎ ((¬ IsDeclaredDevOnly declared link) × (need ≡ link))
 
 -- a link named after the package that it goes to, required in its normal section alone, of which every version will
 -- do: `*` has no comparator

@@ -7,6 +7,7 @@ ghost use Rattle.guppy.specs.Listed.{listed_ids_left};
 ghost use Rattle.guppy.specs.Verified.{IsVerified, IsVerifyFault, TellsVerifyFault};
 ghost use Rattle.guppy_publish.specs.Publishing.{ArePublishIds};
 
+pub mod laws;
 mod needs;
 
 use guppy::graph::DependencyDirection;
