@@ -7,8 +7,12 @@ ghost use Rattle.guppy.specs.Listed.{listed_ids_left};
 ghost use Rattle.guppy.specs.Verified.{IsVerified, IsVerifyFault, TellsVerifyFault};
 ghost use Rattle.guppy_publish.specs.Publishing.{ArePublishIds};
 
+pub mod laws;
+mod needs;
+
 use guppy::graph::DependencyDirection;
 use guppy::{Error, ListedPackageIds, PackageGraph, PackageId};
+pub use needs::add_declared;
 
 /// The IDs of the workspace's members in an order in which they can be published: each once, and each
 /// after every other member to which a path of links that aren't dev-only leads from it, also through
