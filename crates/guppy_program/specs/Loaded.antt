@@ -1,32 +1,44 @@
 -- The package graph of the records that an input says, with the links that are asked for.
-use Rattle.std.specs.Prelude.{ℕ, List, Option}
+use Rattle.std.specs.Prelude.{◌≡◌, ◌↔◌, ℕ, List, Contains}
 use Rattle.guppy_data.specs.declared.records.PackageRecord.{PackageRecord}
 use Rattle.guppy_data.specs.declared.records.LinkRecord.{LinkRecord}
 use Rattle.guppy_data.specs.declared.records.WorkspaceRecord.{WorkspaceRecord}
 use Rattle.guppy_data.specs.declared.texts.error.Error.{Error}
-use Rattle.guppy_data.specs.Platform.{Question}
 use Rattle.guppy.specs.Accepted.{IsAccepted}
 use Rattle.guppy.specs.Graph.{GraphData, Holds}
 use Rattle.guppy.specs.Refused.{IsRefusal}
-use Rattle.guppy_target.specs.Platform.{PlatformData}
 use Rattle.guppy_command.specs.Cause.{Cause, library, bad_input, OrMemory}
-use Rattle.guppy_command.specs.declared.options.Kinds.{Kinds}
+use Rattle.guppy_command.specs.Asked.{Asked}
+use Rattle.guppy_command.specs.Command.{Command, publish_order}
 use Rattle.guppy_command.specs.Options.{kept_links}
 use Rattle.guppy_platforms.specs.Kept.{AreKept}
+use Rattle.guppy_publish.specs.Needs.{Pair, AreNeeds}
 use Rattle.guppy_program.specs.Format.{Format}
 
-module _ {Fault : Type 0} (format : Format Fault) (kinds : Option Kinds) (question : Question PlatformData)
-    (input : List ℕ) where
-  -- the input says records, and P holds of them with what counts of their links on the platforms in question, and of
-  -- that the links of these kinds, or all
+-- the pairs are those of members of which the one declares the other, as the input says
+abbrev pub AreDeclared : {Fault : Type 0} → Format Fault → List ℕ → List Pair → Type 0
+AreDeclared format input declared = (from to : List ℕ) → Contains declared (from, to) ↔ format.declares input from to
+
+-- these are the links that the command is about: for `publish-order` those by which members need each other to be
+-- published, with what the input says that they declare, for any other command the links as they are
+abbrev pub AreAskedOf : {Fault : Type 0} → Format Fault → Command → List ℕ → List LinkRecord → List LinkRecord → Type 0
+AreAskedOf format (publish_order publishable) input links asked_of =
+    (declared : List Pair) × AreDeclared format input declared × AreNeeds declared links asked_of
+AreAskedOf format _ input links asked_of = asked_of ≡ links
+
+module _ {Fault : Type 0} (format : Format Fault) (asked : Asked) (input : List ℕ) where
+  -- the input says records, and P holds of them with what counts of their links on the platforms in question, of that
+  -- the links of these kinds, or all, and with these what the command asks about
   pub record OfRecords (P : List PackageRecord → List LinkRecord → WorkspaceRecord → Type 0) : Type 0 where
     pub packages : List PackageRecord
     pub links : List LinkRecord
     pub workspace : WorkspaceRecord
     pub said : format.says input packages links workspace
     pub counting : List LinkRecord
-    pub counted : AreKept question links counting
-    pub holds : P packages (kept_links kinds counting) workspace
+    pub counted : AreKept asked.question links counting
+    pub asked_links : List LinkRecord
+    pub are_asked : AreAskedOf format asked.command input (kept_links asked.options.kinds counting) asked_links
+    pub holds : P packages asked_links workspace
 
   -- these records break no rule, and the graph holds exactly these
   abbrev pub IsLoaded : GraphData → Type 0

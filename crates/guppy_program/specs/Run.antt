@@ -22,19 +22,19 @@ pub record IsAnswerOf {Fault : Type 0} (format : Format Fault) (asked : Asked) (
 -- asked for
 abbrev pub IsAnswerTo : {Fault : Type 0} → Format Fault → Asked → List ℕ → List ℕ → Type 0
 IsAnswerTo format asked input output = (g : GraphData)
-    × IsLoaded format asked.options.kinds asked.question input g × IsAnswerOf format asked g output
+    × IsLoaded format asked input g × IsAnswerOf format asked g output
 
 -- the command is refused so, of this graph
 abbrev pub IsRefusedOf : {Fault : Type 0} → Format Fault → Asked → List ℕ → Fault → Cause → Type 0
 IsRefusedOf format asked input fault cause = (g : GraphData)
-    × IsLoaded format asked.options.kinds asked.question input g
+    × IsLoaded format asked input g
     × IsCommandFault format asked.command g fault cause
 
 -- the fault, with this cause, is one of the input, or of the command on this graph
 abbrev pub IsFaultOf : {Fault : Type 0} → Format Fault → Asked → List ℕ → Fault → Cause → Type 0
 IsFaultOf format asked input fault bad_input = format.refuses input fault
 IsFaultOf format asked input fault (library error) =
-    OrMemory (AreRefused format asked.options.kinds asked.question input error
+    OrMemory (AreRefused format asked input error
     ⊎ IsRefusedOf format asked input fault (library error)) error
 IsFaultOf format asked input fault (ambiguous word texts) =
     IsRefusedOf format asked input fault (ambiguous word texts)
