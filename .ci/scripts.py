@@ -18,7 +18,7 @@ import time
 from concurrent.futures import ThreadPoolExecutor
 from pathlib import Path
 
-from metadata import try_asked, try_flags, try_given, try_metadata_refused, try_platforms
+from metadata import try_asked, try_declared, try_flags, try_given, try_metadata_refused, try_platforms
 from since import try_since, try_since_answers, try_since_locked, try_since_refused
 
 HERE = Path(__file__).resolve().parent
@@ -435,6 +435,7 @@ PARTS = {
     "changes, a new lock file": (try_since_locked, []),
     "changes, refusals": (try_since_refused, []),
     "what cargo is asked": (try_asked, []),
+    "what members declare": (try_declared, []),
     "flags that cargo gives": (try_flags, []),
     "members on a platform": (try_platforms, []),
     "metadata": (try_given, []),
