@@ -72,7 +72,14 @@ class Graph:
         self.sections = {(a, b): {it["kind"] or "normal" for it in kinds} for a, b, kinds in ends}
         self.links = set(self.sections)
         self.firm = {(a, b) for a, b, kinds in ends if any(it["kind"] != "dev" for it in kinds)}
+        # Members by the folder of their manifest, which is the path that cargo prints of a dependency on them.
+        homes = {it["manifest_path"].removesuffix("/Cargo.toml"): it["id"] for it in packages}
+        asked = [(it["id"], homes.get(one["path"])) for it in packages for one in it["dependencies"]
+                 if one["kind"] != "dev" and one.get("path")]
+        within = set(self.data["workspace_members"])
+        self.declared = {(called[a], called[b]) for a, b in asked if a in within and b in within}
         self.onward, self.firmly = reach_of(self.names, self.links), reach_of(self.names, self.firm)
+        self.needed = reach_of(self.names, self.firm | self.declared)
         self.back = reach_of(self.names, reverse(self.links))
         macros = {called[it["id"]] for it in packages if any("proc-macro" in target["crate_types"] for target in it["targets"])}
         built = {b for (_, b), sections in self.sections.items() if "build" in sections}
@@ -243,7 +250,7 @@ def try_publish(graph):
     yield "publish-order, each once", sorted(graph.folders), sorted(order)
     chosen = [it for it in order if graph.publish[it] != []]
     yield "publish-order --publishable", chosen, graph.ask("publish-order", "--publishable")
-    early = [(a, b) for a, b in itertools.combinations(order, 2) if b in graph.firmly.get(a, ())]
+    early = [(a, b) for a, b in itertools.combinations(order, 2) if b in graph.needed.get(a, ())]
     yield "publish-order, the wrong way round", [], early
 
 

@@ -16,6 +16,22 @@ MEMBERS = {
     "d": '[dependencies]\nc = { path = "../c", optional = true }\n[features]\ndefault = ["more"]\nmore = []\nextra = ["c"]\n',
     "e": "",
 }
+# Members that declare others to which cargo resolves nothing: `b` and `h` have no library, and `c`, `g` and `k` are
+# switched on by no feature. The link from `j` is dev-only then, as is the one back, which counts for nothing. In no
+# order by names are all pairs right.
+DECLARED = {
+    "a": ('[dependencies]\nz = { path = "../b/../b", version = "0.1.0", package = "b" }\n[build-dependencies]\nd = { path = "../d", version = "0.1.0" }\n', "lib.rs"),
+    "b": ("", "main.rs"),
+    "c": ("", "lib.rs"),
+    "d": ('[dependencies]\nc = { path = "../c/", version = "0.1.0", optional = true }\n', "lib.rs"),
+    "e": ('[target."cfg(windows)".dependencies]\ng = { path = "../g", version = "0.1.0", optional = true }\n', "lib.rs"),
+    "g": ("", "lib.rs"),
+    "h": ("", "main.rs"),
+    "i": ('[dependencies]\nh = { path = "../h", version = "0.1.0" }\n', "lib.rs"),
+    "j": ('[dependencies]\nk = { path = "../k", version = "0.1.0", optional = true }\n[dev-dependencies]\nk = { path = "../k" }\n', "lib.rs"),
+    "k": ('[dev-dependencies]\nj = { path = "../j" }\n', "lib.rs"),
+}
+NEEDED = ["ab", "ad", "dc", "eg", "ih", "jk"]
 ALL = ["--all-features"]
 # Words for the script, and what cargo is to be asked of them.
 PASSED_ON = [
@@ -156,9 +172,9 @@ def try_asked(world):
 
     (world.room / "on").write_text("windows\n")
     order, without = ask("publish-order"), ask("publish-order", "--no-default-features")
-    is_right = sorted(order) == sorted(without) == list("abcde")
-    is_right = is_right and all(order.index(a) < order.index(b) for a, b in ("ba", "cd", "ec"))
-    yield "the order with all features", is_right and order != without, (order, without)
+    for words, got in (("all features", order), ("no features", without)):
+        is_right = sorted(got) == list("abcde") and all(got.index(a) < got.index(b) for a, b in ("ba", "cd", "ec"))
+        yield f"the order to publish in, with {words}", is_right, got
     for words, wanted in (
         ("affected b/src/lib.rs", "ab"),
         ("affected b/src/lib.rs --no-default-features", "b"),
@@ -186,6 +202,29 @@ def try_asked(world):
     is_right = ran[:2] == (3, "") and "--locked" in ran[2] and "cargo gives no metadata" in ran[2].splitlines()[-1]
     yield "cargo heeds --locked", is_right and not (top / "Cargo.lock").exists(), ran
     yield "no file is left", not world.left(), world.left()
+
+
+def try_declared(world):
+    """The order counts what members declare of each other, beside the order in which cargo itself packages them."""
+    top = world.room / "declared"
+    for name, (manifest, source) in DECLARED.items():
+        folder = top / name
+        (folder / "src").mkdir(parents=True)
+        about = MANIFEST.format(name) + 'description = "-"\nlicense = "MIT"\n'
+        (folder / "Cargo.toml").write_text(about + manifest)
+        (folder / "src" / source).write_text("fn main() {}\n" if source == "main.rs" else "")
+    (top / "a" / "build.rs").write_text("fn main() {}\n")
+    (top / "Cargo.toml").write_text(f'[workspace]\nresolver = "2"\nmembers = {sorted(DECLARED)}\n')
+    world.build()
+    words = ["cargo", "package", "--workspace", "--no-verify", "--allow-dirty", "--offline"]
+    told = subprocess.run(words, cwd=top, capture_output=True, text=True).stderr
+    cargos = [line.split()[1] for line in told.splitlines() if line.strip().startswith("Packaging ")]
+    for features in ([], ["--no-default-features"], ["--all-features"]):
+        ran = world.run(["guppy-cargo", "publish-order", *features], where=top)
+        order = lines(ran)
+        is_whole = sorted(order) == sorted(cargos) == sorted(DECLARED)
+        wrong = [(a, b) for a, b in NEEDED if not is_whole or order.index(b) > order.index(a) or cargos.index(b) > cargos.index(a)]
+        yield f"what is declared comes first, with {features}", not wrong, (ran, cargos, wrong)
 
 
 def try_flags(world):

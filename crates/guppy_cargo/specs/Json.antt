@@ -8,6 +8,7 @@ use Rattle.guppy_data.specs.declared.records.WorkspaceRecord.{WorkspaceRecord}
 use Rattle.guppy_metadata.specs.declared.fault.MetadataFault.{MetadataFault}
 use Rattle.guppy_metadata.specs.Fault.{IsNotJson, IsNotResolved}
 use Rattle.guppy_metadata.specs.Records.{AreRecordsWith, IsUnresolved, SaysNoRecordsWith}
+use Rattle.guppy_declared.specs.Declares.{Declares}
 use Rattle.guppy_program.specs.Format.{Format}
 use Rattle.guppy_arguments.specs.declared.fault.CargoFault.{CargoFault}
 use Rattle.guppy_arguments.specs.declared.fault.CargoFault.TheVariants.{Metadata, NoText}
@@ -21,6 +22,10 @@ use Rattle.guppy_cargo.specs.Unknown.{TellsUnknown}
 abbrev pub SaysRecords : Bool → List ℕ → List PackageRecord → List LinkRecord → WorkspaceRecord → Type 0
 SaysRecords details input packages links workspace =
     IsSomeAnd (document input) (λ d. AreRecordsWith details d packages links workspace)
+
+-- the input is UTF-8, and JSON that says that the one member declares the other
+abbrev pub SaysDeclared : List ℕ → List ℕ → List ℕ → Type 0
+SaysDeclared input from to = IsUtf8 input × IsSomeAnd (document input) (λ d. Declares d from to)
 
 -- that the input is no JSON is told exactly where it is none, that no dependencies are resolved exactly where it is an
 -- object that says nothing of them, and any fault only where it says no such records
@@ -40,6 +45,7 @@ abbrev pub json_format : Format CargoFault
 json_format = record {
   says = SaysRecords;
   refuses = IsInputFault;
+  declares = SaysDeclared;
   asks = λ has args asked. Asks has cargo_program args asked;
   misreads = Tells;
   text = text;

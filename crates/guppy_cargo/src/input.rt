@@ -11,6 +11,7 @@ use guppy::{PackageGraph, PackageId};
 use guppy_arguments::{CargoFault, Names, asked_of};
 use guppy_command::{Asked, Files};
 use guppy_data::{PackageRecord, Records};
+use guppy_declared::declared_members;
 use guppy_metadata::{MetadataFault, plain_records_of, records_of};
 use guppy_program::Format;
 use guppy_program::format::has_package;
@@ -68,6 +69,13 @@ impl Format for Json {
             return Err(CargoFault::NoText);
         };
         Ok(records_in(alloc, text, details)?)
+    }
+
+    fn declared_in(alloc: Global, input: &[u8]) -> Result<Vec<(String, String)>, AllocError> {
+        match from_utf8(input) {
+            Ok(text) => declared_members(alloc, text),
+            Err(_) => Ok(Vec::new(alloc)),
+        }
     }
 
     fn names_of(alloc: Global, packages: &[PackageRecord]) -> Result<Names, AllocError> {

@@ -47,11 +47,12 @@ abbrev pub AreBad : (List ℕ → List ℕ → Type 0) → List (List ℕ) → R
 AreBad has args fault =
     (fault ≡ BadArguments) × ((misread : Misread) × IsMisread has lines_program args misread)
 
--- lines say records, and a package is called by its ID
+-- lines say records, and nothing of what is declared beside links; a package is called by its ID
 abbrev pub lines_format : Format RunFault
 lines_format = record {
   says = λ details. SayRecords;
   refuses = λ details. TellsBadLine;
+  declares = λ input from to. ⊥;
   asks = λ has. Asks has lines_program;
   misreads = AreBad;
   text = λ packages id. id;

@@ -92,6 +92,10 @@ impl Format for Lines {
         records_of(alloc, input)
     }
 
+    fn declared_in(alloc: Global, _input: &[u8]) -> Result<Vec<(String, String)>, AllocError> {
+        Ok(Vec::new(alloc))
+    }
+
     fn names_of(_alloc: Global, _packages: &[PackageRecord]) -> Result<(), AllocError> {
         Ok(())
     }

@@ -6,11 +6,8 @@ use Rattle.guppy_data.specs.declared.texts.error.Error.TheVariants.{PackageGraph
 use Rattle.guppy.specs.Accepted.{distinct_ids}
 use Rattle.guppy.specs.Graph.{GraphData}
 use Rattle.guppy.specs.Ids.{DistinctBelow}
-use Rattle.guppy_data.specs.Platform.{Question}
-use Rattle.guppy_target.specs.Platform.{PlatformData}
 use Rattle.guppy_command.specs.Asked.{Asked}
 use Rattle.guppy_command.specs.Cause.{Cause, library, bad_arguments, ambiguous, no_walk, bad_input, input_failed, output_failed, OrMemory}
-use Rattle.guppy_command.specs.declared.options.Kinds.{Kinds}
 use Rattle.guppy_program.specs.Format.{Format}
 use Rattle.guppy_program.specs.Loaded.{IsLoaded}
 use Rattle.guppy_program.specs.Answer.{IsCommandFault}
@@ -32,12 +29,12 @@ of_whole-along old new P Q along is = record { input = is.input; at_end = is.at_
 
 module _ {Fault : Type 0} (format : Format Fault) where
   -- the packages of a graph that the input says have distinct IDs
-  pub loaded_distinct : (kinds : Option Kinds) (question : Question PlatformData) (input : List ℕ) (g : GraphData) → IsLoaded format kinds question input g → DistinctBelow g.packages (length g.packages)
-  loaded_distinct kinds question input g loaded =
+  pub loaded_distinct : (asked : Asked) (input : List ℕ) (g : GraphData) → IsLoaded format asked input g → DistinctBelow g.packages (length g.packages)
+  loaded_distinct asked input g loaded =
       subst (λ packages. DistinctBelow packages (length packages)) (sym loaded.holds.1.packages_are) (loaded.holds.0 distinct_ids)
 
   -- a refusal of the command is a fault of the command on the input
-  pub command_fault : (asked : Asked) (input : List ℕ) (g : GraphData) → IsLoaded format asked.options.kinds asked.question input g → (fault : Fault) (cause : Cause) → IsCommandFault format asked.command g fault cause → IsFaultOf format asked input fault cause
+  pub command_fault : (asked : Asked) (input : List ℕ) (g : GraphData) → IsLoaded format asked input g → (fault : Fault) (cause : Cause) → IsCommandFault format asked.command g fault cause → IsFaultOf format asked input fault cause
   command_fault asked input g loaded fault (library error) is = OrMemory-holds error (inr (g, loaded, is))
   command_fault asked input g loaded fault bad_arguments is = absurd is
   command_fault asked input g loaded fault (ambiguous word choices) is = (g, loaded, is)

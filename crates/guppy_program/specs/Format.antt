@@ -13,6 +13,8 @@ pub record Format (Fault : Type 0) : Type 1 where
   pub says : Bool → List ℕ → List PackageRecord → List LinkRecord → WorkspaceRecord → Type 0
   -- the input says no such records, and the fault tells why
   pub refuses : Bool → List ℕ → Fault → Type 0
+  -- the input says that the member with the one ID declares the one with the other, whether or not a link does
+  pub declares : List ℕ → List ℕ → List ℕ → Type 0
   -- the arguments ask this, of which the files that they name have some
   pub asks : (List ℕ → List ℕ → Type 0) → List (List ℕ) → Asked → Type 0
   -- the arguments ask nothing, and the fault tells why

@@ -1,32 +1,55 @@
 -- The package graph of the records that an input says, with the links that are asked for.
-use Rattle.std.specs.Prelude.{ℕ, List, Option}
+use Rattle.std.specs.Prelude.{◌≡◌, ◌↔◌, ℕ, Bool, true, false, ◌||◌, List, Contains}
 use Rattle.guppy_data.specs.declared.records.PackageRecord.{PackageRecord}
 use Rattle.guppy_data.specs.declared.records.LinkRecord.{LinkRecord}
 use Rattle.guppy_data.specs.declared.records.WorkspaceRecord.{WorkspaceRecord}
 use Rattle.guppy_data.specs.declared.texts.error.Error.{Error}
-use Rattle.guppy_data.specs.Platform.{Question, OnAny}
+use Rattle.guppy_data.specs.Platform.{OnAny}
 use Rattle.guppy.specs.Accepted.{IsAccepted}
 use Rattle.guppy.specs.Graph.{GraphData, Holds}
 use Rattle.guppy.specs.Refused.{IsRefusal}
-use Rattle.guppy_target.specs.Platform.{PlatformData}
 use Rattle.guppy_command.specs.Cause.{Cause, library, bad_input, OrMemory}
-use Rattle.guppy_command.specs.declared.options.Kinds.{Kinds}
+use Rattle.guppy_command.specs.Asked.{Asked}
+use Rattle.guppy_command.specs.Command.{Command, publish_order, affected}
 use Rattle.guppy_command.specs.Options.{kept_links}
 use Rattle.guppy_platforms.specs.Kept.{AreKept, are_named}
+use Rattle.guppy_publish.specs.Needs.{Pair, AreNeeds}
 use Rattle.guppy_program.specs.Format.{Format}
 
-module _ {Fault : Type 0} (format : Format Fault) (kinds : Option Kinds) (question : Question PlatformData)
-    (input : List ℕ) where
-  -- the input says records, with details where platforms are named, and P holds of them with what counts of their links
-  -- on these or may on the host, of which nothing is known, and of that the links of these kinds, or all
+-- the pairs are those of members of which the one declares the other, as the input says
+abbrev pub AreDeclared : {Fault : Type 0} → Format Fault → List ℕ → List Pair → Type 0
+AreDeclared format input declared = (from to : List ℕ) → Contains declared (from, to) ↔ format.declares input from to
+
+-- these are the links that the command is about: for `publish-order` those by which members need each other to be
+-- published, with what the input says that they declare, for any other command the links as they are
+abbrev pub AreAskedOf : {Fault : Type 0} → Format Fault → Command → List ℕ → List LinkRecord → List LinkRecord → Type 0
+AreAskedOf format (publish_order publishable) input links asked_of =
+    (declared : List Pair) × AreDeclared format input declared × AreNeeds declared links asked_of
+AreAskedOf format _ input links asked_of = asked_of ≡ links
+
+-- whether the command asks for build targets, which say where sources lie
+abbrev pub asks_for_targets : Command → Bool
+asks_for_targets (affected ignored paths) = true
+asks_for_targets _ = false
+
+-- whether records are read with details: for build targets, which also say what runs on the host
+abbrev pub reads_details : Asked → Bool
+reads_details asked = are_named asked.question || asks_for_targets asked.command
+
+module _ {Fault : Type 0} (format : Format Fault) (asked : Asked) (input : List ℕ) where
+  -- the input says records, and P holds of them with what counts of their links on the platforms in question, or may on
+  -- the host, of which nothing is known, of that the links of these kinds, or all, and with these what the command asks
+  -- about
   pub record OfRecords (P : List PackageRecord → List LinkRecord → WorkspaceRecord → Type 0) : Type 0 where
     pub packages : List PackageRecord
     pub links : List LinkRecord
     pub workspace : WorkspaceRecord
-    pub said : format.says (are_named question) input packages links workspace
+    pub said : format.says (reads_details asked) input packages links workspace
     pub counting : List LinkRecord
-    pub counted : AreKept question OnAny packages links counting
-    pub holds : P packages (kept_links kinds counting) workspace
+    pub counted : AreKept asked.question OnAny packages links counting
+    pub asked_links : List LinkRecord
+    pub are_asked : AreAskedOf format asked.command input (kept_links asked.options.kinds counting) asked_links
+    pub holds : P packages asked_links workspace
 
   -- these records break no rule, and the graph holds exactly these
   abbrev pub IsLoaded : GraphData → Type 0
@@ -39,6 +62,6 @@ module _ {Fault : Type 0} (format : Format Fault) (kinds : Option Kinds) (questi
 
   -- the input says no such records, and the fault tells why, or these records break a rule, or memory ran out
   abbrev pub IsLoadFault : Fault → Cause → Type 0
-  IsLoadFault fault bad_input = format.refuses (are_named question) input fault
+  IsLoadFault fault bad_input = format.refuses (reads_details asked) input fault
   IsLoadFault fault (library error) = OrMemory (AreRefused error) error
   IsLoadFault fault _ = ⊥

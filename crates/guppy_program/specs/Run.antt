@@ -4,9 +4,8 @@ use Rattle.std.specs.Io.KnownBytes.{IsAtEnd, Appends}
 use Rattle.guppy.specs.Graph.{GraphData}
 use Rattle.guppy_command.specs.Asked.{Asked}
 use Rattle.guppy_command.specs.Cause.{Cause, library, bad_arguments, ambiguous, no_walk, bad_input, input_failed, output_failed, OrMemory, caused, is_input_fault, is_output_fault}
-use Rattle.guppy_platforms.specs.Kept.{are_named}
 use Rattle.guppy_program.specs.Format.{Format}
-use Rattle.guppy_program.specs.Loaded.{IsLoaded, AreRefused}
+use Rattle.guppy_program.specs.Loaded.{IsLoaded, AreRefused, reads_details}
 use Rattle.guppy_program.specs.Answer.{Answer, IsAnswer, IsCommandFault, shown}
 use Rattle.guppy_program.specs.Printed.{IsPrinted, called}
 
@@ -23,19 +22,19 @@ pub record IsAnswerOf {Fault : Type 0} (format : Format Fault) (asked : Asked) (
 -- asked for
 abbrev pub IsAnswerTo : {Fault : Type 0} → Format Fault → Asked → List ℕ → List ℕ → Type 0
 IsAnswerTo format asked input output = (g : GraphData)
-    × IsLoaded format asked.options.kinds asked.question input g × IsAnswerOf format asked g output
+    × IsLoaded format asked input g × IsAnswerOf format asked g output
 
 -- the command is refused so, of this graph
 abbrev pub IsRefusedOf : {Fault : Type 0} → Format Fault → Asked → List ℕ → Fault → Cause → Type 0
 IsRefusedOf format asked input fault cause = (g : GraphData)
-    × IsLoaded format asked.options.kinds asked.question input g
+    × IsLoaded format asked input g
     × IsCommandFault format asked.command g fault cause
 
 -- the fault, with this cause, is one of the input, or of the command on this graph
 abbrev pub IsFaultOf : {Fault : Type 0} → Format Fault → Asked → List ℕ → Fault → Cause → Type 0
-IsFaultOf format asked input fault bad_input = format.refuses (are_named asked.question) input fault
+IsFaultOf format asked input fault bad_input = format.refuses (reads_details asked) input fault
 IsFaultOf format asked input fault (library error) =
-    OrMemory (AreRefused format asked.options.kinds asked.question input error
+    OrMemory (AreRefused format asked input error
     ⊎ IsRefusedOf format asked input fault (library error)) error
 IsFaultOf format asked input fault (ambiguous word texts) =
     IsRefusedOf format asked input fault (ambiguous word texts)

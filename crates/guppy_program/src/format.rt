@@ -1,7 +1,8 @@
 //! What differs between programs: what they are asked, how they read their input, and what they call packages.
-ghost use Rattle.std.specs.Prelude.{◌≡◌, ◌∷◌, [], List, map, string_bytes, IfOk, IfErr, IsOkUnless};
+ghost use Rattle.std.specs.Prelude.{◌≡◌, ◌↔◌, ◌∷◌, [], ℕ, List, map, string_bytes, Contains, IfOk, IfErr, IsOkUnless};
 ghost use Rattle.guppy_data.specs.declared.records.PackageRecord.{PackageRecord as PackageData};
 ghost use Rattle.guppy.specs.Ids.{IsKnown};
+ghost use Rattle.guppy_publish.specs.Needs.{pair_texts};
 ghost use Rattle.guppy_command.specs.Ids.{has_id};
 ghost use Rattle.guppy_program.specs.Format.{Format as FormatOf, IsAskingFault, IsReadingFault, IsUnclear};
 ghost use Rattle.guppy_command.specs.Shown.{asked_shown};
@@ -20,7 +21,7 @@ pub trait Format {
     type Names: Drop;
 
     /// What arguments ask, or with which fault they are refused; which records an input says, or with which fault it is
-    /// refused; which text is printed for a package, which packages a word may mean, and what is told of one that means
+    /// refused; which members it says declare which others; which text is printed for a package, which packages a word may mean, and what is told of one that means
     /// none.
     ghost format: { FormatOf Self.Fault };
 
@@ -45,6 +46,12 @@ pub trait Format {
             format.says details input.now r.packages.items r.links.items r.workspace) }
         ensures refused { IfErr result (λ fault.
             IsReadingFault format details input.now fault (Self.Fault.cause fault)) };
+
+    /// Which members the input says declare which others, by their IDs: what it says beside its records, for
+    /// `publish-order` alone. A pair may be there several times.
+    fn declared_in(alloc: Global, input: &[u8]) -> Result<Vec<(String, String)>, AllocError>
+        ensures { IfOk result (λ pairs. (from to : List ℕ) → Contains (map pair_texts pairs.items) (from, to)
+            ↔ format.declares input.now from to) };
 
     /// The names of the packages.
     fn names_of(alloc: Global, packages: &[PackageRecord]) -> Result<Self::Names, AllocError>

@@ -2,11 +2,12 @@
 ghost use Rattle.std.specs.Prelude.{◌≡◌, ◌++◌, ℕ, List, Some, false, length, map, string_bytes, Err, OnOk, IfOk, IfErr, Bool};
 ghost use Rattle.std.specs.Io.KnownBytes.{Appends};
 ghost use Rattle.guppy.specs.Ids.{DistinctBelow};
-ghost use Rattle.guppy_command.specs.Cause.{Cause, bad_arguments, output_failed, caused, is_input_fault, is_output_fault};
-ghost use Rattle.guppy_program.specs.Loaded.{IsLoaded, IsLoadFault};
+ghost use Rattle.guppy_data.specs.declared.texts.error.Error.TheVariants.{OutOfMemory};
+ghost use Rattle.guppy_command.specs.Cause.{Cause, library, bad_arguments, output_failed, caused, is_input_fault, is_output_fault};
+ghost use Rattle.guppy_program.specs.Loaded.{AreAskedOf, IsLoaded, IsLoadFault, reads_details};
 ghost use Rattle.guppy_program.specs.Answer.{IsAnswer, IsCommandFault};
 ghost use Rattle.guppy_program.specs.Printed.{IsPrinted};
-ghost use Rattle.guppy_command.specs.Shown.{asked_shown};
+ghost use Rattle.guppy_command.specs.Shown.{asked_shown, command_shown};
 ghost use Rattle.guppy_program.specs.Run.{IsAnswerTo, IsAnswerOf, IsAnswerFault, IsFaultOf, IsSourceFault, IsAnswered, IsBegun, IsRun, IsRunFault, OfWholeInput, WritesNothing};
 
 use crate::answer::answer_of;
@@ -17,25 +18,57 @@ use guppy::{IntoGraph, PackageGraph};
 use guppy_command::fault::{passed_on, want_of_memory};
 use guppy_command::options::keep_links;
 use guppy_command::transfer::{read_all, write_text};
-use guppy_command::{Asked, Files, Sink, Source};
-use guppy_data::PlatformSpec;
+use guppy_command::{Asked, Command, Files, Sink, Source};
+use guppy_data::{LinkRecord, PlatformSpec};
 use guppy_platforms::{are_named, keep_counting};
+use guppy_publish::add_declared;
 use std::alloc::Global;
 use std::mem;
 
-// The graph of the records that the input says, with the links that the options keep, and the names of its packages.
+// Makes of the links those that the command asks about: for `publish-order` those by which members need each other to be
+// published, with what the input says that they declare.
+fn keep_asked<F: Format>(
+    alloc: Global,
+    command: &Command<'_>,
+    input: &[u8],
+    links: &mut Vec<LinkRecord>,
+) -> Result<(), F::Fault>
+    ensures ok { OnOk result (AreAskedOf F.format (command_shown command.now) input.now links.old.items
+        links.new.items) }
+    ensures err { IfErr result (λ fault. F.Fault.cause fault ≡ library OutOfMemory) }
+{
+    let Command::PublishOrder { .. } = command else {
+        return Ok(());
+    };
+    let Ok(declared) = F::declared_in(alloc, input) else {
+        return Err(want_of_memory());
+    };
+    match add_declared(alloc, links, declared.as_slice()) {
+        Ok(()) => Ok(()),
+        Err(_) => Err(want_of_memory()),
+    }
+}
+
+// Whether records are read with details: for build targets, which say where sources lie, and what runs on the host.
+fn reads_details(asked: &Asked<'_>) -> bool
+    ensures { result ≡ reads_details (asked_shown asked.now) }
+{
+    are_named(&asked.platforms) || matches!(asked.command, Command::Affected { .. })
+}
+
+// The graph of the records that the input says, with the links that the options keep and the command asks about, and the
+// names of its packages.
 fn load<F: Format>(
     alloc: Global,
     asked: &Asked<'_>,
     input: &[u8],
 ) -> Result<(PackageGraph, F::Names), F::Fault>
-    ensures ok { IfOk result (λ loaded. IsLoaded F.format asked.now.options.kinds
-        (asked_shown asked.now).question input.now loaded.0) }
+    ensures ok { IfOk result (λ loaded. IsLoaded F.format (asked_shown asked.now) input.now loaded.0) }
     ensures names { IfOk result (λ loaded. F.are_names loaded.1 loaded.0.packages) }
-    ensures err { IfErr result (λ fault. IsLoadFault F.format asked.now.options.kinds
-        (asked_shown asked.now).question input.now fault (F.Fault.cause fault)) }
+    ensures err { IfErr result (λ fault. IsLoadFault F.format (asked_shown asked.now) input.now
+        fault (F.Fault.cause fault)) }
 {
-    let mut records = F::records_of(alloc, input, are_named(&asked.platforms))?;
+    let mut records = F::records_of(alloc, input, reads_details(asked))?;
     let Ok(()) = keep_counting(
         alloc,
         &asked.platforms,
@@ -46,6 +79,7 @@ fn load<F: Format>(
         return Err(want_of_memory());
     };
     keep_links(asked.options.kinds, &mut records.links);
+    keep_asked::<F>(alloc, &asked.command, input, &mut records.links)?;
     let Ok(names) = F::names_of(alloc, records.packages.as_slice()) else {
         return Err(want_of_memory());
     };
@@ -121,7 +155,7 @@ fn answer_source<F: Format, R: Source>(
 }
 
 /// Reads the whole input, and writes what is asked by `args` of its package graph, with the links that are asked
-/// for: those of some kinds, and on some platforms.
+/// for: those of some kinds, and on some platforms, and for `publish-order` what members declare of each other, too.
 ///
 /// `args` are the arguments without the program's own name. They are judged first, then the files that they name are
 /// read: where they ask nothing, that is told, and no input is read. Then all input is read, and kept; then
@@ -133,7 +167,8 @@ fn answer_source<F: Format, R: Source>(
 /// The graph is forgotten, not let go: its memory is given back when the process ends.
 ///
 /// Neither device may have failed before. Time grows with the lengths of the files and of the input, and with the
-/// packages and links times the logarithm of the packages.
+/// packages and links times the logarithm of the packages; for `publish-order` also with what members declare of each
+/// other, times the links.
 pub fn run_with<F: Format, D: Files, R: Source, W: Sink>(
     alloc: Global,
     args: &[String],
@@ -198,8 +233,7 @@ pub(crate) fn run_of<F: Format, D: Files, R: Source, W: Sink>(
 /// What is printed for what is asked by `args` of the package graph that the input says, as [`run_with`] has it, for
 /// callers that have the input and want the text. All else is let go of.
 ///
-/// Where the arguments ask nothing, that is told. Time grows with the lengths of the files and of the input, and with
-/// the packages and links times the logarithm of the packages.
+/// Where the arguments ask nothing, that is told. Time grows as that of [`run_with`].
 pub fn answer_bytes<F: Format, D: Files>(
     alloc: Global,
     args: &[String],

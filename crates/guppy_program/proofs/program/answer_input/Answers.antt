@@ -4,7 +4,7 @@ use Rattle.guppy_program.proofs.Runs.{command_fault, loaded_distinct}
 use Rattle.guppy_program.proofs.program.answer_input.Goals as goal
 
 pub answer_text-text-requires-clause-distinct : goal.answer_text-text-requires-clause-distinct
-answer_text-text-requires-clause-distinct g c = loaded_distinct g.F.Format.format (asked_shown c.args.asked.now).options.kinds (asked_shown c.args.asked.now).question c.args.input.now c.in_ok-graph.graph c.in_ok-graph.ensures.ok
+answer_text-text-requires-clause-distinct g c = loaded_distinct g.F.Format.format (asked_shown c.args.asked.now) c.args.input.now c.in_ok-graph.graph c.in_ok-graph.ensures.ok
 
 pub returns-clause-ok : goal.returns-clause-ok
 returns-clause-ok g c = IfOk-weaker c.answer_text-text.result _ _ (λ text is. (c.in_ok-graph.graph, c.in_ok-graph.ensures.ok, is)) c.answer_text-text.ensures.ok
