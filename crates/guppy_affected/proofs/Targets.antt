@@ -64,8 +64,7 @@ module _ (g : GraphData) (paths ignored : List (List ℕ)) (places : List (List 
   elsewhere_touched =
       let root = g.workspace.root in
       let counts = λ (path : List ℕ). Contains paths path × (IsIgnored ignored path → ⊥) in
-      let at = λ (path : List ℕ) (folder : List Part). Meets folder (place root path) in
-      (
+      let at = λ (path : List ℕ) (folder : List Part). Meets folder (place root path) in (
         λ far.
             let one = one_out (folder_at g.packages p) (slice_get g.packages p) (Found (λ folder. MeetsOne folder places)) counts (λ path. Found (at path)) (λ own r found.
             let lies = found.2 in

@@ -66,7 +66,13 @@ pub(crate) fn has_target_elsewhere(
         Some(folder) => {
             let root = graph.workspace().root();
             let own = place_of(graph.alloc(), root, folder)?;
-            has_one_elsewhere(metadata.build_targets(), graph.alloc(), root, own.as_slice(), places)
+            has_one_elsewhere(
+                metadata.build_targets(),
+                graph.alloc(),
+                root,
+                own.as_slice(),
+                places,
+            )
         }
         None => Ok(false),
     }

@@ -201,6 +201,22 @@ a_member_at_the_root_holds_what_its_targets_are_made_of | root=root@ @base @othe
     sorted affected rust-toolchain.md = base other root
     sorted affected .cargo.toml = base other root
 
+settings_are_everyone_s_wherever_they_lie | @base @other
+    sorted affected base/.cargo/config.toml = base other
+    sorted affected base/src/.cargo = base other
+    sorted affected base/rust-toolchain = base other
+    sorted affected base/src/rust-toolchain.toml = base other
+    affected base/rust-toolchain.toml/x = base
+    affected base/cargo/config.toml = base
+
+a_target_elsewhere_makes_a_path_its_package_s_too | @base @other +test=t@other/../base/deep/t.rs +bin=b@other/src/b.rs @top: top>other
+    sorted affected base/deep/t.rs = base other top
+    sorted affected base/deep/more/x = base other top
+    sorted affected base = base other top
+    affected base/deeper/x = base
+    affected base/src/lib.rs = base
+    affected other/src/b.rs = other top
+
 folders_hold_names_alone | root=root@ @base @other: root>base
     sorted affected ../src/lib.rs = base other root
     sorted affected .. = base other root

@@ -12,6 +12,7 @@
 //! | `$p` | a package whose ID, name and path are this, and which is no member |
 //! | `a#1.0.0` | a package of this version, where the others have 1.2.3 |
 //! | `+bin=b` | a build target of the package before it; also `+test=t`, and `+lib` with a name or without |
+//! | `+test=t@p` | the same, and the path of its source |
 //! | `+macro=m` | a library of the kind of a procedural macro |
 //! | `+misfit=t` | a test target of a library's kind |
 //! | `!a` | a default member |
@@ -137,13 +138,14 @@ fn lib_name(rt: &impl Abort, alloc: Global, kind: &str, name: &str) -> Option<St
 
 // The build target of a word without its plus.
 fn target_of(rt: &impl Abort, alloc: Global, word: &str) -> BuildTargetRecord {
+    let (word, place) = word.split_once('@').unwrap_or((word, ""));
     let (kind, name) = word.split_once('=').unwrap_or((word, ""));
     BuildTargetRecord {
         id: target_id(rt, alloc, kind, name),
         kind: target_kind(alloc, kind),
         lib_name: lib_name(rt, alloc, kind, name),
         required_features: Vec::new(alloc),
-        path: no_path(alloc),
+        path: path(rt, alloc, place),
         edition: String::new(alloc),
         doc_by_default: false,
         doctest_by_default: false,

@@ -21,8 +21,7 @@ returns-then-branch c =
     let target = seen_target c.in-Some.target in
     let left = targets_left c.next.new.self in
     let seen = c.loop-target.invariant.0 in
-    let whole = c.loop-target.invariant.1 ∙ ap (λ (l : List BuildTargetRecord). seen ++ l) c.in-Some.ensures.steps in
-    (
+    let whole = c.loop-target.invariant.1 ∙ ap (λ (l : List BuildTargetRecord). seen ++ l) c.in-Some.ensures.steps in (
       λ h. (target, subst (λ (l : List BuildTargetRecord). Contains l target) (sym whole) (Contains-append_right seen (target ∷ left) target (here_first target left)), c.in_ok-lies_elsewhere.ensures.0 c.if-branch.true),
       λ one. refl,
     )
@@ -33,8 +32,7 @@ loop-target-preserved c =
     let own = map part_shown c.args.own.now in
     let P = λ (folder : List Part). MeetsOne folder (lists_in c.args.places.now) in
     let target = seen_target c.in-Some.target in
-    let seen = c.loop-target.invariant.0 in
-    (
+    let seen = c.loop-target.invariant.0 in (
       seen ++ target ∷ [],
       c.loop-target.invariant.1 ∙ ap (λ (l : List BuildTargetRecord). seen ++ l) c.in-Some.ensures.steps ∙ sym (append_assoc seen (target ∷ []) (targets_left c.next.new.self)),
       λ one. ⊎_elim c.loop-target.invariant.2

@@ -1,4 +1,4 @@
-use Rattle.std.proofs.Common.{◌≡◌, ◌∙◌, ap, Bool, List, Bor, map}
+use Rattle.std.proofs.Common.{◌∙◌, ap, Bool, List, Bor, map}
 use Rattle.std.specs.Prelude.{◌↔◌, IsTrue}
 use Rattle.guppy.specs.Component.{part_shown}
 use Rattle.guppy.specs.Graph.{GraphData}

@@ -1,5 +1,4 @@
 use Rattle.std.proofs.Common.{◌≡◌, ◌∙◌, sym, ap, subst, true, List, map}
-use Rattle.guppy.specs.BuildTarget.{seen_target}
 use Rattle.guppy.specs.Component.{part_shown}
 use Rattle.guppy.specs.Path.{Part}
 use Rattle.guppy.specs.Utf8Path.{path_text}
@@ -18,8 +17,7 @@ pub returns : goal.returns
 returns c =
     let own = map part_shown c.args.own.now in
     let first = ap (map part_shown) c.as_slice.ensures.value ∙ c.in_ok-folder.ensures ∙ ap (place_above (path_text c.args.root)) c.path.ensures in
-    let again = ap (map part_shown) c.as_slice-2.ensures.value ∙ c.in_ok-folder.ensures ∙ ap (place_above (path_text c.args.root)) c.path.ensures in
-    (
+    let again = ap (map part_shown) c.as_slice-2.ensures.value ∙ c.in_ok-folder.ensures ∙ ap (place_above (path_text c.args.root)) c.path.ensures in (
       λ h. (
         λ inside. let is : c.is_inside.result ≡ true = c.is_inside.ensures.1 (subst (IsInside own) (sym first) inside) in absurd (cc),
         subst (λ (f : List Part). MeetsOne f (lists_in c.args.places.now)) again (c.meets_one.ensures.0 h),
