@@ -31,6 +31,8 @@ CARGO = {"CARGO_INCREMENTAL": "0", "CARGO_BUILD_JOBS": "1", "CARGO_PROFILE_DEV_D
 # What a build script says of when it is to run again; of the first cargo looks at each file of its package.
 SCRIPTS = ["", "cargo:rerun-if-changed=build.rs", "cargo:rerun-if-changed=data.txt"]
 MACRO = "[lib]\nproc-macro = true\n"
+# What a test in another folder is made of.
+FAR = {"far.rs": "mod part;\n", "part.rs": ""}
 # Where files lie that several packages include.
 SHARED = ["shared", "../proto"]
 
@@ -58,6 +60,8 @@ class Package:
         self.is_macro = 0 < number < SIZE - 1 and drawn.random() < 0.15
         self.script = drawn.choice(SCRIPTS) if drawn.random() < 0.4 else None
         self.reads = drawn.choice(["", "", "", "data.txt", "ws/shared", "proto"])
+        # A test of some lies in another folder, from the workspace's root.
+        self.far = drawn.choice(["shared", "../far", "p0/tests", "crates/far"]) if drawn.random() < 0.3 else None
 
     def manifest(self, root):
         """Its manifest; `root` is the workspace's table where it lies at the root."""
@@ -65,10 +69,14 @@ class Package:
         if self.is_member and self.folder.startswith("../"):
             head += f'workspace = "{os.path.relpath("ws", os.path.join("ws", self.folder))}"\n'
         asked = (f'[{section}dependencies]\n{it.name}.path = "{self.path_to(it)}"\n' for section, it in self.asks)
-        return head + (MACRO if self.is_macro else "") + tables(asked) + root
+        far = f'[[test]]\nname = "far"\npath = "{self.from_here(self.far)}/{self.name}/far.rs"\n' if self.far else ""
+        return head + (MACRO if self.is_macro else "") + far + tables(asked) + root
+
+    def from_here(self, folder):
+        return os.path.relpath(os.path.join("ws", folder), os.path.join("ws", self.folder)) or "."
 
     def path_to(self, other):
-        return os.path.relpath(os.path.join("ws", other.folder), os.path.join("ws", self.folder)) or "."
+        return self.from_here(other.folder)
 
     def files(self):
         above = "../" * len(os.path.normpath(os.path.join("ws", self.folder)).split("/"))
@@ -102,6 +110,8 @@ class Workspace:
         for it in self.packages:
             for name, text in it.files().items():
                 write(self.root / it.folder / name, text)
+            for name, text in FAR.items() if it.far else ():
+                write(self.root / it.far / it.name / name, text)
             self.write_manifest(it)
         if not self.rooted:
             write(self.root / "Cargo.toml", self.table())
@@ -202,6 +212,15 @@ def change_test(workspace, package, number):
     append(workspace, package, "tests/all.rs", f"// {number}\n")
 
 
+def change_far_test(workspace, package, number):
+    far = [it for it in workspace.packages if it.far and it.is_member]
+    if not far:
+        return change_test(workspace, package, number)
+    it = workspace.drawn.choice(far)
+    path = workspace.root / it.far / it.name / workspace.drawn.choice(list(FAR))
+    return write(path, f"{path.read_text()}// {number}\n")
+
+
 def add_test(workspace, package, number):
     append(workspace, package, f"tests/more{number}.rs", "")
 
@@ -242,6 +261,7 @@ UNREAD = "a file that nobody reads"
 KINDS = {
     "a source": change_source,
     "a test": change_test,
+    "a test in another folder": change_far_test,
     "a new test": add_test,
     "a file beside": change_data,
     "a build script": change_script,
