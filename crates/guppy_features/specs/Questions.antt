@@ -26,6 +26,7 @@ use Rattle.guppy_features.specs.declared.question.Asked.{Asked}
 use Rattle.guppy_features.specs.Facts.{part, switched_fact}
 use Rattle.guppy_features.specs.Dependencies.{DependencyData}
 
+-- a graph, and what is asked of Cargo
 pub record Question : Type 0 where
   pub graph : GraphData
   pub options : CargoOptions
@@ -36,6 +37,7 @@ question g options = record { graph = g; options = options }
 abbrev pub question_of : Asked → Question
 question_of a = question a.graph.now a.options.now
 
+-- whether it is resolver 1
 abbrev pub is_first : CargoResolverVersion → Bool
 is_first V1 = true
 is_first V2 = false
@@ -80,11 +82,13 @@ is_development Development = true
 is_development Normal = false
 is_development Build = false
 
+-- whether the status isn't never
 abbrev pub is_present : Status → Bool
 is_present Never = false
 is_present Always = true
 is_present (Dependent texts) = true
 
+-- whether the value isn't off: on, or not known
 abbrev pub may_be : EnabledTernary → Bool
 may_be Disabled = false
 may_be Unknown = true
@@ -97,7 +101,7 @@ platforms_for q s section =
     if is_host s || is_build section then q.options.host_platform else q.options.target_platform
 
 -- whether what has the status is on for a package on the side, in the section: where the sides are apart, if it may be
--- on one of the platforms that count there, else if it is on any platform
+-- on the platforms that count there, else if it is on any at all
 abbrev pub is_on : Question → BuildPlatform → DependencyKind → Status → Bool
 is_on q s section status = if splits q
     then may_be (status_value answer_of status (platforms_of (platforms_for q s section)))
