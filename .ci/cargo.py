@@ -98,6 +98,9 @@ class Graph:
     def has_firm_cycle(self):
         return any(a != b and a in self.firmly[b] for a, b in self.firm)
 
+    def has_needed_cycle(self):
+        return any(a != b and a in self.needed[b] for a, b in self.firm | self.declared)
+
     def led_back(self, order):
         """The pairs that stand the wrong way round in an order with dependents first."""
         pairs = [(a, b) for a, b in itertools.combinations(order, 2) if a in self.onward.get(b, ())]
@@ -606,8 +609,8 @@ def try_refused(graph):
         told = status, "", f"error: {fault}\n"
         yield f"{words} of {text[:20]} and {len(text)} bytes, what is told", told, run(words.split(), text)
     firm = Graph(graph.text.replace('"kind":"dev"', '"kind":null'))
-    for words in ("verify", "publish-order"):
-        wanted = f"status {int(firm.has_firm_cycle())}"
+    for words, has_cycle in (("verify", firm.has_firm_cycle()), ("publish-order", firm.has_needed_cycle())):
+        wanted = f"status {int(has_cycle)}"
         yield f"{words}, dev-dependencies made normal", wanted, ending([words], firm.text.encode())
 
 
