@@ -53,7 +53,7 @@ pub fn records_of(alloc: Global, json: &str) -> Result<Records, MetadataFault>
 /// default run, Rust version nor optional dependencies. These are left empty as by `PackageRecord::new`, and not looked
 /// at, but for the targets up to the library, whose name decides which declared dependencies fit. No links, sets, lists
 /// or cycles of a graph depend on what is left out, no platform answer but a feature's (`feature_status`), and `verify`
-/// accepts each target that JSON tells. Which packages are procedural macros, so run on the host, only build targets say.
+/// accepts each target that JSON tells.
 pub fn plain_records_of(alloc: Global, json: &str) -> Result<Records, MetadataFault>
     ensures json { OnOk result (IsSome (document json.now)) }
     ensures packages { IfOk result
