@@ -1,6 +1,6 @@
 -- Links that are added for declared pairs.
-use Rattle.std.proofs.Common.{◌≡◌, ◌≢◌, ◌∙◌, ⊎_elim, sym, ap, subst, ℕ, ◌+◌, ◌<◌, ◌≤◌, List, [], ◌∷◌, ◌++◌, length, map, take, get_or, All, Contains, arith}
-use Rattle.std.proofs.lemmas.List.{append_assoc, append-nil, map-append, map_push, take_more, take_all}
+use Rattle.std.proofs.Common.{◌≡◌, ◌≢◌, ◌∙◌, ⊎_elim, sym, ap, subst, ℕ, ◌+◌, ◌-◌, ◌<◌, ◌≤◌, List, [], ◌∷◌, ◌++◌, length, map, take, drop, get_or, All, Contains, arith}
+use Rattle.std.proofs.lemmas.List.{append_assoc, append-nil, map-append, map_push, take_more, take_all, take-append-drop, length-drop}
 use Rattle.std.proofs.lemmas.List.Elements.{All-push, Contains-append_left, Contains-append_right, Contains-get_or, Contains-push}
 use Rattle.std.proofs.lemmas.List.Quantifiers.{all_pairs_push}
 use Rattle.guppy_data.specs.declared.records.LinkRecord.{LinkRecord}
@@ -13,6 +13,13 @@ not_there f xs k past y none there =
     let one = from_map f xs y there in
     let all = subst (All (λ x. f x ≢ y)) (take_all k xs past) none in
     all one.1.0 one.0 one.1.1 (ap f one.1.2 ∙ one.2)
+
+-- what is behind the first ones is there
+pub behind_there : {X Y : Type 0} (f : X → Y) (xs : List X) (n : ℕ) (y : Y) → Contains (map f (take (length xs - n) (drop n xs))) y → Contains (map f xs) y
+behind_there f xs n y there =
+    let all : take (length xs - n) (drop n xs) ≡ drop n xs = take_all (length xs - n) (drop n xs) (let behind = length-drop n xs in omega arith) in
+    subst (λ ys. Contains (map f ys) y) (take-append-drop n xs)
+    (subst (λ ys. Contains ys y) (sym (map-append f (take n xs) (drop n xs))) (Contains-append_right (map f (take n xs)) (map f (drop n xs)) y (subst (λ ys. Contains (map f ys) y) all there)))
 
 -- no pair is declared
 pub added_none : (links : List LinkRecord) → AreAdded [] links links

@@ -1,5 +1,5 @@
 //! The links by which packages need each other to be published.
-ghost use Rattle.std.specs.Prelude.{◌≡◌, ◌↔◌, IfOk, OnOk, IsTrue, Contains, map};
+ghost use Rattle.std.specs.Prelude.{◌≡◌, ◌↔◌, ◌<◌, ◌≤◌, IfOk, IfSome, OnOk, IsTrue, is_some, Contains, length, map};
 ghost use Rattle.std.specs.List.{AllZip};
 ghost use Rattle.guppy_publish.specs.Needs.{pair_texts, ends, IsLinked, IsMadeFirm, IsNeedOf, IsNeed, IsLinkedFor, AreAdded, AreNeeds};
 
@@ -34,16 +34,30 @@ fn leads(link: &LinkRecord, from: &str, to: &str) -> bool
     link.from.repr() == from && link.to.repr() == to
 }
 
-// Whether one of the links goes from the one package to the other.
-fn is_linked(links: &[LinkRecord], from: &str, to: &str) -> bool
-    ensures { IsTrue result ↔ IsLinked links.now (from.now, to.now) }
+// The place of the first of the links that goes from the one package to the other, where one does.
+fn place_of(links: &[LinkRecord], from: &str, to: &str) -> Option<usize>
+    ensures linked { IsTrue (is_some result) ↔ IsLinked links.now (from.now, to.now) }
+    ensures within { IfSome result (λ place. place < length links.now) }
 {
-    for link in links {
-        if leads(link, from, to) {
-            return true;
+    for place in 0..links.len() {
+        if leads(&links[place], from, to) {
+            return Some(place);
         }
     }
-    false
+    None
+}
+
+// The place of a link that goes from the one package to the other, where one does: the first of those from `start` on, or
+// else the first.
+fn place_near(links: &[LinkRecord], start: usize, from: &str, to: &str) -> Option<usize>
+    requires { start ≤ length links.now }
+    ensures linked { IsTrue (is_some result) ↔ IsLinked links.now (from.now, to.now) }
+    ensures within { IfSome result (λ place. place < length links.now) }
+{
+    match place_of(&links[start..], from, to) {
+        Some(steps) => Some(start + steps),
+        None => place_of(links, from, to),
+    }
 }
 
 // Makes the link a required one, if it is dev-only and declared otherwise, too.
@@ -78,23 +92,27 @@ fn need_of(alloc: Global, from: &str, to: &str) -> Result<LinkRecord, AllocError
     Ok(link)
 }
 
-// Adds a link from the one package to the other, unless there is one.
+// Adds a link from the one package to the other, unless there is one, and returns from where on to look for the next.
 fn add_need(
     alloc: Global,
     links: &mut Vec<LinkRecord>,
+    start: usize,
     from: &str,
     to: &str,
-) -> Result<(), AllocError>
-    ensures { OnOk result (IsLinkedFor (from.now, to.now) links.old.items links.new.items) }
+) -> Result<usize, AllocError>
+    requires { start ≤ length links.old.items }
+    ensures linked { OnOk result (IsLinkedFor (from.now, to.now) links.old.items links.new.items) }
+    ensures within { IfOk result (λ place. place ≤ length links.new.items) }
 {
-    if is_linked(links.as_slice(), from, to) {
-        return Ok(());
+    if let Some(place) = place_near(links.as_slice(), start, from, to) {
+        return Ok(place);
     }
     links.push(need_of(alloc, from, to)?)?;
-    Ok(())
+    Ok(start)
 }
 
-// Adds a link for each declared pair that has none.
+// Adds a link for each declared pair that has none. Pairs and links mostly come in the same order of packages, so the
+// link of a pair is looked for from the one before it on.
 fn add_needs(
     alloc: Global,
     links: &mut Vec<LinkRecord>,
@@ -102,8 +120,9 @@ fn add_needs(
 ) -> Result<(), AllocError>
     ensures { OnOk result (AreAdded (map pair_texts declared.now) links.old.items links.new.items) }
 {
+    let mut start = 0;
     for pair in declared {
-        add_need(alloc, &mut *links, pair.0.as_str(), pair.1.as_str())?;
+        start = add_need(alloc, &mut *links, start, pair.0.as_str(), pair.1.as_str())?;
     }
     Ok(())
 }
@@ -113,7 +132,8 @@ fn add_needs(
 /// the links comes one for each pair that has none, required in its normal section and accepting each version. So the
 /// [`publish_order`](crate::publish_order) of their graph counts what is declared. All other links stay as they are.
 ///
-/// Takes memory for the links that are added. Time grows with the pairs times the links.
+/// Takes memory for the links that are added. Time grows with the pairs and links where both come in the same order of
+/// packages, as Cargo prints them, and at worst with the pairs times the links.
 pub fn add_declared(
     alloc: Global,
     links: &mut Vec<LinkRecord>,

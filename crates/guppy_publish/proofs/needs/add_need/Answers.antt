@@ -1,12 +1,12 @@
-use Rattle.std.proofs.Common.{◌≡◌, ◌∙◌, inr, sym, subst, true, false}
+use Rattle.std.proofs.Common.{◌≡◌, ◌∙◌, ap, inr, sym, subst, true, false, None}
+use Rattle.std.specs.Prelude.{is_some}
 use Rattle.guppy_publish.specs.Needs.{IsLinked}
 use Rattle.guppy_publish.proofs.needs.add_need.Goals as goal
 
-pub returns : goal.returns
-returns c = inr (record {
+pub returns-clause-linked : goal.returns-clause-linked
+returns-clause-linked c = inr (record {
   missing = λ there.
-      let is : c.is_linked.result ≡ true = c.is_linked.ensures.1 (subst (λ links. IsLinked links (c.args.from.now, c.args.to.now)) (sym c.as_slice.ensures.value) there) in
-      let no : false ≡ true = sym c.if-is_linked.false ∙ is in
+      let no : false ≡ true = c.in_default.ensures.linked.1 (subst (λ links. IsLinked links (c.args.from.now, c.args.to.now)) (sym c.as_slice.ensures.value) there) in
       absurd (cc no);
   link = c.in_ok-need_of.field-0;
   links_are = c.in_ok-push.ensures.items;
