@@ -29,7 +29,7 @@ from drawn import BUILT_FOR, OverCrates, Workspace, installed, write_alone, writ
 HERE = os.path.dirname(os.path.realpath(__file__))
 PROGRAM = os.path.join(os.path.dirname(HERE), "crates", "guppy_features_tests", "out", "guppy_features_tests")
 # So many workspaces are drawn, so many to try the judge itself, with so many questions each.
-DRAWN, OWN, ASKED = 200, 40, 6
+DRAWN, OWN, ASKED = 150, 40, 6
 # So many are drawn over crates of Debian's, where some are installed.
 OVER_CRATES = 20
 SECONDS = 120

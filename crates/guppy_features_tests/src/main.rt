@@ -1,0 +1,81 @@
+//! Tells what Cargo resolves for a build, as `guppy_features` has it, a fact a line; `.ci/features.py` judges it.
+//!
+//! The JSON of `cargo metadata --all-features` stands on standard input, and what is asked in the arguments:
+//! `-p MEMBER`, also several, `--features F,..`, `--all-features`, `--no-default-features`, `--tests`, `--resolver N`,
+//! and `--host TRIPLE --cfgs TEXT`, then `--platform TRIPLE --cfgs TEXT` for each platform that is built for, where TEXT
+//! is what `rustc --print cfg` prints, with a space for the end of a line.
+//!
+//! - `words`: what the arguments say;
+//! - `initials`: which packages are chosen by them, and what of `--features` is for which.
+#![tactic(auto)]
+
+ghost use Rattle.std.specs.Prelude.{◌<◌, length};
+
+mod initials;
+mod words;
+
+use crate::initials::initials_of;
+use crate::words::Words;
+use anyhow::bail;
+use guppy_data::PlatformSpec;
+use guppy_features::{BuildPlatform, CargoOptions, CargoSet, Fact};
+use guppy_graph::RecordGraph;
+use guppy_metadata::records_of;
+use std::env;
+use std::io::{Read, Write};
+
+fn side_name(side: BuildPlatform) -> &'static str {
+    match side {
+        BuildPlatform::Target => "target",
+        BuildPlatform::Host => "host",
+    }
+}
+
+// Tells what holds of the package at the position on the side.
+fn tell(
+    rt: &HostRuntime,
+    graph: &RecordGraph,
+    set: &CargoSet,
+    position: usize,
+    side: BuildPlatform,
+) -> anyhow::Result<()>
+    requires { position < length graph.now.packages }
+{
+    let package = graph.package_at(position);
+    let (name, version, on) = (package.name.as_str(), &package.version, side_name(side));
+    if set.contains(Fact::part(position, side)) {
+        writeln!(rt.stdout(), "part {name} {version} {on}")?;
+    }
+    for (place, feature) in package.named_features.keys().enumerate() {
+        if set.contains(Fact::feature(position, side, place)) {
+            writeln!(rt.stdout(), "feature {name} {version} {on} {feature}")?;
+        }
+    }
+    Ok(())
+}
+
+fn main(rt: HostRuntime) -> anyhow::Result<()> {
+    let mut json = String::new(rt.alloc());
+    rt.stdin().read_to_string(&mut json)?;
+    let records = records_of(rt.alloc(), json.as_str())?;
+    let graph = RecordGraph::from_records(records.packages, records.links, records.workspace)?;
+    let mut words = Words::new(rt.alloc());
+    for word in env::args(&rt)?.skip(1) {
+        words.add(word)?;
+    }
+    let options = CargoOptions {
+        initials: initials_of(&graph, &words)?,
+        tests: words.tests,
+        resolver: words.resolver,
+        target_platform: PlatformSpec::Platforms(words.targets),
+        host_platform: PlatformSpec::Platforms(words.host),
+    };
+    let Ok(set) = CargoSet::new(&graph, &options) else {
+        bail!("there is no memory, or there are too many clauses");
+    };
+    for position in 0..graph.package_count() {
+        tell(&rt, &graph, &set, position, BuildPlatform::Target)?;
+        tell(&rt, &graph, &set, position, BuildPlatform::Host)?;
+    }
+    Ok(())
+}
