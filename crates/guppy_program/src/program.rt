@@ -167,8 +167,7 @@ fn answer_source<F: Format, R: Source>(
 /// The graph is forgotten, not let go: its memory is given back when the process ends.
 ///
 /// Neither device may have failed before. Time grows with the lengths of the files and of the input, and with the
-/// packages and links times the logarithm of the packages; for `publish-order` also with what members declare of each
-/// other, times the links.
+/// packages and links times the logarithm of the packages; for `publish-order` also as [`add_declared`] says.
 pub fn run_with<F: Format, D: Files, R: Source, W: Sink>(
     alloc: Global,
     args: &[String],
