@@ -143,7 +143,7 @@ def try_tests_refused(world):
         yield f"{words}", ran[:2] == (status, "") and ran[2].splitlines()[-1].endswith(told), ran
     for word in ("--help", "-h"):
         ran = world.run(["guppy-cargo", "test", word], where=changing.root)
-        yield f"{word} is that of affected", ran[0] == 0 and ran[1].startswith("guppy-cargo affected"), ran
+        yield f"{word} is that of affected", ran[0] == 0 and ran[1].startswith("Usage: guppy-cargo [OPTION].. affected PATH.."), ran
     (world.bin / "cargo").unlink()
     ran = world.run(["guppy-cargo", "test", *since], where=changing.root)
     yield "without cargo", ran[0] == 3 and "cargo is not on the path" in ran[2], ran
