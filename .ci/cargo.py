@@ -40,8 +40,10 @@ MANY = 100
 HOST = re.search(r"host: (.*)", subprocess.run(["rustc", "-vV"], capture_output=True, text=True, check=True).stdout)[1]
 TRIPLES = [HOST, "x86_64-pc-windows-msvc", "aarch64-apple-darwin", "wasm32-unknown-unknown"]
 
-# The workspace's own files, and where cargo looks for the targets of a package at its root.
-EVERYONES = ("Cargo.toml", "Cargo.lock", "rust-toolchain", "rust-toolchain.toml")
+# The workspace's own files, those that choose a toolchain wherever they lie, and where cargo looks for the targets of a
+# package at the workspace's root.
+EVERYONES = ("Cargo.toml", "Cargo.lock")
+TOOLCHAINS = ("rust-toolchain", "rust-toolchain.toml")
 TARGETS_FOLDERS = ("src", "tests", "examples", "benches")
 
 # The commands, and what is told of words that are none of theirs.
@@ -88,6 +90,7 @@ class Graph:
         paths = {it["id"]: os.path.relpath(it["manifest_path"], root) for it in packages if it["source"] is None}
         self.local = {called[it]: path.split("/")[:-1] for it, path in paths.items()}
         self.folders = {called[it]: self.local[called[it]] for it in paths if it in members}
+        self.root, self.elsewhere = root, {called[it["id"]]: elsewhere(it) for it in packages if it["source"] is None}
         self.on = {}
         self.random = random.Random(len(text))
         self.starts = self.random.sample(self.names, min(STARTS, len(self.names)))
@@ -114,10 +117,13 @@ class Graph:
         holding = [it for it, folder in self.local.items() if holds(folder, parts)]
         longest = max((len(self.local[it]) for it in holding), default=0)
         is_of_target = path == "build.rs" or any(holds([it], parts) for it in TARGETS_FOLDERS)
-        if path in EVERYONES or holds([".cargo"], parts) or not holding or not (longest or is_of_target):
+        is_of_settings = ".cargo" in parts or not set(parts[-1:]).isdisjoint(TOOLCHAINS)
+        if path in EVERYONES or is_of_settings or not holding or not (longest or is_of_target):
             return set(self.folders)
         below = {it for it, folder in self.local.items() if holds(parts, folder)}
-        return below | {it for it in holding if len(self.local[it]) == longest}
+        place = os.path.normpath(os.path.join(self.root, path))
+        far = {it for it, folders in self.elsewhere.items() for folder in folders if meet(place, folder)}
+        return below | far | {it for it in holding if len(self.local[it]) == longest}
 
     def tested_with(self, touched):
         """The members whose tests are built from these packages."""
@@ -128,6 +134,18 @@ class Graph:
         """The lines of an answer, or what came in its place."""
         status, output, errors = run(words, self.text.encode())
         return lines_of(output) if (status, errors) == (0, "") else [f"status {status}, {output!r}, {errors!r}"]
+
+
+def meet(one, other):
+    """Whether one of the places holds the other."""
+    return f"{one}/".startswith(f"{other}/") or f"{other}/".startswith(f"{one}/")
+
+
+def elsewhere(package):
+    """The folders of the targets of the package whose sources lie outside of its own."""
+    own = os.path.dirname(package["manifest_path"])
+    folders = {os.path.dirname(os.path.normpath(it["src_path"])) for it in package["targets"]}
+    return [it for it in folders if not f"{it}/".startswith(f"{own}/")]
 
 
 def holds(folder, path):
@@ -307,7 +325,8 @@ def try_dot(graph):
 def try_affected(graph):
     files = ("src/lib.rs", "x/y/z", "Cargo.toml", "Cargo.lock", ".cargo/config.toml")
     some = ["/".join([*folder, it]) for folder in graph.local.values() if folder for it in files]
-    some += [*EVERYONES, ".cargo/config.toml", ".cargo", ".cargo.toml", "elsewhere/x", "base-mor/x"]
+    some += [*EVERYONES, *TOOLCHAINS, "base/rust-toolchain.toml", "x/rust-toolchain", "rust-toolchain/x"]
+    some += [".cargo/config.toml", ".cargo", ".cargo.toml", "elsewhere/x", "base-mor/x"]
     some += ["./Cargo.lock", "./base/x", "/base/x", "../base/x", "", "src/lib.rs", "tests", "build.rs", "src/../x"]
     some += sorted({"/".join(it[:at]) for it in graph.local.values() for at in range(1, len(it) + 1)})
     for paths in [*([it] for it in some), *(graph.random.sample(some, it % 3 + 2) for it in range(STARTS))]:
