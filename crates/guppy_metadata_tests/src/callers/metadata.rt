@@ -1,6 +1,6 @@
 ghost use Rattle.std.specs.Prelude.{List, IfOk, IsSomeAnd};
 ghost use Rattle.json.specs.Json.{document};
-ghost use Rattle.guppy_data.specs.declared.records.LinkRecord.{LinkRecord};
+ghost use Rattle.guppy.specs.DataTypes.records.LinkRecord.{LinkRecord};
 ghost use Rattle.guppy.specs.Links.{AreLinksOf};
 ghost use Rattle.guppy_metadata.specs.Links.{AreLinks};
 ghost use Rattle.guppy_metadata.specs.Package.{ArePackages};

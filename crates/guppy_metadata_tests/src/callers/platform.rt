@@ -1,6 +1,6 @@
 ghost use Rattle.std.specs.Prelude.{◌≡◌, [], ◌∷◌, IfOk};
 ghost use Rattle.std.specs.Str.Lines.{lines};
-ghost use Rattle.guppy_data.specs.Platform.{OnPlatforms, status_value, seen_status};
+ghost use Rattle.guppy.specs.Platform.{OnPlatforms, status_value, seen_status};
 ghost use Rattle.guppy_target.specs.Platform.{PlatformData, AreLines};
 ghost use Rattle.guppy_target.specs.Answer.{answer_of};
 
