@@ -1,5 +1,5 @@
 -- The records that JSON says, as a text, or why it says none.
-use Rattle.std.specs.Prelude.{◌≡◌, ◌⊎◌, ◌↔◌, ℕ, Bool, List, None, IsSomeAnd, codes}
+use Rattle.std.specs.Prelude.{◌≡◌, ◌⊎◌, ℕ, Bool, List, None, IsSomeAnd, codes}
 use Rattle.std.specs.Str.{IsUtf8}
 use Rattle.json.specs.Json.{document}
 use Rattle.guppy_data.specs.declared.records.LinkRecord.{LinkRecord}
@@ -7,8 +7,8 @@ use Rattle.guppy_data.specs.declared.records.PackageRecord.{PackageRecord}
 use Rattle.guppy_data.specs.declared.records.WorkspaceRecord.{WorkspaceRecord}
 use Rattle.guppy_metadata.specs.declared.fault.MetadataFault.{MetadataFault}
 use Rattle.guppy_metadata.specs.declared.fault.MetadataFault.TheVariants.{NotJson, NotResolved, OutOfMemory}
-use Rattle.guppy_metadata.specs.Fault.{IsNotJson, IsNotResolved, IsOutOfMemory, fault_text}
-use Rattle.guppy_metadata.specs.Records.{AreRecordsWith, IsUnresolved, SaysNoRecordsWith}
+use Rattle.guppy_metadata.specs.Fault.{IsOutOfMemory, fault_text}
+use Rattle.guppy_metadata.specs.Records.{AreRecordsWith, IsMetadataFault}
 use Rattle.guppy_wire.specs.Wire.{AreTold}
 
 -- the text is that of records that the JSON says, with details or without
@@ -23,13 +23,6 @@ pub record AreRecords (details : Bool) (json text : List ℕ) : Type 0 where
 abbrev pub IsNoJson : List ℕ → Type 0
 IsNoJson json = (¬ IsUtf8 json) ⊎ (document json ≡ None)
 
--- the fault is the one that the JSON has, unless it is want of memory: that it is none, that no dependencies are resolved,
--- or another one for which it says no records
-pub record IsMisread (details : Bool) (json : List ℕ) (fault : MetadataFault) : Type 0 where
-  pub no_json : ¬ IsOutOfMemory fault → IsNotJson fault ↔ (document json ≡ None)
-  pub unresolved : ¬ IsOutOfMemory fault → IsNotResolved fault ↔ IsUnresolved json
-  pub no_records : ¬ IsOutOfMemory fault → SaysNoRecordsWith details json
-
 -- the status that tells what kind of a fault it is
 abbrev pub kind_of : MetadataFault → ℕ
 kind_of (NotJson line column) = 4
@@ -41,4 +34,5 @@ kind_of _ = 1
 abbrev pub AreRefused : Bool → List ℕ → ℕ → List ℕ → Type 0
 AreRefused details json status text =
     ((¬ IsUtf8 json) × (status ≡ 4) × (text ≡ codes "the input is no UTF-8"))
-    ⊎ ((fault : MetadataFault) × IsMisread details json fault × (status ≡ kind_of fault) × (text ≡ fault_text fault))
+    ⊎ ((fault : MetadataFault) × (¬ IsOutOfMemory fault → IsMetadataFault details json fault) × (status ≡ kind_of fault)
+    × (text ≡ fault_text fault))

@@ -1,36 +1,22 @@
 //! The records that the JSON says which `cargo metadata` prints, as one text.
 ghost use Rattle.std.specs.Prelude.{◌≡◌, ◌≢◌, ◌<◌, ◌≤◌, ◌⊎◌, ◌↔◌, ℕ, List, length, take, string_bytes, IsSomeAnd, IsUtf8, IfOk, IfErr};
 ghost use Rattle.json.specs.Json.{document};
-ghost use Rattle.guppy_metadata.specs.Fault.{fault_text};
-ghost use Rattle.guppy_metadata.specs.Records.{AreRecordsWith, IsUnresolved, SaysNoRecordsWith};
-ghost use Rattle.guppy_c.specs.Records.{AreRecords, AreRefused, IsMisread, IsNoJson, kind_of};
+ghost use Rattle.guppy_metadata.specs.Fault.{IsOutOfMemory, fault_text};
+ghost use Rattle.guppy_metadata.specs.Records.{IsMetadataFault, IsUnresolved, SaysNoRecordsWith};
+ghost use Rattle.guppy_c.specs.Records.{AreRecords, AreRefused, IsNoJson, kind_of};
 
 use crate::answer::{Answer, put};
-use guppy_data::Records;
-use guppy_metadata::{MetadataFault, plain_records_of, records_of};
+use guppy_metadata::{MetadataFault, records_with};
 use guppy_wire::records_text;
 use simdutf8::basic::from_utf8;
 use std::alloc::Global;
 
-// The records that the JSON says, with details or without.
-fn records_in(alloc: Global, json: &str, details: bool) -> Result<Records, MetadataFault>
-    ensures said { IfOk result (λ r. IsSomeAnd (document json.now)
-        (λ d. AreRecordsWith details d r.packages.items r.links.items r.workspace)) }
-    ensures refused { IfErr result (IsMisread details json.now) }
-{
-    if details {
-        records_of(alloc, json)
-    } else {
-        plain_records_of(alloc, json)
-    }
-}
-
-// The same as one text.
+// The records that the JSON says as one text, with details or without.
 fn text_of(alloc: Global, json: &str, details: bool) -> Result<String, MetadataFault>
     ensures told { IfOk result (λ text. AreRecords details json.now (string_bytes text)) }
-    ensures refused { IfErr result (IsMisread details json.now) }
+    ensures refused { IfErr result (λ fault. ¬ IsOutOfMemory fault → IsMetadataFault details json.now fault) }
 {
-    let records = records_in(alloc, json, details)?;
+    let records = records_with(alloc, json, details)?;
     match records_text(alloc, &records) {
         Ok(text) => Ok(text),
         Err(_) => Err(MetadataFault::OutOfMemory),

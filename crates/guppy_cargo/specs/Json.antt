@@ -1,13 +1,11 @@
 -- What `guppy-cargo` reads, and what it calls packages.
-use Rattle.std.specs.Prelude.{◌≡◌, ◌↔◌, ℕ, Bool, List, None, IsSomeAnd}
+use Rattle.std.specs.Prelude.{ℕ, Bool, List, IsSomeAnd}
 use Rattle.std.specs.Str.{IsUtf8}
 use Rattle.json.specs.Json.{document}
 use Rattle.guppy_data.specs.declared.records.PackageRecord.{PackageRecord}
 use Rattle.guppy_data.specs.declared.records.LinkRecord.{LinkRecord}
 use Rattle.guppy_data.specs.declared.records.WorkspaceRecord.{WorkspaceRecord}
-use Rattle.guppy_metadata.specs.declared.fault.MetadataFault.{MetadataFault}
-use Rattle.guppy_metadata.specs.Fault.{IsNotJson, IsNotResolved}
-use Rattle.guppy_metadata.specs.Records.{AreRecordsWith, IsUnresolved, SaysNoRecordsWith}
+use Rattle.guppy_metadata.specs.Records.{AreRecordsWith, IsMetadataFault}
 use Rattle.guppy_declared.specs.Declares.{Declares}
 use Rattle.guppy_program.specs.Format.{Format}
 use Rattle.guppy_arguments.specs.declared.fault.CargoFault.{CargoFault}
@@ -27,16 +25,9 @@ SaysRecords details input packages links workspace =
 abbrev pub SaysDeclared : List ℕ → List ℕ → List ℕ → Type 0
 SaysDeclared input from to = IsUtf8 input × IsSomeAnd (document input) (λ d. Declares d from to)
 
--- that the input is no JSON is told exactly where it is none, that no dependencies are resolved exactly where it is an
--- object that says nothing of them, and any fault only where it says no such records
-pub record IsMisread (details : Bool) (input : List ℕ) (fault : MetadataFault) : Type 0 where
-  pub no_json : IsNotJson fault ↔ (document input ≡ None)
-  pub not_resolved : IsNotResolved fault ↔ IsUnresolved input
-  pub no_records : SaysNoRecordsWith details input
-
 -- the input is no UTF-8, or the JSON has the fault
 abbrev pub IsInputFault : Bool → List ℕ → CargoFault → Type 0
-IsInputFault details input (Metadata fault) = IsMisread details input fault
+IsInputFault details input (Metadata fault) = IsMetadataFault details input fault
 IsInputFault details input NoText = ¬ IsUtf8 input
 IsInputFault details input _ = ⊥
 

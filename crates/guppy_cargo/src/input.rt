@@ -1,8 +1,7 @@
 //! What `guppy-cargo` reads: the JSON that `cargo metadata` prints.
 ghost use Rattle.std.specs.Prelude.{◌≡◌, map, string_bytes, IfOk, IfErr, List};
 ghost use Rattle.guppy_program.specs.Format.{alternatives};
-ghost use Rattle.guppy_metadata.specs.Fault.{IsOutOfMemory};
-ghost use Rattle.guppy_cargo.specs.Json.{json_format, IsMisread, SaysRecords};
+ghost use Rattle.guppy_cargo.specs.Json.{json_format};
 ghost use Rattle.guppy_arguments.specs.Names.{AreNames, text};
 ghost use Rattle.guppy_data.specs.declared.records.PackageRecord.{PackageRecord as PackageData};
 
@@ -12,7 +11,7 @@ use guppy_arguments::{CargoFault, Names, asked_of};
 use guppy_command::{Asked, Files};
 use guppy_data::{PackageRecord, Records};
 use guppy_declared::declared_members;
-use guppy_metadata::{MetadataFault, plain_records_of, records_of};
+use guppy_metadata::records_with;
 use guppy_program::Format;
 use guppy_program::format::has_package;
 use simdutf8::basic::from_utf8;
@@ -32,19 +31,6 @@ fn choices_of(alloc: Global, names: &Names, ids: &[PackageId]) -> Result<String,
         texts.push(names.text_of(id))?;
     }
     texts.join(alloc, " or ")
-}
-
-// The records that the JSON says, with details or without.
-fn records_in(alloc: Global, json: &str, details: bool) -> Result<Records, MetadataFault>
-    ensures said { IfOk result (λ r. SaysRecords details json.now r.packages.items r.links.items
-        r.workspace) }
-    ensures refused { IfErr result (λ fault. ¬ IsOutOfMemory fault → IsMisread details json.now fault) }
-{
-    if details {
-        records_of(alloc, json)
-    } else {
-        plain_records_of(alloc, json)
-    }
 }
 
 impl Format for Json {
@@ -68,7 +54,7 @@ impl Format for Json {
         let Ok(text) = from_utf8(input) else {
             return Err(CargoFault::NoText);
         };
-        Ok(records_in(alloc, text, details)?)
+        Ok(records_with(alloc, text, details)?)
     }
 
     fn declared_in(alloc: Global, input: &[u8]) -> Result<Vec<(String, String)>, AllocError> {

@@ -5,3 +5,4 @@ pub mod BinarySearch
 pub mod Sources
 pub mod Statuses
 pub mod Ternaries
+pub mod Replaced

@@ -1,6 +1,7 @@
 -- Records of which little is known.
 use Rattle.std.specs.Prelude.{◌≡◌, [], None}
 use Rattle.serde_json.specs.declared.value.Value.{Null}
+use Rattle.guppy_data.specs.declared.records.LinkRecord.{LinkRecord}
 use Rattle.guppy_data.specs.declared.records.PackageRecord.{PackageRecord}
 use Rattle.guppy_data.specs.declared.records.PackagePublishRecord.TheVariants.{Unrestricted}
 use Rattle.guppy_data.specs.declared.records.DependencyReqImpl.{DependencyReqImpl}
@@ -39,3 +40,13 @@ pub record IsAskedFor (status : Status) (r : DepRequiredOrOptional) : Type 0 whe
 pub record IsRequired (status : Status) (r : DependencyReqImpl) : Type 0 where
   pub required : IsAskedFor status r.required
   pub optional : IsAskedFor Never r.optional
+
+-- the links differ in their sections at most
+pub record AreSameButSections (link other : LinkRecord) : Type 0 where
+  pub from : other.from ≡ link.from
+  pub to : other.to ≡ link.to
+  pub dep_name : other.dep_name ≡ link.dep_name
+  pub resolved_name : other.resolved_name ≡ link.resolved_name
+  pub version_req : other.version_req ≡ link.version_req
+  pub registry : other.registry ≡ link.registry
+  pub path : other.path ≡ link.path

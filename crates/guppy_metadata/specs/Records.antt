@@ -1,9 +1,11 @@
 -- What the JSON says of all records.
-use Rattle.std.specs.Prelude.{◌≡◌, ℕ, Bool, true, List, None, Some, IsSomeAnd, codes}
+use Rattle.std.specs.Prelude.{◌≡◌, ◌↔◌, ℕ, Bool, true, List, None, Some, IsSomeAnd, codes}
 use Rattle.json.specs.Json.{Json, document}
 use Rattle.guppy_data.specs.declared.records.LinkRecord.{LinkRecord}
 use Rattle.guppy_data.specs.declared.records.PackageRecord.{PackageRecord}
 use Rattle.guppy_data.specs.declared.records.WorkspaceRecord.{WorkspaceRecord}
+use Rattle.guppy_metadata.specs.declared.fault.MetadataFault.{MetadataFault}
+use Rattle.guppy_metadata.specs.Fault.{IsNotJson, IsNotResolved}
 use Rattle.guppy_metadata.specs.Links.{AreLinksWith}
 use Rattle.guppy_metadata.specs.Members.{IsObject, present}
 use Rattle.guppy_metadata.specs.Package.{ArePackagesWith}
@@ -31,3 +33,10 @@ SaysNoRecords text = SaysNoRecordsWith true text
 -- the text is an object that tells nothing of what is resolved
 abbrev pub IsUnresolved : List ℕ → Type 0
 IsUnresolved text = IsSomeAnd (document text) (λ d. IsObject d × (present (codes "resolve") d ≡ None))
+
+-- that the text is no JSON is told exactly where it is none, that no dependencies are resolved exactly where it is an
+-- object that says nothing of them, and any fault only where it says no such records
+pub record IsMetadataFault (details : Bool) (text : List ℕ) (fault : MetadataFault) : Type 0 where
+  pub no_json : IsNotJson fault ↔ (document text ≡ None)
+  pub not_resolved : IsNotResolved fault ↔ IsUnresolved text
+  pub no_records : SaysNoRecordsWith details text

@@ -51,4 +51,4 @@ mod workspace;
 
 pub use fault::{Kind, MetadataFault, TextFault};
 pub use guppy_data::Records;
-pub use records::{plain_records_of, records_of};
+pub use records::{plain_records_of, records_of, records_with};

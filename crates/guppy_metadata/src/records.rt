@@ -5,7 +5,7 @@ ghost use Rattle.guppy_metadata.specs.Fault.{IsNotJson, IsNotResolved, IsOutOfMe
 ghost use Rattle.guppy_metadata.specs.Links.{AreLinks, AreLinksWith};
 ghost use Rattle.guppy_metadata.specs.Members.{present};
 ghost use Rattle.guppy_metadata.specs.Package.{ArePackages, ArePackagesWith};
-ghost use Rattle.guppy_metadata.specs.Records.{SaysNoRecords, SaysNoRecordsWith, IsUnresolved};
+ghost use Rattle.guppy_metadata.specs.Records.{AreRecordsWith, IsMetadataFault, SaysNoRecords, SaysNoRecordsWith, IsUnresolved};
 ghost use Rattle.guppy_metadata.specs.Workspace.{IsWorkspace};
 
 use crate::fault::MetadataFault;
@@ -72,4 +72,13 @@ pub fn plain_records_of(alloc: Global, json: &str) -> Result<Records, MetadataFa
     ensures refused { IfErr result (λ fault. ¬ IsOutOfMemory fault → SaysNoRecordsWith false json.now) }
 {
     records_from(alloc, json, false)
+}
+
+/// The records with details or without: those of [`records_of`] or of [`plain_records_of`], with their faults.
+pub fn records_with(alloc: Global, json: &str, details: bool) -> Result<Records, MetadataFault>
+    ensures said { IfOk result (λ r. IsSomeAnd (document json.now)
+        (λ d. AreRecordsWith details d r.packages.items r.links.items r.workspace)) }
+    ensures refused { IfErr result (λ fault. ¬ IsOutOfMemory fault → IsMetadataFault details json.now fault) }
+{
+    records_from(alloc, json, details)
 }

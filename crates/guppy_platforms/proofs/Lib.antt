@@ -1,3 +1,2 @@
-pub mod Replaced
 pub mod Numbers
 pub mod HostFacts

@@ -5,7 +5,7 @@ use Rattle.guppy_data.specs.declared.records.DependencyReqImpl.{DependencyReqImp
 use Rattle.guppy_data.specs.declared.records.LinkRecord.{LinkRecord}
 use Rattle.guppy_data.specs.declared.records.PackageRecord.{PackageRecord}
 use Rattle.guppy_data.specs.Platform.{Question, OnAny, Never}
-use Rattle.guppy_data.specs.Records.{IsRequired}
+use Rattle.guppy_data.specs.Records.{AreSameButSections, IsRequired}
 use Rattle.guppy_target.specs.Platform.{PlatformData}
 use Rattle.guppy_platforms.specs.declared.counting.Counting.{Counting}
 use Rattle.guppy_platforms.specs.Counting.{counting_of, has_section}
@@ -18,13 +18,7 @@ IsLeftOf false section left = IsRequired Never left
 
 -- the same link, with what is left of each section
 pub record IsLinkLeft (counting : Counting) (link left : LinkRecord) : Type 0 where
-  pub from : left.from ≡ link.from
-  pub to : left.to ≡ link.to
-  pub dep_name : left.dep_name ≡ link.dep_name
-  pub resolved_name : left.resolved_name ≡ link.resolved_name
-  pub version_req : left.version_req ≡ link.version_req
-  pub registry : left.registry ≡ link.registry
-  pub path : left.path ≡ link.path
+  pub same : AreSameButSections link left
   pub normal : IsLeftOf counting.normal link.normal left.normal
   pub build : IsLeftOf counting.build link.build left.build
   pub dev : IsLeftOf counting.dev link.dev left.dev

@@ -33,7 +33,7 @@ required_firm : (r : LinkRecord) → IsRequired Always r.normal → is_dev_only 
 required_firm r is = ap (λ s. (is_never s && is_never (recorded_status r.normal.optional.build_if)) && is_absent r.build) is.required.build_if
 
 firm_ends : (link firm : LinkRecord) → IsMadeFirm link firm → ends firm ≡ ends link
-firm_ends link firm is = λ i. (is.from i, is.to i)
+firm_ends link firm is = λ i. (is.same.from i, is.same.to i)
 
 module _ (declared : List Pair) (links needs : List LinkRecord) (are : AreNeeds declared links needs) (pair : Pair) where
   -- what a link was before

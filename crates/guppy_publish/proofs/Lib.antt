@@ -1,3 +1,2 @@
-pub mod Replaced
 pub mod Adding
 pub mod FirmLinks

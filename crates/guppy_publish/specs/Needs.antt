@@ -4,7 +4,7 @@ use Rattle.std.specs.declared.alloc.Global.{Global}
 use Rattle.std.specs.List.{AllZip}
 use Rattle.guppy_data.specs.declared.records.LinkRecord.{LinkRecord}
 use Rattle.guppy_data.specs.Platform.{Always, Never}
-use Rattle.guppy_data.specs.Records.{IsRequired}
+use Rattle.guppy_data.specs.Records.{AreSameButSections, IsRequired}
 use Rattle.guppy_graph.specs.DevOnly.{is_dev_only}
 
 -- the IDs of two packages, of which the one declares the other
@@ -28,13 +28,7 @@ IsFirmlyLinked links pair = (r : LinkRecord) × Contains links r × (ends r ≡ 
 
 -- the same link, but required in its normal section on all platforms
 pub record IsMadeFirm (link firm : LinkRecord) : Type 0 where
-  pub from : firm.from ≡ link.from
-  pub to : firm.to ≡ link.to
-  pub dep_name : firm.dep_name ≡ link.dep_name
-  pub resolved_name : firm.resolved_name ≡ link.resolved_name
-  pub version_req : firm.version_req ≡ link.version_req
-  pub registry : firm.registry ≡ link.registry
-  pub path : firm.path ≡ link.path
+  pub same : AreSameButSections link firm
   pub normal : IsRequired Always firm.normal
   pub build : firm.build ≡ link.build
   pub dev : firm.dev ≡ link.dev

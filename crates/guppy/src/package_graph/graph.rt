@@ -105,6 +105,13 @@ impl PackageGraph {
         self.records.alloc()
     }
 
+    /// The graph by its records, for crates that stand on these.
+    pub fn records(&self) -> &RecordGraph
+        ensures { result.now ≡ self.now }
+    {
+        &self.records
+    }
+
     /// The ID of each package, once. Their order is not promised.
     pub fn package_ids(&self) -> PackageIds<'_>
         ensures { IsPermutation (ids_of self.now.packages) (ids_left result) }

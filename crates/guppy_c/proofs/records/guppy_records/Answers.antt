@@ -4,8 +4,8 @@ use Rattle.std.specs.Str.{IsUtf8}
 use Rattle.guppy_metadata.specs.declared.fault.MetadataFault.{MetadataFault}
 use Rattle.guppy_metadata.specs.declared.fault.MetadataFault.TheVariants.{NotJson, NotResolved, Missing, WrongKind, BadText, OutOfMemory}
 use Rattle.guppy_metadata.specs.Fault.{IsNotJson, IsNotResolved, IsOutOfMemory, fault_text}
-use Rattle.guppy_metadata.specs.Records.{IsUnresolved}
-use Rattle.guppy_c.specs.Records.{IsMisread, IsNoJson, kind_of}
+use Rattle.guppy_metadata.specs.Records.{IsMetadataFault, IsUnresolved}
+use Rattle.guppy_c.specs.Records.{IsNoJson, kind_of}
 use Rattle.guppy_c.proofs.records.guppy_records.Goals as goal
 
 -- a fault of another status is no want of memory
@@ -34,20 +34,20 @@ tells_unresolved (BadText place why) = (λ is. omega (arith, is), λ told. absur
 tells_unresolved OutOfMemory = (λ is. omega (arith, is), λ told. absurd told)
 
 -- of text that is refused with this status
-module _ (details : Bool) (json : List ℕ) (fault : MetadataFault) (status : ℕ) (text : IsUtf8 json) (misread : IsMisread details json fault) (kind : status ≡ kind_of fault) (other : status ≢ 3) where
+module _ (details : Bool) (json : List ℕ) (fault : MetadataFault) (status : ℕ) (text : IsUtf8 json) (misread : ¬ IsOutOfMemory fault → IsMetadataFault details json fault) (kind : status ≡ kind_of fault) (other : status ≢ 3) where
   no_want : ¬ IsOutOfMemory fault
   no_want = not_memory fault (λ is. other (kind ∙ is))
 
   exactly_no_json : (status ≡ 4) ↔ IsNoJson json
   exactly_no_json = (
-    λ is. inr ((misread.no_json no_want).0 ((tells_no_json fault).0 (sym kind ∙ is))),
-    λ none. kind ∙ (tells_no_json fault).1 ((misread.no_json no_want).1 (⊎_elim (λ no_text. absurd (no_text text)) (λ none. none) none)),
+    λ is. inr ((misread no_want).no_json.0 ((tells_no_json fault).0 (sym kind ∙ is))),
+    λ none. kind ∙ (tells_no_json fault).1 ((misread no_want).no_json.1 (⊎_elim (λ no_text. absurd (no_text text)) (λ none. none) none)),
   )
 
   exactly_unresolved : (status ≡ 5) ↔ (IsUtf8 json × IsUnresolved json)
   exactly_unresolved = (
-    λ is. (text, (misread.unresolved no_want).0 ((tells_unresolved fault).0 (sym kind ∙ is))),
-    λ has. kind ∙ (tells_unresolved fault).1 ((misread.unresolved no_want).1 has.1),
+    λ is. (text, (misread no_want).not_resolved.0 ((tells_unresolved fault).0 (sym kind ∙ is))),
+    λ has. kind ∙ (tells_unresolved fault).1 ((misread no_want).not_resolved.1 has.1),
   )
 
 pub returns-in_default-clause-no_room : goal.returns-in_default-clause-no_room
@@ -60,19 +60,19 @@ returns-in_default-clause-no_room c is = (
 
 pub returns-in-Err-clause-no_json : goal.returns-in-Err-clause-no_json
 returns-in-Err-clause-no_json c answered no_room no_memory =
-    let told : IsMisread c.args.details c.args.json.now c.in-Err.fault = subst (λ json. IsMisread c.args.details json c.in-Err.fault) c.in-Ok.ensures.0 c.in-Err.ensures.refused in
+    let told : ¬ IsOutOfMemory c.in-Err.fault → IsMetadataFault c.args.details c.args.json.now c.in-Err.fault = subst (λ json. ¬ IsOutOfMemory c.in-Err.fault → IsMetadataFault c.args.details json c.in-Err.fault) c.in-Ok.ensures.0 c.in-Err.ensures.refused in
     exactly_no_json c.args.details c.args.json.now c.in-Err.fault c.refuse.result.status c.in-Ok.ensures.1 told (c.refuse.ensures.kind no_room no_memory) no_memory
 
 pub returns-in-Err-clause-unresolved : goal.returns-in-Err-clause-unresolved
 returns-in-Err-clause-unresolved c answered no_room no_memory =
-    let told : IsMisread c.args.details c.args.json.now c.in-Err.fault = subst (λ json. IsMisread c.args.details json c.in-Err.fault) c.in-Ok.ensures.0 c.in-Err.ensures.refused in
+    let told : ¬ IsOutOfMemory c.in-Err.fault → IsMetadataFault c.args.details c.args.json.now c.in-Err.fault = subst (λ json. ¬ IsOutOfMemory c.in-Err.fault → IsMetadataFault c.args.details json c.in-Err.fault) c.in-Ok.ensures.0 c.in-Err.ensures.refused in
     exactly_unresolved c.args.details c.args.json.now c.in-Err.fault c.refuse.result.status c.in-Ok.ensures.1 told (c.refuse.ensures.kind no_room no_memory) no_memory
 
 pub returns-in-Err-clause-no_records : goal.returns-in-Err-clause-no_records
 returns-in-Err-clause-no_records c is =
     let kind : c.refuse.result.status ≡ kind_of c.in-Err.fault = c.refuse.ensures.kind (omega (arith, is)) (omega (arith, is)) in
-    let told : IsMisread c.args.details c.args.json.now c.in-Err.fault = subst (λ json. IsMisread c.args.details json c.in-Err.fault) c.in-Ok.ensures.0 c.in-Err.ensures.refused in
-    told.no_records (not_memory c.in-Err.fault (omega (arith, is, kind)))
+    let told : ¬ IsOutOfMemory c.in-Err.fault → IsMetadataFault c.args.details c.args.json.now c.in-Err.fault = subst (λ json. ¬ IsOutOfMemory c.in-Err.fault → IsMetadataFault c.args.details json c.in-Err.fault) c.in-Ok.ensures.0 c.in-Err.ensures.refused in
+    (told (not_memory c.in-Err.fault (omega (arith, is, kind)))).no_records
 
 pub returns-in-Err-clause-no_room : goal.returns-in-Err-clause-no_room
 returns-in-Err-clause-no_room c is = (
@@ -83,7 +83,7 @@ returns-in-Err-clause-no_room c is = (
     kind_of c.in-Err.fault,
     inr (
       c.in-Err.fault,
-      subst (λ json. IsMisread c.args.details json c.in-Err.fault) c.in-Ok.ensures.0 c.in-Err.ensures.refused,
+      subst (λ json. ¬ IsOutOfMemory c.in-Err.fault → IsMetadataFault c.args.details json c.in-Err.fault) c.in-Ok.ensures.0 c.in-Err.ensures.refused,
       refl,
       refl,
     ),

@@ -4,7 +4,7 @@ use Rattle.guppy_platforms.specs.Counting.{counting_of}
 use Rattle.guppy_platforms.specs.Host.{IsMark}
 use Rattle.guppy_platforms.specs.Kept.{IsLeftThere, IsLinkLeft}
 use Rattle.guppy_platforms.proofs.Numbers.{zip_at}
-use Rattle.guppy_platforms.proofs.Replaced.{one_more, rest_same, item_same}
+use Rattle.guppy_data.proofs.Replaced.{one_more, rest_same, item_same}
 use Rattle.guppy_platforms.proofs.kept.leave_all.Goals as goal
 
 pub loop-link-preserved : goal.loop-link-preserved

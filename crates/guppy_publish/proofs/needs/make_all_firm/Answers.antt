@@ -1,7 +1,7 @@
 use Rattle.std.proofs.Common.{sym, subst, map, arith}
 use Rattle.guppy_data.specs.declared.records.LinkRecord.{LinkRecord}
 use Rattle.guppy_publish.specs.Needs.{pair_texts, IsNeedOf}
-use Rattle.guppy_publish.proofs.Replaced.{one_more, rest_same}
+use Rattle.guppy_data.proofs.Replaced.{one_more, rest_same}
 use Rattle.guppy_publish.proofs.needs.make_all_firm.Goals as goal
 
 pub loop-link-preserved : goal.loop-link-preserved
