@@ -5,11 +5,13 @@ use Rattle.std.specs.List.{AllZip}
 use Rattle.guppy_data.specs.declared.records.PackageRecord.{PackageRecord}
 use Rattle.guppy_data.specs.declared.texts.error.Error.{Error}
 use Rattle.guppy_data.specs.declared.texts.error.Error.TheVariants.{PackageGraphConstructError, UnknownPackageId, UnknownFeatureId, UnknownWorkspacePath, UnknownWorkspaceName, PackageGraphInternalError, FeatureGraphInternalError, OutOfMemory}
-use Rattle.guppy_command.specs.Cause.{Cause, library, bad_arguments, ambiguous, no_walk, bad_input, input_failed, output_failed}
+use Rattle.guppy_command.specs.Cause.{Cause, library, bad_arguments, ambiguous, no_walk, unpublishable, bad_input, input_failed, output_failed}
 use Rattle.guppy_command.specs.Command.{Command}
 use Rattle.guppy_program.specs.Format.{Format, IsUnclear}
 use Rattle.guppy.specs.Graph.{GraphData}
-use Rattle.guppy_program.specs.Answer.{Means, IsClear, IsWordFault, IsCommandFault, words_of}
+use Rattle.guppy.specs.Verified.{IsVerifyFault as IsGraphFault}
+use Rattle.guppy_data.specs.declared.texts.fault.VerifyFault.{VerifyFault}
+use Rattle.guppy_program.specs.Answer.{Means, IsClear, IsWordFault, IsVerifyFault, IsVerifyTold, IsCommandFault, words_of}
 
 clear_at : (meant : List ℕ → List (List ℕ)) (words ids : List (List ℕ)) → AllZip (Means meant) words ids → (k : ℕ) (d : List ℕ) → k < length words → IsClear meant (get_or words k d)
 clear_at meant [] ids means k d within = absurd (omega arith)
@@ -63,26 +65,47 @@ module _ {Fault : Type 0} (format : Format Fault) where
       is.2,
     )
     unclear_word fault (no_walk from to) is = absurd is
+    unclear_word fault (unpublishable member needed) is = absurd is
     unclear_word fault bad_input is = absurd is
     unclear_word fault input_failed is = absurd is
     unclear_word fault output_failed is = absurd is
 
   -- a word that is at fault is one of the command's
-  pub command_word : (command : Command) (g : GraphData) (fault : Fault) (cause : Cause) → IsWordFault format g.packages (words_of command) fault cause → IsCommandFault format command g fault cause
-  command_word command g fault (library (UnknownPackageId id)) is = is
-  command_word command g fault (library (PackageGraphConstructError f)) is = is
-  command_word command g fault (library (UnknownFeatureId id feature)) is = is
-  command_word command g fault (library (UnknownWorkspacePath path)) is = is
-  command_word command g fault (library (UnknownWorkspaceName name)) is = is
-  command_word command g fault (library (PackageGraphInternalError f)) is = absurd is
-  command_word command g fault (library (FeatureGraphInternalError text)) is = is
-  command_word command g fault (library OutOfMemory) is = is
-  command_word command g fault bad_arguments is = is
-  command_word command g fault (ambiguous given choices) is = is
-  command_word command g fault (no_walk from to) is = absurd is
-  command_word command g fault bad_input is = is
-  command_word command g fault input_failed is = is
-  command_word command g fault output_failed is = is
+  pub command_word : (call : List ℕ → List ℕ) (command : Command) (g : GraphData) (fault : Fault) (cause : Cause) → IsWordFault format g.packages (words_of command) fault cause → IsCommandFault format call command g fault cause
+  command_word call command g fault (library (UnknownPackageId id)) is = is
+  command_word call command g fault (library (PackageGraphConstructError f)) is = is
+  command_word call command g fault (library (UnknownFeatureId id feature)) is = is
+  command_word call command g fault (library (UnknownWorkspacePath path)) is = is
+  command_word call command g fault (library (UnknownWorkspaceName name)) is = is
+  command_word call command g fault (library (PackageGraphInternalError f)) is = absurd is
+  command_word call command g fault (library (FeatureGraphInternalError text)) is = is
+  command_word call command g fault (library OutOfMemory) is = is
+  command_word call command g fault bad_arguments is = is
+  command_word call command g fault (ambiguous given choices) is = is
+  command_word call command g fault (no_walk from to) is = absurd is
+  command_word call command g fault (unpublishable member needed) is = absurd is
+  command_word call command g fault bad_input is = is
+  command_word call command g fault input_failed is = is
+  command_word call command g fault output_failed is = is
+
+  -- what `verify` refuses is told for the commands that ask for it
+  pub told_of : (call : List ℕ → List ℕ) (command : Command) (g : GraphData) → ((found : VerifyFault) → IsGraphFault g found → IsVerifyFault command g found)
+      → (fault : Fault) (cause : Cause) → IsVerifyTold format call g fault cause → IsCommandFault format call command g fault cause
+  told_of call command g asks fault (library (UnknownPackageId id)) is = absurd is
+  told_of call command g asks fault (library (PackageGraphConstructError f)) is = absurd is
+  told_of call command g asks fault (library (UnknownFeatureId id feature)) is = absurd is
+  told_of call command g asks fault (library (UnknownWorkspacePath path)) is = absurd is
+  told_of call command g asks fault (library (UnknownWorkspaceName name)) is = absurd is
+  told_of call command g asks fault (library (PackageGraphInternalError f)) is = (asks f is.0, is.1)
+  told_of call command g asks fault (library (FeatureGraphInternalError text)) is = absurd is
+  told_of call command g asks fault (library OutOfMemory) is = tt
+  told_of call command g asks fault bad_arguments is = absurd is
+  told_of call command g asks fault (ambiguous given choices) is = absurd is
+  told_of call command g asks fault (no_walk from to) is = absurd is
+  told_of call command g asks fault (unpublishable member needed) is = absurd is
+  told_of call command g asks fault bad_input is = absurd is
+  told_of call command g asks fault input_failed is = absurd is
+  told_of call command g asks fault output_failed is = absurd is
 
 pub passed_ok : {T E F : Type 0} (given : Result T E) (result : Result T F) (P : T → Type 0) → IfOk given P → IfOk result (λ x. given ≡ Ok x) → IfOk result P
 passed_ok given (Ok x) P is passed = subst (λ r. IfOk r P) passed is
