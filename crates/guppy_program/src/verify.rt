@@ -27,13 +27,14 @@ fn round_of<F: Format>(
         ≡ round_text (map (called options.now (F.format.text packages)) ids.now)) }
 {
     let mut round = String::new(alloc);
+    let Some(first) = ids.first() else {
+        return Ok(round);
+    };
     for id in ids {
         round.push_str(text_of::<F>(options, names, id))?;
         round.push_str(" -> ")?;
     }
-    if let Some(first) = ids.first() {
-        round.push_str(text_of::<F>(options, names, first))?;
-    }
+    round.push_str(text_of::<F>(options, names, first))?;
     Ok(round)
 }
 
