@@ -1,6 +1,7 @@
 -- Why a command is refused.
-use Rattle.std.proofs.Common.{◌≡◌, ◌∙◌, sym, ap, subst, ℕ, zero, suc, ◌<◌, List, [], ◌∷◌, ◌++◌, length, get_or, arith, Ok, Err}
-use Rattle.std.specs.Prelude.{Result, IfOk, IfErr, IsOkUnless, All}
+use Rattle.std.proofs.Common.{◌≡◌, ◌∙◌, ⊎_elim, refl, sym, ap, subst, ℕ, zero, suc, ◌<◌, List, [], ◌∷◌, ◌++◌, length, get_or, arith, Ok, Err}
+use Rattle.std.specs.Prelude.{Result, IfOk, IfErr, IsOkUnless, All, Vec}
+use Rattle.std.specs.declared.alloc.Global.{Global}
 use Rattle.std.specs.List.{AllZip}
 use Rattle.guppy_data.specs.declared.records.PackageRecord.{PackageRecord}
 use Rattle.guppy_data.specs.declared.texts.error.Error.{Error}
@@ -9,9 +10,10 @@ use Rattle.guppy_command.specs.Cause.{Cause, library, bad_arguments, ambiguous, 
 use Rattle.guppy_command.specs.Command.{Command}
 use Rattle.guppy_program.specs.Format.{Format, IsUnclear}
 use Rattle.guppy.specs.Graph.{GraphData}
-use Rattle.guppy.specs.Verified.{IsVerifyFault as IsGraphFault}
+use Rattle.guppy.specs.Verified.{TellsVerifyFault, IsVerifyFault as IsGraphFault}
 use Rattle.guppy_data.specs.declared.texts.fault.VerifyFault.{VerifyFault}
-use Rattle.guppy_program.specs.Answer.{Means, IsClear, IsWordFault, IsVerifyFault, IsVerifyTold, IsCommandFault, words_of}
+use Rattle.guppy_data.specs.declared.texts.fault.VerifyFault.TheVariants.{TargetKind, Version, NoSection, Cycle}
+use Rattle.guppy_program.specs.Answer.{Means, IsClear, IsWordFault, IsVerifyFault, IsVerifyTold, IsToldAs, TellsCycle, IsCommandFault, words_of}
 
 clear_at : (meant : List ℕ → List (List ℕ)) (words ids : List (List ℕ)) → AllZip (Means meant) words ids → (k : ℕ) (d : List ℕ) → k < length words → IsClear meant (get_or words k d)
 clear_at meant [] ids means k d within = absurd (omega arith)
@@ -120,3 +122,33 @@ told_memory given cause P only (error, is, told) memory =
 pub passed_memory : {T F : Type 0} (given : Result T Error) (result : Result T F) (cause : F → Cause) (P : F → Cause → Type 0) → IsOkUnless given OutOfMemory → IfErr result (λ fault. (error : Error) × (given ≡ Err error) × (cause fault ≡ library error)) → ((fault : F) → P fault (library OutOfMemory)) → IfErr result (λ fault. P fault (cause fault))
 passed_memory given (Ok x) cause P only passed memory = tt
 passed_memory given (Err fault) cause P only passed memory = told_memory given (cause fault) (P fault) only passed (memory fault)
+
+module _ {Fault : Type 0} (format : Format Fault) (call : List ℕ → List ℕ) where
+  -- what isn't a cycle is told as it is
+  pub tells_other : (fault : Fault) (found : VerifyFault) → ((ids : Vec (List ℕ) Global) → found ≡ Cycle ids → ⊥) → TellsCycle format call fault found
+  tells_other fault (TargetKind package target) other = tt
+  tells_other fault (Version link) other = tt
+  tells_other fault (NoSection link) other = tt
+  tells_other fault (Cycle ids) other = absurd (other ids refl)
+
+  -- what `verify` refuses, as it is told
+  pub verify_told : (g : GraphData) (fault : Fault) (found : VerifyFault) (cause : Cause) → IsGraphFault g found → IsToldAs format call found fault cause → IsVerifyTold format call g fault cause
+  verify_told g fault found cause is told = ⊎_elim
+      (λ (as : (cause ≡ library (PackageGraphInternalError found)) × TellsCycle format call fault found). subst (IsVerifyTold format call g fault) (sym as.0) (is, as.1))
+      (λ (memory : cause ≡ library OutOfMemory). subst (IsVerifyTold format call g fault) (sym memory) tt) told
+
+  only_memory : (g : GraphData) (fault : Fault) (error : Error) → TellsVerifyFault (IsGraphFault g) error → ((found : VerifyFault) → error ≡ PackageGraphInternalError found → ⊥)
+      → IsVerifyTold format call g fault (library error)
+  only_memory g fault (PackageGraphConstructError f) is other = absurd is
+  only_memory g fault (UnknownPackageId id) is other = absurd is
+  only_memory g fault (UnknownFeatureId id feature) is other = absurd is
+  only_memory g fault (UnknownWorkspacePath path) is other = absurd is
+  only_memory g fault (UnknownWorkspaceName name) is other = absurd is
+  only_memory g fault (PackageGraphInternalError f) is other = absurd (other f refl)
+  only_memory g fault (FeatureGraphInternalError text) is other = absurd is
+  only_memory g fault OutOfMemory is other = tt
+
+  -- of the other errors it tells want of memory alone
+  pub other_told : (g : GraphData) (fault : Fault) (error : Error) (cause : Cause) → TellsVerifyFault (IsGraphFault g) error
+      → ((found : VerifyFault) → error ≡ PackageGraphInternalError found → ⊥) → cause ≡ library error → IsVerifyTold format call g fault cause
+  other_told g fault error cause is other told = subst (IsVerifyTold format call g fault) (sym told) (only_memory g fault error is other)
