@@ -1,8 +1,11 @@
 -- Links that lead to members that can't be published.
-use Rattle.std.proofs.Common.{◌≡◌, ◌∙◌, refl, sym, ap, subst, ℕ, Bool, true, false, List, [], ◌∷◌, Bor, length, None, Some}
+use Rattle.std.proofs.Common.{◌≡◌, ◌∙◌, refl, sym, ap, subst, ℕ, ◌+◌, ◌<◌, Bool, true, false, List, [], ◌∷◌, length, map, take, get_or, All, None, Some}
 use Rattle.std.specs.Prelude.{◌↔◌, ◌&&◌, not, Option, IsSome, IsTrue, IsSomeAnd, is_some, slice_get}
+use Rattle.std.proofs.lemmas.List.{length-map}
+use Rattle.std.proofs.lemmas.List.Elements.{All-more}
+use Rattle.std.proofs.lemmas.Option.{slice_get-map, slice_get_read, slice_get-get_or}
 use Rattle.std.specs.List.{find}
-use Rattle.std.specs.Option.{option_map_or}
+use Rattle.std.specs.Option.{option_map, option_map_or}
 use Rattle.guppy_data.specs.PackagePublish.{Publish, Everywhere, OnlyTo, recorded_publish}
 use Rattle.guppy_data.specs.declared.records.LinkRecord.{LinkRecord}
 use Rattle.guppy_data.specs.declared.records.PackageRecord.{PackageRecord}
@@ -35,11 +38,11 @@ held (Some r) inside never seen member of exact =
 
 -- a package that is no member isn't one
 pub not_held : (o : Option PackageRecord) (inside : Bool) → IsSomeAnd o (λ r. IsTrue inside ↔ IsSome (member_path r)) → inside ≡ false
-    → IsSomeAnd o (λ r. false ≡ is_held_back r)
-not_held None inside member no = absurd member
-not_held (Some r) inside member no =
+    → IsSomeAnd o (λ r. inside ≡ is_held_back r)
+not_held None inside member isnt = absurd member
+not_held (Some r) inside member isnt =
     let is_in : inside ≡ is_some (member_path r) = same_truth inside (is_some (member_path r)) member.0 member.1 in
-    ap (λ b. b && not (is_somewhere (recorded_publish r.publish))) (sym no ∙ is_in)
+    isnt ∙ ap (λ b. b && not (is_somewhere (recorded_publish r.publish))) (sym isnt ∙ is_in)
 
 held_at : (o : Option PackageRecord) (held : Bool) → IsSomeAnd o (λ r. held ≡ is_held_back r) → held ≡ option_map_or is_held_back o false
 held_at None held is = absurd is
@@ -54,11 +57,11 @@ hindering packages (Some l) dev held to is leads stays =
     ∙ ap (λ b. not (is_dev_only l.edge) && b) (held_at (slice_get packages to) held stays ∙ ap (λ p. option_map_or is_held_back (slice_get packages p) false) leads)
 
 -- a dev-only link is none
-pub not_hindering : (packages : List PackageRecord) (o : Option (Link LinkRecord)) (dev : Bool) → IsSomeAnd o (λ l. dev ≡ is_dev_only l.edge) → not dev ≡ false
-    → false ≡ option_map_or (is_hindrance packages) o false
-not_hindering packages None dev is no = refl
-not_hindering packages (Some l) dev is no =
-    ap (λ b. b && option_map_or is_held_back (slice_get packages l.to) false) (sym no ∙ ap not is)
+pub not_hindering : (packages : List PackageRecord) (o : Option (Link LinkRecord)) (dev : Bool) → IsSomeAnd o (λ l. dev ≡ is_dev_only l.edge) → dev ≡ true
+    → not dev ≡ option_map_or (is_hindrance packages) o false
+not_hindering packages None dev is only = absurd is
+not_hindering packages (Some l) dev is only =
+    ap not only ∙ ap (λ b. not b && option_map_or is_held_back (slice_get packages l.to) false) (sym only ∙ is)
 
 module _ (test : ℕ → Bool) where
   -- the first that passes
@@ -83,3 +86,16 @@ pub leads_to : (packages : List PackageRecord) (o : Option (Link LinkRecord)) (t
     → IsSomeAnd (slice_get packages to) (λ r. id ≡ r.id) → IsSomeAnd o (λ l. HasId packages id l.to)
 leads_to packages None to id leads of = absurd leads
 leads_to packages (Some l) to id leads of = subst (HasId packages id) leads (has_turned (slice_get packages to) id of)
+
+module _ {X Y : Type 0} (view : X → Y) (items : List X) (i : ℕ) (x : X) (within : i < length items) (is : x ≡ get_or items i x) where
+  -- what is viewed of the item at the place
+  pub seen_at : slice_get (map view items) i ≡ Some (view x)
+  seen_at = slice_get-map view items i ∙ ap (option_map view) (slice_get_read items (length items) i x refl within is)
+
+  -- P holds of what is viewed of the items before it, and of this
+  pub one_more : (P : Y → Type 0) → All P (take i (map view items)) → P (view x) → All P (take (i + 1) (map view items))
+  one_more P so_far here =
+      let inside : i < length (map view items) = subst (λ n. i < n) (sym (length-map items view)) within in
+      let at : Some (get_or (map view items) i (view x)) ≡ Some (view x) = sym (slice_get-get_or (map view items) i (view x) inside) ∙ seen_at in
+      let same : get_or (map view items) i (view x) ≡ view x = cc in
+      All-more P (map view items) i (view x) inside so_far (subst P (sym same) here)

@@ -126,7 +126,7 @@ passed_memory given (Err fault) cause P only passed memory = told_memory given (
 module _ {Fault : Type 0} (format : Format Fault) (call : List ℕ → List ℕ) where
   -- what isn't a cycle is told as it is
   pub tells_other : (fault : Fault) (found : VerifyFault) → ((ids : Vec (List ℕ) Global) → found ≡ Cycle ids → ⊥) → TellsCycle format call fault found
-  tells_other fault (TargetKind package target) other = tt
+  tells_other fault (TargetKind place target) other = tt
   tells_other fault (Version link) other = tt
   tells_other fault (NoSection link) other = tt
   tells_other fault (Cycle ids) other = absurd (other ids refl)
@@ -134,7 +134,7 @@ module _ {Fault : Type 0} (format : Format Fault) (call : List ℕ → List ℕ)
   -- what `verify` refuses, as it is told
   pub verify_told : (g : GraphData) (fault : Fault) (found : VerifyFault) (cause : Cause) → IsGraphFault g found → IsToldAs format call found fault cause → IsVerifyTold format call g fault cause
   verify_told g fault found cause is told = ⊎_elim
-      (λ (as : (cause ≡ library (PackageGraphInternalError found)) × TellsCycle format call fault found). subst (IsVerifyTold format call g fault) (sym as.0) (is, as.1))
+      (λ (one : (cause ≡ library (PackageGraphInternalError found)) × TellsCycle format call fault found). subst (IsVerifyTold format call g fault) (sym one.0) (is, one.1))
       (λ (memory : cause ≡ library OutOfMemory). subst (IsVerifyTold format call g fault) (sym memory) tt) told
 
   only_memory : (g : GraphData) (fault : Fault) (error : Error) → TellsVerifyFault (IsGraphFault g) error → ((found : VerifyFault) → error ≡ PackageGraphInternalError found → ⊥)

@@ -77,8 +77,10 @@ fn needed_by<'g>(graph: &'g PackageGraph, id: &PackageId) -> Option<&'g PackageI
     let Ok(metadata) = graph.metadata(id) else {
         return None;
     };
-    let link = hindrance_of(metadata)?;
-    Some(link.to().id())
+    match hindrance_of(metadata) {
+        Some(link) => Some(link.to().id()),
+        None => None,
+    }
 }
 
 // The first of these packages that such a link leaves, and the member to which it leads.
