@@ -52,6 +52,7 @@ NO_COMMAND = "give a command: guppy-cargo help lists them"
 NO_KIND = "other is no kind: give some of normal,build,dev, separated by commas"
 NO_CFGS = "give --cfgs FILE behind each --platform TRIPLE"
 NO_PATHS = "affected needs a path, --paths-from FILE or, of the scripts, --since REVISION"
+CYCLE = "error: cycle over links that are not dev-only: "
 NO_NULS = "its paths aren't each ended by a NUL: give it what git writes with -z"
 
 
@@ -265,12 +266,25 @@ def try_links(graph):
         yield f"links {direction}, before what leads there", [], early
 
 
+def try_publishable(graph, chosen):
+    """The members that can be published, or the first of them that needs one that can't, and that one."""
+    held = {it for it in graph.folders if graph.publish[it] == []}
+    needed = {it: {b for a, b in graph.firm | graph.declared if a == it} & held for it in chosen}
+    first = next((it for it in chosen if needed[it]), None)
+    if first is None:
+        yield "publish-order --publishable", chosen, graph.ask("publish-order", "--publishable")
+        return
+    for form, called in ((), str), (("--ids",), graph.ids.get):
+        ran = run(["publish-order", "--publishable", *form], graph.text.encode())
+        told = [(1, "", f"error: {called(first)} can't be published: it needs {called(it)}, which isn't publishable\n") for it in needed[first]]
+        yield f"publish-order --publishable {form}, what is told", True, ran in told or ran
+
+
 def try_publish(graph):
     yield "verify", ["ok"], graph.ask("verify")
     order = graph.ask("publish-order")
     yield "publish-order, each once", sorted(graph.folders), sorted(order)
-    chosen = [it for it in order if graph.publish[it] != []]
-    yield "publish-order --publishable", chosen, graph.ask("publish-order", "--publishable")
+    yield from try_publishable(graph, [it for it in order if graph.publish[it] != []])
     early = [(a, b) for a, b in itertools.combinations(order, 2) if b in graph.needed.get(a, ())]
     yield "publish-order, the wrong way round", [], early
 
@@ -378,7 +392,7 @@ def try_left_out(graph):
             (["--ignore", "./.", "x"], "--ignore ./. leaves out everything: give a folder"),
             (["--ignore=", "x"], "--ignore  leaves out everything: give a folder"),
             (["x", "--paths-from"], "a value is missing behind --paths-from"),
-            (["x", "--sinc", "main"], "--sinc is no option: the nearest is --kinds"),
+            (["x", "--sinc", "main"], "--sinc is no option of the program: the nearest is --since, of the scripts"),
             (["-x"], "-x is no option: guppy-cargo help lists them"),
             (["x", "--publishable"], "affected takes no --publishable"),
             (["--paths-from", os.path.join(room, "bytes")], f"{os.path.join(room, 'bytes')}: the paths in it can't be read"),
@@ -579,6 +593,11 @@ def try_help(graph):
         wanted = {it for it in COMMANDS if apart[it] == min(apart.values())}
         message = re.fullmatch("error: (.*) is no command: the nearest is (.*)\n", run([word], b"")[2])
         yield f"{word}, the nearest command", True, bool(message and message[1] == word and message[2] in wanted)
+    with open(os.path.join(HERE, "../scripts/words.sh"), encoding="utf-8") as script:
+        taken = set(re.findall("(--[a-z][a-z-]+)[=) ]", script.read().split("# The words of this kind")[0])) | {"--with"}
+    for word in sorted(taken - set(helped)):
+        told = f"error: {word} is no option of the program: the nearest is {word}, of the scripts\n"
+        yield f"{word}, of the scripts", (2, "", told), run(["order", word, "x"], b"")
     yield "--version", (0, "guppy-cargo of guppy 0.19.1, proved\n", ""), run(["--version"], b"")
     for words, fault in (
         ("help no-such", "help is no command: guppy-cargo help lists them"),
@@ -631,6 +650,12 @@ def try_refused(graph):
     for words, has_cycle in (("verify", firm.has_firm_cycle()), ("publish-order", firm.has_needed_cycle())):
         wanted = f"status {int(has_cycle)}"
         yield f"{words}, dev-dependencies made normal", wanted, ending([words], firm.text.encode())
+        links = firm.firm | (firm.declared if words == "publish-order" else set())
+        for form, called in ((), str), (("--ids",), firm.ids.get):
+            told = run([words, *form], firm.text.encode())[2].removeprefix(CYCLE).removesuffix("\n").split(" -> ")
+            pairs, known = set(itertools.pairwise(told)), {(called(a), called(b)) for a, b in links}
+            is_cycle = len(set(told)) == len(told) - 1 > 1 and told[0] == told[-1] and pairs <= known
+            yield f"{words} {form}, the cycle that is told", has_cycle, is_cycle
 
 
 PARTS = {

@@ -228,6 +228,31 @@ def try_declared(world):
         yield f"what is declared comes first, with {features}", not wrong, (ran, cargos, wrong)
 
 
+def try_publishable(world):
+    """A member that needs one with `publish = false` is told, beside what cargo packages: of the others alone it finds none."""
+    top = world.room / "publishable"
+    make(top, {"a": "", "b": "publish = false\n", "c": ""})
+    about, others = MANIFEST.format("a") + 'description = "-"\nlicense = "MIT"\n', ["-p", "a", "-p", "c"]
+    world.build()
+    for section, rest, is_hindered in (
+        ("dependencies", ', version = "0.1.0"', True),
+        ("dependencies", ', version = "0.1.0", optional = true', True),
+        ("build-dependencies", ', version = "0.1.0"', True),
+        ('target."cfg(windows)".dependencies', ', version = "0.1.0"', True),
+        ("dev-dependencies", "", False),
+    ):
+        (top / "a/Cargo.toml").write_text(f'{about}[{section}]\nb = {{ path = "../b"{rest} }}\n')
+        (top / "a/build.rs").write_text("fn main() {}\n")
+        words = ["cargo", "package", "--no-verify", "--allow-dirty", "--offline", *others]
+        cargos = subprocess.run(words, cwd=top, capture_output=True, text=True)
+        has_failed = cargos.returncode != 0 and "no matching package named `b` found" in cargos.stderr
+        wanted = "error: a can't be published: it needs b, which isn't publishable\n"
+        for features in ([], ["--no-default-features"]):
+            ran = world.run(["guppy-cargo", "publish-order", "--publishable", *features], where=top)
+            is_right = ran == (1, "", wanted) if is_hindered else (ran[0], sorted(ran[1].split())) == (0, ["a", "c"])
+            yield f"{section}{rest}, {features}", is_right and has_failed == is_hindered, (ran, cargos.stderr)
+
+
 def try_flags(world):
     """What is set by the flags that cargo gives rustc, of its settings or of the environment, beside what cargo tree follows."""
     top, host = world.room / "a workspace", "x86_64-unknown-linux-gnu"

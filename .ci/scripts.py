@@ -18,7 +18,7 @@ import time
 from concurrent.futures import ThreadPoolExecutor
 from pathlib import Path
 
-from metadata import try_asked, try_declared, try_flags, try_given, try_host, try_metadata_refused, try_platforms
+from metadata import try_asked, try_declared, try_flags, try_given, try_host, try_metadata_refused, try_platforms, try_publishable
 from since import try_since, try_since_answers, try_since_locked, try_since_refused
 from tested import try_tests, try_tests_on_branches, try_tests_refused
 
@@ -440,6 +440,7 @@ PARTS = {
     "tests of changes, refusals": (try_tests_refused, []),
     "what cargo is asked": (try_asked, []),
     "what members declare": (try_declared, []),
+    "members that can be published": (try_publishable, []),
     "flags that cargo gives": (try_flags, []),
     "members on a platform": (try_platforms, []),
     "members on the host": (try_host, []),

@@ -6,7 +6,7 @@ ghost use Rattle.guppy_arguments.specs.declared.fault.CargoFault.TheVariants.{Pr
 
 use crate::told::ArgumentsFault;
 use guppy_command::{Fault, ProgramFault};
-use guppy_data::Error;
+use guppy_data::{Error, PackageId};
 use guppy_metadata::MetadataFault;
 use std::alloc::{AllocError, AllocFailed};
 use std::fmt;
@@ -30,6 +30,13 @@ pub enum CargoFault {
         /// The name of a package.
         nearest: String,
     },
+    /// `verify` refuses the graph for a cycle over links that aren't dev-only.
+    Cycle {
+        /// The packages of the cycle.
+        ids: Vec<PackageId>,
+        /// What they are called, each with ` -> ` behind it, and the first one again.
+        round: String,
+    },
     /// The arguments ask nothing.
     Arguments(ArgumentsFault),
     /// The input is not what `cargo metadata` prints.
@@ -51,11 +58,18 @@ impl fmt::Display for CargoFault {
             CargoFault::Program(Fault::NoWalk { from, to }) => {
                 write!(f, "no links lead from {from} to {to}")
             }
+            CargoFault::Program(Fault::Unpublishable { member, needed }) => write!(
+                f,
+                "{member} can't be published: it needs {needed}, which isn't publishable"
+            ),
             CargoFault::Ambiguous { word, choices } => {
                 write!(f, "ambiguous package {word}: give {choices}")
             }
             CargoFault::Unknown { word, nearest } => {
                 write!(f, "unknown package {word}: the nearest is {nearest}")
+            }
+            CargoFault::Cycle { round, .. } => {
+                write!(f, "cycle over links that are not dev-only: {round}")
             }
             CargoFault::Arguments(fault) => write!(f, "{fault}"),
             CargoFault::Metadata(fault) => write!(f, "{fault}"),
@@ -81,7 +95,9 @@ impl ProgramFault for CargoFault {
 
     fn ending(&self) -> u8 {
         match self {
-            CargoFault::Program(Fault::Library(_) | Fault::NoWalk { .. }) => 1,
+            CargoFault::Program(
+                Fault::Library(_) | Fault::NoWalk { .. } | Fault::Unpublishable { .. },
+            ) => 1,
             CargoFault::Program(_) | CargoFault::Arguments(_) => 2,
             _ => 1,
         }

@@ -1,5 +1,6 @@
 -- What `guppy-cargo` reads, and what it calls packages.
-use Rattle.std.specs.Prelude.{ℕ, Bool, List, IsSomeAnd}
+use Rattle.std.specs.Prelude.{◌≡◌, ℕ, Bool, List, IsSomeAnd, Vec, String, string_bytes}
+use Rattle.std.specs.declared.alloc.Global.{Global}
 use Rattle.std.specs.Str.{IsUtf8}
 use Rattle.json.specs.Json.{document}
 use Rattle.guppy_data.specs.declared.records.PackageRecord.{PackageRecord}
@@ -9,7 +10,7 @@ use Rattle.guppy_metadata.specs.Records.{AreRecordsWith, IsMetadataFault}
 use Rattle.guppy_declared.specs.Declares.{Declares}
 use Rattle.guppy_program.specs.Format.{Format}
 use Rattle.guppy_arguments.specs.declared.fault.CargoFault.{CargoFault}
-use Rattle.guppy_arguments.specs.declared.fault.CargoFault.TheVariants.{Metadata, NoText}
+use Rattle.guppy_arguments.specs.declared.fault.CargoFault.TheVariants.{Cycle, Metadata, NoText}
 use Rattle.guppy_arguments.specs.Names.{text, meant}
 use Rattle.guppy_arguments.specs.Table.{cargo_program}
 use Rattle.guppy_arguments.specs.Told.{Tells}
@@ -31,6 +32,10 @@ IsInputFault details input (Metadata fault) = IsMetadataFault details input faul
 IsInputFault details input NoText = ¬ IsUtf8 input
 IsInputFault details input _ = ⊥
 
+-- the fault tells the cycle of these packages by this text
+abbrev pub TellsCycle : Vec (List ℕ) Global → List ℕ → CargoFault → Type 0
+TellsCycle ids round fault = (text : String Global) × (fault ≡ Cycle ids text) × (string_bytes text ≡ round)
+
 -- JSON says records, and a package is called by its name, its name and version, or its ID
 abbrev pub json_format : Format CargoFault
 json_format = record {
@@ -42,4 +47,5 @@ json_format = record {
   text = text;
   meant = meant;
   tells_unknown = TellsUnknown;
+  tells_cycle = TellsCycle;
 }

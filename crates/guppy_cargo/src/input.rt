@@ -72,6 +72,10 @@ impl Format for Json {
         names.text_of(id)
     }
 
+    fn cycle(ids: Vec<PackageId>, round: String) -> CargoFault {
+        CargoFault::Cycle { ids, round }
+    }
+
     fn find(
         alloc: Global,
         graph: &PackageGraph,

@@ -5,13 +5,15 @@ use Rattle.guppy_data.specs.declared.texts.error.Error.TheVariants.{OutOfMemory}
 
 -- an error of the library, which also tells that memory ran out; the arguments, or that they could not
 -- be had; a word, and a text that tells what it may mean; two words, from whose first package no links
--- lead to the second one's; what the input says; the source; the sink.
+-- lead to the second one's; what a member is called that can be published by itself, and one that it
+-- needs and that can't; what the input says; the source; the sink.
 -- A program says which of its faults is blamed on what, and `IsRun` when each comes
 pub data Cause : Type 0 where
   library : Error → Cause
   bad_arguments : Cause
   ambiguous : List ℕ → List ℕ → Cause
   no_walk : List ℕ → List ℕ → Cause
+  unpublishable : List ℕ → List ℕ → Cause
   bad_input : Cause
   input_failed : Cause
   output_failed : Cause

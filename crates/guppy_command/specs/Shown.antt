@@ -13,10 +13,10 @@ use Rattle.guppy_command.specs.declared.command.Command.TheVariants.{Reach, Depe
 use Rattle.guppy_command.specs.declared.asked.Asked.{Asked as GivenAsked}
 use Rattle.guppy_command.specs.declared.asked.Wanted.{Wanted as GivenWanted}
 use Rattle.guppy_command.specs.declared.fault.Fault.{Fault}
-use Rattle.guppy_command.specs.declared.fault.Fault.TheVariants.{Library, BadArguments, NoWalk, InputFailed, OutputFailed}
+use Rattle.guppy_command.specs.declared.fault.Fault.TheVariants.{Library, BadArguments, NoWalk, Unpublishable, InputFailed, OutputFailed}
 use Rattle.guppy_command.specs.Grammar.{OptionRow, Program, Argument, option, word, Misread, no_option, no_value, needless_value, repeated, not_taken, no_command, unknown_command, bad_words, bad_kinds, lone_platform, all_ignored, no_paths, cfgs_failed, bad_cfg, paths_failed, unended_paths}
 use Rattle.guppy_command.specs.Asked.{Asked, Wanted}
-use Rattle.guppy_command.specs.Cause.{Cause, library, bad_arguments, no_walk, input_failed, output_failed}
+use Rattle.guppy_command.specs.Cause.{Cause, library, bad_arguments, no_walk, unpublishable, input_failed, output_failed}
 use Rattle.guppy_command.specs.Command.{Command, reach, depends, why, order, roots, links, cycles, duplicates, verify, publish_order, dot, affected}
 
 abbrev pub texts : List (Bor (List ℕ)) → List (List ℕ)
@@ -103,5 +103,6 @@ abbrev pub cause_shown : Fault → Cause
 cause_shown (Library error) = library error
 cause_shown BadArguments = bad_arguments
 cause_shown (NoWalk from to) = no_walk (string_bytes from) (string_bytes to)
+cause_shown (Unpublishable member needed) = unpublishable (string_bytes member) (string_bytes needed)
 cause_shown InputFailed = input_failed
 cause_shown OutputFailed = output_failed

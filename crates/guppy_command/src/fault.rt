@@ -2,7 +2,7 @@
 ghost use Rattle.std.specs.Prelude.{◌≡◌, ◌⊎◌, ℕ, Ok, Err, IfOk, IfErr};
 ghost use Rattle.guppy_data.specs.declared.texts.error.Error.{Error};
 ghost use Rattle.guppy_data.specs.declared.texts.error.Error.TheVariants.{OutOfMemory};
-ghost use Rattle.guppy_command.specs.Cause.{Cause, library, no_walk};
+ghost use Rattle.guppy_command.specs.Cause.{Cause, library, no_walk, unpublishable};
 ghost use Rattle.guppy_command.specs.Shown.{cause_shown};
 
 use guppy_data::Error;
@@ -22,6 +22,13 @@ pub enum Fault {
         from: String,
         /// The second word.
         to: String,
+    },
+    /// A member can be published by itself, but needs another one that can't.
+    Unpublishable {
+        /// What the member is called.
+        member: String,
+        /// What the one is called that it needs.
+        needed: String,
     },
     /// The input could not be read.
     InputFailed,
@@ -77,4 +84,18 @@ pub fn no_walk<F: ProgramFault>(alloc: Global, from: &str, to: &str) -> F
         return want_of_memory();
     };
     F::of(Fault::NoWalk { from, to })
+}
+
+/// That the member can't be published because it needs the other, which isn't publishable, unless memory is wanted. Takes
+/// memory for copies of what they are called.
+pub fn unpublishable<F: ProgramFault>(alloc: Global, member: &str, needed: &str) -> F
+    ensures { (F.cause result ≡ unpublishable member.now needed.now) ⊎ (F.cause result ≡ library OutOfMemory) }
+{
+    let Ok(member) = String::from_str(alloc, member) else {
+        return want_of_memory();
+    };
+    let Ok(needed) = String::from_str(alloc, needed) else {
+        return want_of_memory();
+    };
+    F::of(Fault::Unpublishable { member, needed })
 }

@@ -4,7 +4,8 @@ use Rattle.guppy_data.specs.declared.records.PackageRecord.{PackageRecord}
 use Rattle.guppy_data.specs.declared.records.LinkRecord.{LinkRecord}
 use Rattle.guppy_data.specs.declared.records.WorkspaceRecord.{WorkspaceRecord}
 use Rattle.guppy_lines.specs.declared.fault.RunFault.{RunFault}
-use Rattle.guppy_data.specs.declared.texts.error.Error.TheVariants.{UnknownPackageId}
+use Rattle.guppy_data.specs.declared.texts.error.Error.TheVariants.{UnknownPackageId, PackageGraphInternalError}
+use Rattle.guppy_data.specs.declared.texts.fault.VerifyFault.TheVariants.{Cycle}
 use Rattle.guppy_lines.specs.declared.fault.RunFault.TheVariants.{BadArguments, BadLine, Library}
 use Rattle.guppy_command.specs.Asked.{Asks, IsMisread}
 use Rattle.guppy_command.specs.Grammar.{Program, Misread}
@@ -58,4 +59,5 @@ lines_format = record {
   text = λ packages id. id;
   meant = meant_by_id;
   tells_unknown = λ packages word fault. fault ≡ Library (UnknownPackageId word);
+  tells_cycle = λ ids round fault. fault ≡ Library (PackageGraphInternalError (Cycle ids));
 }

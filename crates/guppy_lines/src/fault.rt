@@ -23,6 +23,13 @@ pub enum RunFault {
         /// The second ID.
         to: String,
     },
+    /// A member can be published by itself, but needs another one that can't. Lines say no such member.
+    Unpublishable {
+        /// The member's ID.
+        member: String,
+        /// The ID of the one that it needs.
+        needed: String,
+    },
     /// This line is the first bad one, where all lines are counted from 1.
     BadLine(u64),
     /// The input could not be read.
@@ -32,13 +39,13 @@ pub enum RunFault {
 }
 
 impl RunFault {
-    /// The status that the program ends with: 1 for a fault of the library and where no links lead from one
-    /// package to another, else 2. Takes constant time.
+    /// The status that the program ends with: 1 for a fault of the library, where no links lead from one package to
+    /// another, and where a member can't be published, else 2. Takes constant time.
     pub fn status(&self) -> u8
         ensures { result ≡ status_of self.now }
     {
         match self {
-            RunFault::Library(_) | RunFault::NoWalk { .. } => 1,
+            RunFault::Library(_) | RunFault::NoWalk { .. } | RunFault::Unpublishable { .. } => 1,
             _ => 2,
         }
     }
@@ -52,6 +59,9 @@ impl fmt::Display for RunFault {
             RunFault::Library(error) => write!(f, "{error}"),
             RunFault::BadArguments => write!(f, "bad arguments"),
             RunFault::NoWalk { from, to } => write!(f, "no links lead from {from} to {to}"),
+            RunFault::Unpublishable { member, needed } => {
+                write!(f, "{member} can't be published: it needs {needed}, which isn't publishable")
+            }
             RunFault::BadLine(number) => write!(f, "bad line {number}"),
             RunFault::InputFailed => write!(f, "input failed"),
             RunFault::OutputFailed => write!(f, "output failed"),
@@ -71,6 +81,7 @@ impl ProgramFault for RunFault {
             Fault::Library(error) => RunFault::Library(error),
             Fault::BadArguments => RunFault::BadArguments,
             Fault::NoWalk { from, to } => RunFault::NoWalk { from, to },
+            Fault::Unpublishable { member, needed } => RunFault::Unpublishable { member, needed },
             Fault::InputFailed => RunFault::InputFailed,
             Fault::OutputFailed => RunFault::OutputFailed,
         }

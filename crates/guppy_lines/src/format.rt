@@ -12,7 +12,7 @@ use guppy::{Error, PackageGraph, PackageId};
 use guppy_command::found::asked_of;
 use guppy_command::table::{CFGS, IDS, KINDS, PLATFORM, WORKSPACE};
 use guppy_command::{Asked, Files, Misread, OptionRow, Program};
-use guppy_data::{PackageRecord, Records};
+use guppy_data::{PackageRecord, Records, VerifyFault};
 use guppy_program::Format;
 use guppy_program::format::has_package;
 use std::alloc::{AllocError, Global};
@@ -102,6 +102,10 @@ impl Format for Lines {
 
     fn text_of<'a>(_names: &'a (), id: &'a PackageId) -> &'a str {
         id.repr()
+    }
+
+    fn cycle(ids: Vec<PackageId>, _round: String) -> RunFault {
+        RunFault::Library(Error::PackageGraphInternalError(VerifyFault::Cycle(ids)))
     }
 
     fn find(

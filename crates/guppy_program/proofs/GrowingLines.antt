@@ -1,5 +1,6 @@
 -- A text that grows by a line, item by item.
-use Rattle.std.proofs.Common.{◌≡◌, ◌∙◌, sym, ap, ℕ, ◌+◌, ◌<◌, List, [], ◌∷◌, ◌++◌, length, map, take, get_or}
+use Rattle.std.proofs.Common.{◌≡◌, ◌∙◌, sym, ap, ℕ, ◌+◌, ◌<◌, List, [], ◌∷◌, ◌++◌, length, map, take, get_or, codes}
+use Rattle.std.specs.List.{flat_map}
 use Rattle.std.proofs.lemmas.List.{append-nil, map_push, take_more}
 use Rattle.std.proofs.lemmas.List.Concat.{flat_map-append}
 use Rattle.guppy_command.specs.Printed.{line_of, lines_of}
@@ -11,3 +12,15 @@ viewed_more view items i x within is = ap (map view) (take_more items i x within
 -- their lines, with that of one more
 pub lines_more : {Y : Type 0} (text : Y → List ℕ) (ys : List Y) (y : Y) → lines_of (map text (ys ++ y ∷ [])) ≡ lines_of (map text ys) ++ line_of (text y)
 lines_more text ys y = ap lines_of (map_push text ys y) ∙ flat_map-append line_of (map text ys) (text y ∷ []) ∙ ap (λ l. lines_of (map text ys) ++ l) (append-nil (line_of (text y)))
+
+-- these texts, each with an arrow behind it
+abbrev pub arrowed : List (List ℕ) → List ℕ
+arrowed texts = flat_map (λ text. text ++ codes " -> ") texts
+
+-- what the packages up to the next are called, with one more
+pub arrows_more : (call : List ℕ → List ℕ) (ids : List (List ℕ)) (i : ℕ) (id : List ℕ) → i < length ids → id ≡ get_or ids i id
+    → arrowed (map call (take (i + 1) ids)) ≡ arrowed (map call (take i ids)) ++ (call id ++ codes " -> ")
+arrows_more call ids i id within is =
+    ap arrowed (viewed_more call ids i id within is)
+    ∙ flat_map-append (λ text. text ++ codes " -> ") (map call (take i ids)) (call id ∷ [])
+    ∙ ap (λ more. arrowed (map call (take i ids)) ++ more) (append-nil (call id ++ codes " -> "))

@@ -5,6 +5,7 @@ pub mod ReachedIds
 pub mod Refusals
 pub mod PackageLists
 pub mod PublishableMembers
+pub mod Hindrances
 pub mod Runs
 pub mod WholeSet
 pub mod GrowingLines

@@ -1,5 +1,5 @@
 -- What a command answers of a package graph, when it is refused, and what is shown of the answer.
-use Rattle.std.specs.Prelude.{◌≡◌, ◌↔◌, ◌<◌, ℕ, Bool, true, false, IsTrue, Option, Some, None, List, [], ◌∷◌, length, map, slice_get, replicate, All, Contains, ◌&&◌, is_some, if◌then◌else◌}
+use Rattle.std.specs.Prelude.{◌≡◌, ◌↔◌, ◌⊎◌, ◌<◌, ℕ, Bool, true, false, IsTrue, Option, Some, None, List, [], ◌∷◌, length, map, slice_get, replicate, All, Contains, ◌&&◌, is_some, if◌then◌else◌}
 use Rattle.std.specs.List.{AllZip, concat, filter, list_all, list_any}
 use Rattle.std.specs.Str.{bytes_eq}
 use Rattle.guppy_search.specs.declared.ix.direction.DependencyDirection.{DependencyDirection}
@@ -9,6 +9,8 @@ use Rattle.guppy_data.specs.declared.records.LinkRecord.{LinkRecord}
 use Rattle.guppy_data.specs.declared.records.PackageRecord.{PackageRecord}
 use Rattle.guppy_data.specs.declared.texts.error.Error.TheVariants.{UnknownPackageId, PackageGraphInternalError, OutOfMemory}
 use Rattle.guppy_data.specs.declared.texts.fault.VerifyFault.{VerifyFault}
+use Rattle.guppy_data.specs.declared.texts.fault.VerifyFault.TheVariants.{Cycle}
+use Rattle.guppy_data.specs.Texts.{round_text}
 use Rattle.guppy.specs.Ids.{HasId, IsKnown}
 use Rattle.guppy.specs.Cycles.{AreCyclic, AreOnOne}
 use Rattle.guppy.specs.Graph.{GraphData, IsInOrder}
@@ -29,11 +31,11 @@ use Rattle.guppy_publish.specs.Publishing.{ArePublishIds}
 use Rattle.guppy_extras.specs.Walk.{NoWalk, Between}
 use Rattle.guppy_command.specs.declared.options.Kinds.{Kinds}
 use Rattle.guppy_command.specs.declared.options.Options.{Options}
-use Rattle.guppy_command.specs.Cause.{Cause, library, ambiguous, no_walk}
+use Rattle.guppy_command.specs.Cause.{Cause, library, ambiguous, no_walk, unpublishable}
 use Rattle.guppy_command.specs.Command.{Command, reach, depends, why, order, roots, links, cycles, duplicates, verify, publish_order, dot, affected}
 use Rattle.guppy_dot.specs.Dot.{Drawing, IsDrawing, IsDrawn, IsNamed, among}
 use Rattle.guppy_program.specs.Format.{Format, alternatives}
-use Rattle.guppy_program.specs.Publish.{is_publishable}
+use Rattle.guppy_program.specs.Publish.{is_publishable, IsFree, IsHindranceTold}
 use Rattle.guppy_program.specs.Steps.{AreSteps}
 
 -- an answer, each package in it by its ID: a set of packages, packages in an order, rows of packages
@@ -154,7 +156,7 @@ pub record IsVerifyAnswer (g : GraphData) (answer : Answer) : Type 0 where
   pub acyclic : HasNoFirmCycle g
   pub told : answer ≡ all_well
 
--- the members in a publish order, or of these those alone that can be published
+-- the members in a publish order, or of these those alone that can be published, where none of them needs one that can't
 pub record IsPublishAnswer (g : GraphData) (publishable : Bool) (answer : Answer) : Type 0 where
   pub verified : IsVerified g
   pub acyclic : HasNoFirmCycle g
@@ -162,6 +164,7 @@ pub record IsPublishAnswer (g : GraphData) (publishable : Bool) (answer : Answer
   pub exact : ArePublishIds g ids
   pub told : answer ≡ package_list
       (if publishable then filter (is_publishable g.packages) ids else ids)
+  pub free : publishable ≡ true → All (IsFree g) (filter (is_publishable g.packages) ids)
 
 -- the members that changes at the paths affect
 pub record IsAffectedAnswer (g : GraphData) (ignored paths : List (List ℕ))
@@ -227,6 +230,36 @@ IsVerifyFault verify g fault = IsGraphFault g fault
 IsVerifyFault (publish_order publishable) g fault = IsGraphFault g fault
 IsVerifyFault _ g fault = ⊥
 
+-- of a cycle the fault tells what its packages are called
+abbrev pub TellsCycle : {Fault : Type 0} → Format Fault → (List ℕ → List ℕ) → Fault → VerifyFault → Type 0
+TellsCycle format call fault (Cycle ids) = format.tells_cycle ids (round_text (map call ids.items)) fault
+TellsCycle format call fault _ = Unit {0}
+
+-- the fault tells this one of `verify`, of a cycle with what its packages are called, or memory ran out
+abbrev pub IsToldAs : {Fault : Type 0} → Format Fault → (List ℕ → List ℕ) → VerifyFault → Fault → Cause → Type 0
+IsToldAs format call found fault cause =
+    ((cause ≡ library (PackageGraphInternalError found)) × TellsCycle format call fault found)
+    ⊎ (cause ≡ library OutOfMemory)
+
+-- the fault is one that `verify` may tell of the graph, of a cycle with what its packages are called, or memory ran out
+abbrev pub IsVerifyTold : {Fault : Type 0} → Format Fault → (List ℕ → List ℕ) → GraphData → Fault → Cause → Type 0
+IsVerifyTold format call g fault (library (PackageGraphInternalError found)) =
+    IsGraphFault g found × TellsCycle format call fault found
+IsVerifyTold format call g fault (library OutOfMemory) = Unit {0}
+IsVerifyTold format call g fault _ = ⊥
+
+-- of the members that can be published, in a publish order, the first that needs one that can't is told, and that one
+pub record IsUnpublishable (g : GraphData) (call : List ℕ → List ℕ) (member needed : List ℕ) : Type 0 where
+  pub ids : List (List ℕ)
+  pub exact : ArePublishIds g ids
+  pub told : IsHindranceTold g call (filter (is_publishable g.packages) ids) member needed
+
+-- the command asks for the members that can be published, and these two are told
+abbrev pub IsPublishFault : (List ℕ → List ℕ) → Command → GraphData → List ℕ → List ℕ → Type 0
+IsPublishFault call (publish_order publishable) g member needed =
+    (publishable ≡ true) × IsUnpublishable g call member needed
+IsPublishFault call _ g member needed = ⊥
+
 -- no walk of links leads from the first package meant to the second
 pub record IsWithoutWalk (g : GraphData) (meant : List ℕ → List (List ℕ)) (from to : List ℕ) : Type 0 where
   pub from_id : List ℕ
@@ -241,14 +274,16 @@ IsWalkFault meant (why from to) g start end =
     (start ≡ from) × (end ≡ to) × IsWithoutWalk g meant from to
 IsWalkFault meant _ g start end = ⊥
 
--- the command is refused so, of this graph, or memory ran out
-abbrev pub IsCommandFault : {Fault : Type 0} → Format Fault → Command → GraphData → Fault → Cause
-    → Type 0
-IsCommandFault format command g fault (library (PackageGraphInternalError found)) =
-    IsVerifyFault command g found
-IsCommandFault format command g fault (no_walk from to) =
+-- the command is refused so, of this graph, whose packages `call` calls by their names, or memory ran out
+abbrev pub IsCommandFault : {Fault : Type 0} → Format Fault → (List ℕ → List ℕ) → Command → GraphData → Fault
+    → Cause → Type 0
+IsCommandFault format call command g fault (library (PackageGraphInternalError found)) =
+    IsVerifyFault command g found × TellsCycle format call fault found
+IsCommandFault format call command g fault (no_walk from to) =
     IsWalkFault (format.meant g.packages) command g from to
-IsCommandFault format command g fault cause =
+IsCommandFault format call command g fault (unpublishable member needed) =
+    IsPublishFault call command g member needed
+IsCommandFault format call command g fault cause =
     IsWordFault format g.packages (words_of command) fault cause
 
 -- a member of the workspace has the ID

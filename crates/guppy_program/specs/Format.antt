@@ -1,5 +1,6 @@
 -- What a program is asked, how it reads its input, and what it calls packages.
-use Rattle.std.specs.Prelude.{◌≡◌, ◌<◌, ℕ, Bool, List, [], length, map, codes}
+use Rattle.std.specs.Prelude.{◌≡◌, ◌<◌, ℕ, Bool, List, [], length, map, codes, Vec}
+use Rattle.std.specs.declared.alloc.Global.{Global}
 use Rattle.std.specs.List.{join_by}
 use Rattle.guppy_data.specs.declared.records.PackageRecord.{PackageRecord}
 use Rattle.guppy_data.specs.declared.records.LinkRecord.{LinkRecord}
@@ -25,6 +26,8 @@ pub record Format (Fault : Type 0) : Type 1 where
   pub meant : List PackageRecord → List ℕ → List (List ℕ)
   -- what the fault tells of a word that means none of the packages
   pub tells_unknown : List PackageRecord → List ℕ → Fault → Type 0
+  -- what the fault tells of a cycle of packages with these IDs, and with this text of what they are called
+  pub tells_cycle : Vec (List ℕ) Global → List ℕ → Fault → Type 0
 
 -- the arguments ask nothing, and the fault tells why, or memory ran out
 abbrev pub IsAskingFault : {Fault : Type 0} → Format Fault → (List ℕ → List ℕ → Type 0) → List (List ℕ) → Fault

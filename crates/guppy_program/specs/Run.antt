@@ -3,7 +3,7 @@ use Rattle.std.specs.Prelude.{◌≡◌, ◌⊎◌, ℕ, Bool, List, ◌++◌, O
 use Rattle.std.specs.Io.KnownBytes.{IsAtEnd, Appends}
 use Rattle.guppy.specs.Graph.{GraphData}
 use Rattle.guppy_command.specs.Asked.{Asked}
-use Rattle.guppy_command.specs.Cause.{Cause, library, bad_arguments, ambiguous, no_walk, bad_input, input_failed, output_failed, OrMemory, caused, is_input_fault, is_output_fault}
+use Rattle.guppy_command.specs.Cause.{Cause, library, bad_arguments, ambiguous, no_walk, unpublishable, bad_input, input_failed, output_failed, OrMemory, caused, is_input_fault, is_output_fault}
 use Rattle.guppy_program.specs.Format.{Format}
 use Rattle.guppy_program.specs.Loaded.{IsLoaded, AreRefused, reads_details}
 use Rattle.guppy_program.specs.Answer.{Answer, IsAnswer, IsCommandFault, shown}
@@ -24,11 +24,11 @@ abbrev pub IsAnswerTo : {Fault : Type 0} → Format Fault → Asked → List ℕ
 IsAnswerTo format asked input output = (g : GraphData)
     × IsLoaded format asked input g × IsAnswerOf format asked g output
 
--- the command is refused so, of this graph
+-- the command is refused so, of this graph, with each package as the options have it called
 abbrev pub IsRefusedOf : {Fault : Type 0} → Format Fault → Asked → List ℕ → Fault → Cause → Type 0
 IsRefusedOf format asked input fault cause = (g : GraphData)
     × IsLoaded format asked input g
-    × IsCommandFault format asked.command g fault cause
+    × IsCommandFault format (called asked.options (format.text g.packages)) asked.command g fault cause
 
 -- the fault, with this cause, is one of the input, or of the command on this graph
 abbrev pub IsFaultOf : {Fault : Type 0} → Format Fault → Asked → List ℕ → Fault → Cause → Type 0
@@ -40,6 +40,8 @@ IsFaultOf format asked input fault (ambiguous word texts) =
     IsRefusedOf format asked input fault (ambiguous word texts)
 IsFaultOf format asked input fault (no_walk from to) =
     IsRefusedOf format asked input fault (no_walk from to)
+IsFaultOf format asked input fault (unpublishable member needed) =
+    IsRefusedOf format asked input fault (unpublishable member needed)
 IsFaultOf format asked input fault _ = ⊥
 
 -- the source has come to its end, and P holds of what was read, which is all that it had where that

@@ -5,21 +5,22 @@ ghost use Rattle.guppy.specs.Ids.{IsKnown, DistinctBelow};
 ghost use Rattle.guppy.specs.ListedCycles.{cycle_left};
 ghost use Rattle.guppy.specs.Query.{IncludesId};
 ghost use Rattle.guppy.specs.Refused.{NamesId, IsFirstUnknown};
-ghost use Rattle.guppy.specs.Verified.{TellsVerifyFault, IsVerifyFault as IsGraphFault};
 ghost use Rattle.guppy.specs.Views.{link_data};
 ghost use Rattle.guppy_command.specs.Cause.{Cause, library};
-ghost use Rattle.guppy_program.specs.Answer.{Means, IsReached, AreReached, IsReachAnswer, TellsDependence, IsDependsAnswer, IsOrderAnswer, IsRootsAnswer, IsLinksAnswer, IsCyclesAnswer, IsDuplicatesAnswer, IsVerifyAnswer, IsDotAnswer, IsAffectedAnswer, IsAnswer, IsWordFault, IsVerifyFault, IsCommandFault, end_ids};
+ghost use Rattle.guppy_program.specs.Answer.{Means, IsReached, AreReached, IsReachAnswer, TellsDependence, IsDependsAnswer, IsOrderAnswer, IsRootsAnswer, IsLinksAnswer, IsCyclesAnswer, IsDuplicatesAnswer, IsVerifyAnswer, IsDotAnswer, IsAffectedAnswer, IsAnswer, IsWordFault, IsVerifyTold, IsCommandFault, end_ids};
+ghost use Rattle.guppy_program.specs.Printed.{called};
 ghost use Rattle.guppy_command.specs.Shown.{command_shown, texts};
 ghost use Rattle.guppy_program.specs.Shown.{answer_shown};
 
 use crate::format::Format;
 use crate::publish::published;
+use crate::verify::verified;
 use crate::why::why;
 use guppy::graph::DependencyDirection;
 use guppy::{CycleIds, Error, PackageGraph, PackageId, PackageLink, PackageSet};
 use guppy_affected::affected;
 use guppy_command::fault::{passed_on, want_of_memory};
-use guppy_command::{Command, Kinds, ProgramFault};
+use guppy_command::{Command, Kinds, Options, ProgramFault};
 use guppy_dot::{Drawing, drawing_of};
 use guppy_extras::duplicates;
 use std::alloc::{AllocError, Global};
@@ -238,11 +239,18 @@ fn repeated(graph: &PackageGraph) -> Result<Answer<'_>, Error>
     Ok(Answer::Needs(duplicates(graph)?))
 }
 
-fn verified(graph: &PackageGraph) -> Result<Answer<'_>, Error>
+fn verify<'g, F: Format>(
+    alloc: Global,
+    graph: &'g PackageGraph,
+    names: &F::Names,
+    options: &Options,
+) -> Result<Answer<'g>, F::Fault>
+    requires { F.are_names names.now graph.now.packages }
     ensures ok { IfOk result (λ answer. IsVerifyAnswer graph.now (answer_shown answer)) }
-    ensures err { IfErr result (TellsVerifyFault (IsGraphFault graph.now)) }
+    ensures err { IfErr result (λ fault. IsVerifyTold F.format
+        (called options.now (F.format.text graph.now.packages)) graph.now fault (F.Fault.cause fault)) }
 {
-    graph.verify()?;
+    verified::<(), F>(alloc, graph, names, options, graph.verify())?;
     Ok(Answer::AllWell)
 }
 
@@ -278,10 +286,10 @@ fn tested<'g>(
 
 /// What the command answers of the graph, whose packages have these names.
 ///
-/// The first word of the command that means no package, or may mean several, is told, and for `why` that no
-/// links lead from one package to the other. An error
-/// `PackageGraphInternalError`, for `verify` and `publish-order` alone, tells what the graph's `verify`
-/// refuses.
+/// The first word of the command that means no package, or may mean several, is told, and for `why` that no links lead
+/// from one package to the other. For `verify` and `publish-order` alone it is told what the graph's `verify` refuses, a
+/// cycle by what its packages are called as the options have it, and of the members that can be published, where these
+/// alone are asked for, the first that needs one that can't.
 ///
 /// Takes memory for the answer, and for some numbers a package and a link. Time grows with packages and
 /// links.
@@ -289,14 +297,16 @@ pub fn answer_of<'g, F: Format>(
     alloc: Global,
     graph: &'g PackageGraph,
     names: &F::Names,
+    options: &Options,
     command: &Command<'_>,
 ) -> Result<Answer<'g>, F::Fault>
     requires names { F.are_names names.now graph.now.packages }
     requires distinct { DistinctBelow graph.now.packages (length graph.now.packages) }
     ensures ok { IfOk result (λ answer. IsAnswer (F.format.meant graph.now.packages)
         (command_shown command.now) graph.now (answer_shown answer)) }
-    ensures err { IfErr result (λ fault. IsCommandFault F.format (command_shown command.now)
-        graph.now fault (F.Fault.cause fault)) }
+    ensures err { IfErr result (λ fault. IsCommandFault F.format
+        (called options.now (F.format.text graph.now.packages)) (command_shown command.now) graph.now
+        fault (F.Fault.cause fault)) }
 {
     match command {
         Command::Reach(direction, words) => { reach::<F>(alloc, graph, names, *direction, words) }
@@ -307,8 +317,10 @@ pub fn answer_of<'g, F: Format>(
         Command::Links(direction) => passed_on(links(alloc, graph, *direction)),
         Command::Cycles => passed_on(cycles(alloc, graph)),
         Command::Duplicates => passed_on(repeated(graph)),
-        Command::Verify => passed_on(verified(graph)),
-        Command::PublishOrder { publishable } => passed_on(published(graph, *publishable)),
+        Command::Verify => verify::<F>(alloc, graph, names, options),
+        Command::PublishOrder { publishable } => {
+            published::<F>(alloc, graph, names, options, *publishable)
+        }
         Command::Dot(words) => dot::<F>(alloc, graph, names, words),
         Command::Affected { ignored, paths } => passed_on(tested(graph, ignored, paths)),
     }

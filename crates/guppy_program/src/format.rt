@@ -1,8 +1,11 @@
 //! What differs between programs: what they are asked, how they read their input, and what they call packages.
 ghost use Rattle.std.specs.Prelude.{◌≡◌, ◌↔◌, ◌∷◌, [], ℕ, List, map, string_bytes, Contains, IfOk, IfErr, IsOkUnless};
 ghost use Rattle.guppy_data.specs.declared.records.PackageRecord.{PackageRecord as PackageData};
+ghost use Rattle.guppy_data.specs.declared.texts.error.Error.TheVariants.{PackageGraphInternalError};
+ghost use Rattle.guppy_data.specs.declared.texts.fault.VerifyFault.TheVariants.{Cycle};
 ghost use Rattle.guppy.specs.Ids.{IsKnown};
 ghost use Rattle.guppy_publish.specs.Needs.{pair_texts};
+ghost use Rattle.guppy_command.specs.Cause.{library};
 ghost use Rattle.guppy_command.specs.Ids.{has_id};
 ghost use Rattle.guppy_program.specs.Format.{Format as FormatOf, IsAskingFault, IsReadingFault, IsUnclear};
 ghost use Rattle.guppy_command.specs.Shown.{asked_shown};
@@ -21,8 +24,8 @@ pub trait Format {
     type Names: Drop;
 
     /// What arguments ask, or with which fault they are refused; which records an input says, or with which fault it is
-    /// refused; which members it says declare which others; which text is printed for a package, which packages a word may mean, and what is told of one that means
-    /// none.
+    /// refused; which members it says declare which others; which text is printed for a package, which packages a word
+    /// may mean, and what is told of one that means none, and of a cycle.
     ghost format: { FormatOf Self.Fault };
 
     /// The names are those of these packages.
@@ -61,6 +64,12 @@ pub trait Format {
     fn text_of<'a>(names: &'a Self::Names, id: &'a PackageId) -> &'a str
         ensures { (packages : List PackageData) → are_names names.now packages
             → result.now ≡ format.text packages id.now };
+
+    /// The fault that tells a cycle over links that aren't dev-only, of the packages with these IDs: by the text of what
+    /// they are called, or by the IDs.
+    fn cycle(ids: Vec<PackageId>, round: String) -> Self::Fault
+        ensures cause { Self.Fault.cause result ≡ library (PackageGraphInternalError (Cycle ids)) }
+        ensures told { format.tells_cycle ids (string_bytes round) result };
 
     /// The ID of the package that the word means, where it means one alone. Takes memory for the ID, and
     /// for a fault.

@@ -7,7 +7,7 @@
 //! - `format`: what differs between programs: what they are asked, how they read their input and what they call
 //!   packages;
 //! - `answer`: what a command answers of a package graph; `publish`: of the order in which members can be
-//!   published; `why`: of how one package depends on another;
+//!   published; `why`: of how one package depends on another; `verify`: what is told of a graph that isn't verified;
 //! - `members`: the members of the workspace in that;
 //! - `print`: how it is printed;
 //! - `program`: a program;
@@ -23,6 +23,7 @@ pub mod print;
 pub mod process;
 pub mod program;
 mod publish;
+mod verify;
 mod why;
 
 pub use answer::{Answer, Step};

@@ -6,7 +6,7 @@ ghost use Rattle.guppy_data.specs.declared.texts.error.Error.TheVariants.{OutOfM
 ghost use Rattle.guppy_command.specs.Cause.{Cause, library, bad_arguments, output_failed, caused, is_input_fault, is_output_fault};
 ghost use Rattle.guppy_program.specs.Loaded.{AreAskedOf, IsLoaded, IsLoadFault, reads_details};
 ghost use Rattle.guppy_program.specs.Answer.{IsAnswer, IsCommandFault};
-ghost use Rattle.guppy_program.specs.Printed.{IsPrinted};
+ghost use Rattle.guppy_program.specs.Printed.{IsPrinted, called};
 ghost use Rattle.guppy_command.specs.Shown.{asked_shown, command_shown};
 ghost use Rattle.guppy_program.specs.Run.{IsAnswerTo, IsAnswerOf, IsAnswerFault, IsFaultOf, IsSourceFault, IsAnswered, IsBegun, IsRun, IsRunFault, OfWholeInput, WritesNothing};
 
@@ -98,10 +98,11 @@ fn answer_text<F: Format>(
     requires distinct { DistinctBelow graph.now.packages (length graph.now.packages) }
     ensures ok { IfOk result (λ text. IsAnswerOf F.format (asked_shown asked.now) graph.now
         (string_bytes text)) }
-    ensures err { IfErr result (λ fault. IsCommandFault F.format (asked_shown asked.now).command
-        graph.now fault (F.Fault.cause fault)) }
+    ensures err { IfErr result (λ fault. IsCommandFault F.format
+        (called (asked_shown asked.now).options (F.format.text graph.now.packages))
+        (asked_shown asked.now).command graph.now fault (F.Fault.cause fault)) }
 {
-    let answer = answer_of::<F>(alloc, graph, names, &asked.command)?;
+    let answer = answer_of::<F>(alloc, graph, names, &asked.options, &asked.command)?;
     let answer = passed_on(shown(graph, asked.options, answer))?;
     match printed::<F>(alloc, &asked.options, names, &answer) {
         Ok(text) => Ok(text),
@@ -190,7 +191,7 @@ pub fn run_with<F: Format, D: Files, R: Source, W: Sink>(
     // The fault is why the arguments ask nothing. Or they ask something, all input was read, and the fault is why the
     // input says no records, or the first fault of its records, or where they have none, the first word of the command
     // that doesn't mean one package or, for `verify` and `publish-order` alone, a fault that the graph's `verify` may
-    // tell. Or memory ran out.
+    // tell, or, of the members that can be published, the first that needs one that can't. Or memory ran out.
     ensures fault { (fault : F.Fault) → result ≡ Err fault
         → IsRunFault F.format (D.has files.now) (map string_bytes args.now) (R.left reader.old)
         (R.left reader.new) fault (F.Fault.cause fault) }

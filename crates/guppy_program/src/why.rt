@@ -1,5 +1,5 @@
 //! Why one package depends on another: a shortest walk of links between them.
-ghost use Rattle.std.specs.Prelude.{◌≡◌, ◌⊎◌, not, map, All, IfOk, IfErr, IfSome, IfNone, IsOkUnless};
+ghost use Rattle.std.specs.Prelude.{◌≡◌, ◌⊎◌, ℕ, List, not, map, All, IfOk, IfErr, IfSome, IfNone, IsOkUnless};
 ghost use Rattle.guppy_data.specs.DependencyReq.{seen_req};
 ghost use Rattle.guppy_data.specs.declared.texts.error.Error.TheVariants.{OutOfMemory};
 ghost use Rattle.guppy.specs.DevOnly.{is_absent};
@@ -111,8 +111,8 @@ pub(crate) fn why<'g, F: Format>(
     requires { F.are_names names.now graph.now.packages }
     ensures ok { IfOk result (λ answer. IsWhyAnswer graph.now (F.format.meant graph.now.packages)
         from.now to.now (answer_shown answer)) }
-    ensures err { IfErr result (λ fault. IsCommandFault F.format (why from.now to.now) graph.now
-        fault (F.Fault.cause fault)) }
+    ensures err { (call : List ℕ → List ℕ) → IfErr result (λ fault. IsCommandFault F.format call
+        (why from.now to.now) graph.now fault (F.Fault.cause fault)) }
 {
     let start = F::find(alloc, graph, names, from)?;
     let end = F::find(alloc, graph, names, to)?;

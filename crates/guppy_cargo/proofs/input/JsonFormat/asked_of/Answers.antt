@@ -2,7 +2,7 @@ use Rattle.std.proofs.Common.{ℕ, List, map, string_bytes}
 use Rattle.std.proofs.lemmas.Result.{IfErr-weaker}
 use Rattle.guppy_program.specs.Format.{IsAskingFault}
 use Rattle.guppy_arguments.specs.declared.fault.CargoFault.{CargoFault}
-use Rattle.guppy_arguments.specs.declared.fault.CargoFault.TheVariants.{Program, Ambiguous, Unknown, Arguments, Metadata, NoText}
+use Rattle.guppy_arguments.specs.declared.fault.CargoFault.TheVariants.{Program, Ambiguous, Unknown, Cycle, Arguments, Metadata, NoText}
 use Rattle.guppy_arguments.specs.Fault.{cause_of}
 use Rattle.guppy_arguments.specs.Told.{Tells}
 use Rattle.guppy_cargo.specs.Json.{json_format}
@@ -13,6 +13,7 @@ misread has args (Arguments fault) tells = tells
 misread has args (Program fault) is = rw is tt
 misread has args (Ambiguous word choices) tells = tells
 misread has args (Unknown word nearest) tells = tells
+misread has args (Cycle ids round) tells = tells
 misread has args (Metadata fault) tells = tells
 misread has args NoText tells = tells
 
