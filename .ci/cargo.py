@@ -48,9 +48,11 @@ TARGETS_FOLDERS = ("src", "tests", "examples", "benches")
 
 # The commands, and what is told of words that are none of theirs.
 COMMANDS = "affected publish-order depends why reach order roots links cycles duplicates dot verify".split()
+EVERY_COMMANDS = "--kinds --platform --cfgs --host --host-cfgs --workspace --ids".split()
 NO_COMMAND = "give a command: guppy-cargo help lists them"
 NO_KIND = "other is no kind: give some of normal,build,dev, separated by commas"
 NO_CFGS = "give --cfgs FILE behind each --platform TRIPLE"
+NO_HOST = "give both --host TRIPLE and --host-cfgs FILE"
 NO_PATHS = "affected needs a path, --paths-from FILE or, of the scripts, --since REVISION"
 CYCLE = "error: cycle over links that are not dev-only: "
 NO_NULS = "its paths aren't each ended by a NUL: give it what git writes with -z"
@@ -502,6 +504,11 @@ def try_platforms(graph):
             (f"order --platform x --cfgs {bad} --platform y", NO_CFGS),
             ("order --platform x --cfgs no/such", "no/such: the cfgs in it can't be read"),
             (f"--platform x --cfgs={bad} order", "x: line 2 of its cfgs is neither a name nor a key with a value"),
+            ("order --host x", NO_HOST),
+            (f"--host-cfgs {bad} order", NO_HOST),
+            ("order --host=x --host=y", "--host is given twice"),
+            ("order --host x --host-cfgs no/such", "no/such: the cfgs in it can't be read"),
+            (f"order --host x --host-cfgs {bad}", "x: line 2 of its cfgs is neither a name nor a key with a value"),
         ):
             yield words, (2, "", f"error: {fault}\n"), run(words.split(), given)
 
@@ -581,7 +588,7 @@ def try_help(graph):
     yield "help, lines of more than 90 letters", [], [it for it in told.splitlines() if len(it) > 90]
     for command, own in (("order", []), ("publish-order", ["--publishable"]), ("affected", ["--ignore", "--paths-from"])):
         options = re.findall(r"^  (--[a-z-]+)", run(["help", command], b"")[1], re.M)
-        yield f"help {command}, its options", ["--kinds", "--platform", "--cfgs", "--workspace", "--ids", *own], options
+        yield f"help {command}, its options", [*EVERY_COMMANDS, *own], options
     with open(os.path.join(HERE, "../docs/PROGRAM.md"), encoding="utf-8") as page:
         rows = [it.split("|")[1] for it in page if it.startswith("| `")]
     documented = [option for it in rows for option in re.findall("--[a-z-]+", it)]
@@ -601,7 +608,7 @@ def try_help(graph):
     yield "--version", (0, "guppy-cargo of guppy 0.19.1, proved\n", ""), run(["--version"], b"")
     for words, fault in (
         ("help no-such", "help is no command: guppy-cargo help lists them"),
-        ("--help order roots", "--help is no option: guppy-cargo help lists them"),
+        ("--help order roots", "--help is no option: the nearest is --host"),
     ):
         yield words, (2, "", f"error: {fault}\n"), run(words.split(), graph.text.encode())
 

@@ -74,6 +74,12 @@ WRONG = [
     ("order --cfgs x", "--cfgs goes behind --platform TRIPLE"),
     ("--platform x --ids --cfgs x order", "--cfgs goes behind --platform TRIPLE"),
     ("order --platform x --cfgs no/such", "no/such: the cfgs in it can't be read"),
+    ("order --host", "--host needs a value"),
+    ("order --host= --ids", "--host needs a value"),
+    ("order --host-cfgs x", "give both --host TRIPLE and --host-cfgs FILE"),
+    ("order --host x --host y --host-cfgs z", "--host is given twice"),
+    ("order --host-cfgs no/such --host x", "no/such: the cfgs in it can't be read"),
+    ("order --host x --host-cfgs - --metadata -", "standard input can't be read for --host-cfgs and --metadata"),
     ("order --platform x --cfgs - --metadata -", "standard input can't be read for --cfgs and --metadata"),
     ("affected --paths-from", "--paths-from needs a value"),
     ("affected --paths-from - --metadata -", "standard input can't be read for --paths-from and --metadata"),
@@ -97,20 +103,23 @@ APART = {
     "m": '[target."cfg(windows)".dependencies]\nb.path = "../b"\n[dev-dependencies]\nb.path = "../b"\n',
     "n": '[dependencies]\nm.path = "../m"\n',
 }
-# Members of which some run on the host: what `s` is built with, the macro `p`, and what these need there.
+# Members of which some run on the host: what `s` is built with, the macro `p`, and what these need there. They need `i` on
+# another platform than those that are tried.
 HOSTED = {
     "d": "",
     "e": "",
     "f": '[target."cfg(unix)".dependencies]\nd.path = "../d"\n[target."cfg(unix)".dev-dependencies]\ng.path = "../g"\n',
     "g": "",
-    "p": '[lib]\nproc-macro = true\n[target."cfg(unix)".dependencies]\ne.path = "../e"\n[dev-dependencies]\nf.path = "../f"\n',
-    "s": '[target."cfg(unix)".build-dependencies]\nf.path = "../f"\n',
+    "h": "",
+    "i": "",
+    "p": '[lib]\nproc-macro = true\n[target."cfg(unix)".dependencies]\ne.path = "../e"\n[target.\'cfg(target_os = "macos")\'.dependencies]\ni.path = "../i"\n[dev-dependencies]\nf.path = "../f"\n',
+    "s": '[target."cfg(unix)".build-dependencies]\nf.path = "../f"\n[target."cfg(windows)".build-dependencies]\nh.path = "../h"\n',
     "u": '[dependencies]\np.path = "../p"\n',
     "w": '[target."cfg(unix)".dependencies]\ng.path = "../g"\n',
 }
-# What is told beyond what cargo builds: `f` needs these for its own tests, or where it is built for the target, on unix
-# alone.
-BEYOND = {("d", "f"), ("g", "f")}
+# What is told on Windows beyond what cargo builds there: `f` needs these for its own tests, or where it is built for the
+# target, on unix alone, and the target is asked about what `s` is built with, too.
+BEYOND = {("d", "f"), ("g", "f"), ("h", "s")}
 HOOK = b"0000 1111 refs/heads/main\n"
 
 
@@ -311,12 +320,38 @@ def try_host(world):
     make(top, HOSTED)
     (top / "s/build.rs").write_text("fn main() {}\n")
     world.build()
-    for triple in ("x86_64-unknown-linux-gnu", "x86_64-pc-windows-msvc"):
+    linux, windows = "x86_64-unknown-linux-gnu", "x86_64-pc-windows-msvc"
+    for triple in (linux, windows):
         built = {it: tested_with(top, it, triple) for it in HOSTED}
         for member in HOSTED:
             got = lines(world.run(["guppy-cargo", "affected", f"{member}/src/lib.rs", "--platform", triple], where=top))
-            wanted = [it for it in sorted(HOSTED) if member in built[it] or (member, it) in BEYOND]
+            beyond = BEYOND if triple == windows else ()
+            wanted = [it for it in sorted(HOSTED) if member in built[it] or (member, it) in beyond]
             yield f"affected {member} on {triple}", sorted(got) == wanted, (got, built)
+    for triple in (linux, windows):
+        with (world.room / triple).open("w") as held:
+            subprocess.run(["rustc", "--print", "cfg", "--target", triple], stdout=held, check=True)
+    on_linux = ["--platform", linux, "--cfgs", str(world.room / linux)]
+    with_windows = ["--host-cfgs", str(world.room / windows)]
+    for member, words, wanted in (
+        # Nothing is known of the host where rustc isn't asked.
+        ("h", on_linux, "hs"),
+        ("i", on_linux, "ipu"),
+        ("h", [*on_linux, "--host", linux, f"--host-cfgs={world.room / linux}"], "h"),
+        ("i", [*on_linux, "--host", linux, f"--host-cfgs={world.room / linux}"], "i"),
+        ("h", [*on_linux, "--host", windows, *with_windows], "hs"),
+        ("i", [*with_windows, f"--host={windows}", *on_linux], "i"),
+        # Rustc is asked about the host that is named.
+        ("h", [*on_linux, "--host", windows], "hs"),
+        ("h", [*on_linux, f"--host={linux}"], "h"),
+        ("h", ["--host", windows, "--platform", linux], "hs"),
+        ("h", ["--host", windows, *with_windows, "--platform", linux], "hs"),
+        # Where no platform is named, all counts.
+        ("h", ["--host", linux], "hs"),
+    ):
+        got = lines(world.run(["guppy-cargo", "affected", f"{member}/src/lib.rs", *words], where=top))
+        yield f"affected {member} {words}", sorted(got) == list(wanted), got
+    yield "no file of the host is left", not world.left(), world.left()
 
 
 def try_given(world):

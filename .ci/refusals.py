@@ -68,7 +68,7 @@ COMMANDS = [
     "verify",
     "publish-order",
     "publish-order --publishable",
-    "--platform x --cfgs CFGS --platform y --cfgs CFGS order",
+    "--platform x --cfgs CFGS --platform y --cfgs CFGS --host z --host-cfgs CFGS order",
 ]
 # The link of the graph that makes a cycle over links that aren't dev-only, and what ends in a fault for that.
 TURNING = "link c b normal\n"

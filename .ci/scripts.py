@@ -295,6 +295,9 @@ def try_run_platforms(world, **how):
         ("--platform x86_64-unknown-linux-gnu order", (0, "a\nb\n", "")),
         (f"--ids --platform=x86_64-pc-windows-gnu --platform x --cfgs={on} order", (0, "a\nb\n", "")),
         (f"--platform x --cfgs {world.room / 'none'} order", (2, "", "error: bad arguments\n")),
+        (f"--host x86_64-unknown-linux-gnu --platform x --cfgs={on} order", (0, "a\nb\n", "")),
+        (f"--host=x --host-cfgs {on} --platform x --cfgs={on} order", (0, "a\nb\n", "")),
+        (f"--host-cfgs {on} order", (2, "", "error: bad arguments\n")),
         ("--platform", (2, "", "error: bad arguments\n")),
     ):
         with lines.open("rb") as given:

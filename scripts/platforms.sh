@@ -38,44 +38,78 @@ print_cfgs() {
     fi
 }
 
-# Adds to platforms the words that name each of these, each in quotes for the shell and followed by a space: what rustc
-# says is set there is in a file that is gone at once, but for who has it open.
+# Prints what rustc says is set on the host: cargo gives no flags for what runs there, where it builds for a platform
+# that is named.
+print_host_cfgs() {
+    "$RUSTC" --print cfg --target "$1" < /dev/null
+}
+
+# Ends where rustc can't be asked what is set on the platform, the third word, which goes behind the first, and a file
+# behind the second.
+need_rustc() {
+    help="give what it prints for $3 by $1 $3 $2 FILE"
+    [ "$next" -le 9 ] || fail "rustc is asked about six platforms at most, the host among them: $help"
+    command -v "${RUSTC:=rustc}" > /dev/null || fail "rustc is not on the path: put it there, or $help"
+}
+
+# Adds to platforms the words that name this one, behind the first word, and behind the second its file, each in quotes
+# for the shell and followed by a space: what the third prints of the fourth is in a file that is gone at once, but for
+# who has it open.
+take_asked() {
+    need_rustc "$1" "$2" "$4"
+    cfgs=$(mktemp) || fail "no temporary file can be made"
+    eval "exec $next<> \"\$cfgs\""
+    rm -f "$cfgs"
+    "$3" "$4" >&"$next" || fail "rustc does not say what is set for the platform $4, and says above why"
+    platforms=$platforms$(quote "$1" "$4" "$2" "/dev/fd/$next")
+    next=$((next + 1))
+}
+
+# Adds to platforms the words that name each of these.
 take_platforms() {
     for platform do
-        [ "$next" -le 9 ] ||
-            fail "rustc is asked about six platforms at most: give what it prints for $platform by --platform $platform --cfgs FILE"
-        command -v "${RUSTC:=rustc}" > /dev/null ||
-            fail "rustc is not on the path: put it there, or give what it prints for $platform by --platform $platform --cfgs FILE"
-        cfgs=$(mktemp) || fail "no temporary file can be made"
-        eval "exec $next<> \"\$cfgs\""
-        rm -f "$cfgs"
-        print_cfgs "$platform" >&"$next" ||
-            fail "rustc does not say what is set for the platform $platform, and says above why"
-        platforms=$platforms$(quote --platform "$platform" --cfgs "/dev/fd/$next")
-        next=$((next + 1))
+        take_asked --platform --cfgs print_cfgs "$platform"
     done
 }
 
-# Adds to platforms the words that name this one, with a file where the word behind it is no --cfgs.
+# Adds to platforms the words that name the host, where one is given.
+take_hosts() {
+    for platform do
+        take_asked --host --host-cfgs print_host_cfgs "$platform"
+    done
+}
+
+# Adds to platforms the words that name the host on which rustc runs, where it can be asked.
+take_own_host() {
+    need_rustc --platform --cfgs "$1"
+    host=$("$RUSTC" -vV < /dev/null | sed -n 's/^host: //p')
+    [ -z "$host" ] || take_hosts "$host"
+}
+
+# Adds to platforms the words that name this one, behind the first word, with a file where the word behind it names
+# none.
 take_platform() {
-    case $2 in
-    --cfgs | --cfgs=*) platforms=$platforms$(quote --platform "$1") ;;
-    *) take_platforms "$1" ;;
+    case $1,$3 in
+    --platform,--cfgs | --platform,--cfgs=* | --host,--host-cfgs | --host,--host-cfgs=*)
+        platforms=$platforms$(quote "$1" "$2")
+        ;;
+    --platform,*) take_platforms "$2" ;;
+    *) take_hosts "$2" ;;
     esac
 }
 
 # Sets platforms to the options in front of the words, each in quotes for the shell and followed by a space, with a file for
-# each platform behind which no --cfgs stands, and count to how many words they were.
+# each platform behind which no --cfgs stands, as for the host, and count to how many words they were.
 take_options() {
     platforms= count=$#
     while [ $# -gt 0 ]; do
         case $1 in
-        --platform=?*) take_platform "${1#*=}" "${2-}" ;;
+        --platform=?* | --host=?*) take_platform "${1%%=*}" "${1#*=}" "${2-}" ;;
         --*=* | --workspace | --ids) platforms=$platforms$(quote "$1") ;;
         --?*)
             [ $# -gt 1 ] || break
             case $1,$2 in
-            --platform,?*) take_platform "$2" "${3-}" ;;
+            --platform,?* | --host,?*) take_platform "$1" "$2" "${3-}" ;;
             *) platforms=$platforms$(quote "$1" "$2") ;;
             esac
             shift

@@ -16,17 +16,17 @@ tell() {
 # Prints lines that sort the words: each says of what kind its words are (asked: options of the program), and has the second word as "${2}", for which
 # the shell puts that word. (A list that grows word by word would take minutes with some thousand paths.)
 sort_words() {
-    at=0 option= given= for_cargo= input= platform=
+    at=0 option= given= for_cargo= input= platform= host= host_cfgs=
     for word do
         at=$((at + 1))
         case $option,$word in ,--cfgs | ,--cfgs=*) ;; ,*) name_platform ;; esac
         case $option,$word in
         ,--metadata | ,--since | ,--manifest-path | ,--filter-platform | ,--features | ,-F | ,--paths-from | ,--kinds | \
-            ,--platform | ,--cfgs)
+            ,--platform | ,--cfgs | ,--host | ,--host-cfgs)
             option=$word
             ;;
         ,--metadata=* | ,--since=* | ,--manifest-path=* | ,--filter-platform=* | ,--features=* | ,-F=* | ,--paths-from=* | \
-            ,--kinds=* | ,--platform=* | ,--cfgs=*)
+            ,--kinds=* | ,--platform=* | ,--cfgs=* | ,--host=* | ,--host-cfgs=*)
             sort_option "${word%%=*}" "${word#*=}" "\"\${$at#*=}\""
             ;;
         ,-F?*) sort_option -F "${word#-F}" "\"\${$at#-F}\"" ;;
@@ -41,6 +41,7 @@ sort_words() {
     done
     [ -z "$option" ] || refuse "$option needs a value"
     name_platform
+    name_host
     [ -z "$for_cargo" ] || [ "$given" = "${given#*--metadata}" ] ||
         refuse "--metadata can't be used with $for_cargo: cargo is not asked then"
     case $input in ?*' '?*) refuse "standard input can't be read for $input" ;; esac
@@ -52,13 +53,20 @@ name_platform() {
     platform=
 }
 
+# Prints the line for the host, where one is named: rustc is asked about it where no --host-cfgs is there.
+name_host() {
+    [ -z "$host" ] || echo "${host_cfgs:-host} $host"
+}
+
 # Prints the line for one of the options. The second word is its value, and the third stands for that.
 sort_option() {
     value=$3
     case $1,$2 in
     --metadata,- | --metadata,/dev/stdin) input=${input:+$input and }$1 value=- ;;
-    --paths-from,- | --paths-from,/dev/stdin | --cfgs,- | --cfgs,/dev/stdin) input=${input:+$input and }$1 value=/dev/fd/3 ;;
-    --platform,) refuse "$1 needs a value" ;;
+    --paths-from,- | --paths-from,/dev/stdin | --cfgs,- | --cfgs,/dev/stdin | --host-cfgs,- | --host-cfgs,/dev/stdin)
+        input=${input:+$input and }$1 value=/dev/fd/3
+        ;;
+    --platform, | --host,) refuse "$1 needs a value" ;;
     esac
     case $1 in
     --paths-from)
@@ -77,6 +85,16 @@ sort_option() {
         [ -n "$platform" ] || refuse "--cfgs goes behind --platform TRIPLE"
         echo "asked --platform $platform $1 $value"
         platform=
+        return
+        ;;
+    --host)
+        [ -z "$host" ] || echo "asked $1 $host"
+        host=$value
+        return
+        ;;
+    --host-cfgs)
+        echo "asked $1 $value"
+        host_cfgs="asked --host"
         return
         ;;
     --workspace | --ids)
@@ -123,6 +141,21 @@ refuses() {
     [ $? -eq 2 ]
 }
 
+# Whether the words say something of the host.
+names_host() {
+    case $sorted in *"asked --host"*) return 0 ;; esac
+    [ -n "$(of_kind host)" ]
+}
+
+# Sets platforms to what the program is told of platforms that rustc is asked about, as the words say: of the host that
+# they name, or its own where they name none, and of the others.
+ask_rustc() {
+    platforms= named=$(of_kind named)
+    [ -z "$named" ] || names_host || eval "take_own_host $named"
+    eval "take_hosts $(of_kind host)"
+    eval "take_platforms $named"
+}
+
 # Ends as the program does with the words, on the metadata that they want.
 answer() {
     sorted=$(sort_words "$@") || exit
@@ -130,13 +163,13 @@ answer() {
     manifest=$(eval "quote $(of_kind manifest)")
     features=$(eval "quote $(of_kind features)")
     others=$(eval "quote $(of_kind others)")
-    platforms= asks_cargo=
+    asks_cargo=
     [ -n "$metadata" ] || asks_cargo=1
-    eval "take_platforms $(of_kind named)"
+    ask_rustc "$@"
     # The command stands first: the program takes its options behind it too.
     eval "set -- $(of_kind left) $(of_kind asked) $platforms"
     # Nothing else depends on what standard input is.
-    case $sorted in *"left --paths-from /dev/fd/3"* | *" --cfgs /dev/fd/3"*) exec 3<&0 ;; esac
+    case $sorted in *"left --paths-from /dev/fd/3"* | *"cfgs /dev/fd/3"*) exec 3<&0 ;; esac
     [ "$metadata" = - ] || exec < /dev/null
     ! asks_for_help "$@" || run "$@"
     root=

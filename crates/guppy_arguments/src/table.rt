@@ -5,7 +5,7 @@ ghost use Rattle.guppy_arguments.specs.Table.{cargo_program, usage_of};
 
 use guppy_command::grammar::{OptionRow, Program};
 use guppy_command::table::{
-    CFGS, IDS, IGNORE, KINDS, PATHS_FROM, PLATFORM, PUBLISHABLE, WORKSPACE,
+    CFGS, HOST, HOST_CFGS, IDS, IGNORE, KINDS, PATHS_FROM, PLATFORM, PUBLISHABLE, WORKSPACE,
 };
 
 /// The options, each with its value, whether it may come again, the commands that take it, where not all do, and its
@@ -31,6 +31,21 @@ pub const OPTIONS: &[OptionRow] = &[
         true,
         None,
         "what rustc --print cfg prints for the platform; the scripts ask rustc where none\n      is given",
+    ),
+    (
+        HOST,
+        Some("TRIPLE"),
+        false,
+        None,
+        "the platform that builds, on which what runs there counts, with its --host-cfgs; the\n      \
+         scripts ask rustc where none is given",
+    ),
+    (
+        HOST_CFGS,
+        Some("FILE"),
+        false,
+        None,
+        "what rustc --print cfg prints for the host",
     ),
     (
         WORKSPACE,

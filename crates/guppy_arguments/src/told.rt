@@ -62,6 +62,8 @@ pub enum ArgumentsFault {
     BadKinds(String),
     /// There is a platform without a file that has what is set there, or such a file without a platform.
     LonePlatform,
+    /// The host has no file with what is set there, or there is such a file without a host.
+    LoneHost,
     /// The folder to leave out is the whole workspace, or none.
     AllIgnored(String),
     /// No path is given.
@@ -125,6 +127,9 @@ impl fmt::Display for ArgumentsFault {
             ),
             ArgumentsFault::LonePlatform => {
                 f.write_str("give --cfgs FILE behind each --platform TRIPLE")
+            }
+            ArgumentsFault::LoneHost => {
+                f.write_str("give both --host TRIPLE and --host-cfgs FILE")
             }
             ArgumentsFault::AllIgnored(folder) => {
                 write!(f, "--ignore {folder} leaves out everything: give a folder")
@@ -214,6 +219,7 @@ fn told(alloc: Global, misread: Misread<'_>) -> Result<ArgumentsFault, AllocErro
         Misread::BadWords(command) => Ok(ArgumentsFault::BadWords(copy(command)?)),
         Misread::BadKinds(value) => Ok(ArgumentsFault::BadKinds(copy(value)?)),
         Misread::LonePlatform => Ok(ArgumentsFault::LonePlatform),
+        Misread::LoneHost => Ok(ArgumentsFault::LoneHost),
         Misread::AllIgnored(folder) => Ok(ArgumentsFault::AllIgnored(copy(folder)?)),
         Misread::NoPaths => Ok(ArgumentsFault::NoPaths),
         Misread::CfgsFailed(file) => Ok(ArgumentsFault::CfgsFailed(copy(file)?)),

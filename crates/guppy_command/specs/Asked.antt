@@ -8,25 +8,27 @@ use Rattle.guppy_data.specs.Platform.{Question, OnAny, OnPlatforms}
 use Rattle.guppy_target.specs.Platform.{PlatformData, IsFirstFault}
 use Rattle.guppy_command.specs.declared.options.Kinds.{Kinds}
 use Rattle.guppy_command.specs.declared.options.Options.{Options}
-use Rattle.guppy_command.specs.declared.table.TheConstants.{KINDS, PLATFORM, CFGS, WORKSPACE, IDS, PUBLISHABLE, IGNORE, PATHS_FROM}
-use Rattle.guppy_command.specs.Grammar.{OptionRow, Program, Argument, option, word, Misread, not_taken, repeated, no_command, unknown_command, bad_words, bad_kinds, lone_platform, all_ignored, no_paths, cfgs_failed, bad_cfg, paths_failed, unended_paths, called, Reads}
+use Rattle.guppy_command.specs.declared.table.TheConstants.{KINDS, PLATFORM, CFGS, HOST, HOST_CFGS, WORKSPACE, IDS, PUBLISHABLE, IGNORE, PATHS_FROM}
+use Rattle.guppy_command.specs.Grammar.{OptionRow, Program, Argument, option, word, Misread, not_taken, repeated, no_command, unknown_command, bad_words, bad_kinds, lone_platform, lone_host, all_ignored, no_paths, cfgs_failed, bad_cfg, paths_failed, unended_paths, called, Reads}
 use Rattle.guppy_command.specs.Command.{Command, affected, command_of, from_root}
 use Rattle.guppy_command.specs.Options.{kinds_of}
 use Rattle.guppy_command.specs.Paths.{are_ended, paths_of}
 use Rattle.guppy_command.specs.Platforms.{IsPlatform}
 
--- what is asked of every command, the platforms by their names, each with the file that says what is set there, the
--- command, and the files that have more paths
+-- what is asked of every command, the platforms by their names, each with the file that says what is set there, so
+-- the host, where it is named, the command, and the files that have more paths
 pub record Wanted : Type 0 where
   pub options : Options
   pub platforms : List (List ℕ × List ℕ)
+  pub host : List (List ℕ × List ℕ)
   pub command : Command
   pub path_files : List (List ℕ)
 
--- what is asked of every command, the platforms on which links count, and the command
+-- what is asked of every command, the platforms on which links count, the host, and the command
 pub record Asked : Type 0 where
   pub options : Options
   pub question : Question PlatformData
+  pub host : Question PlatformData
   pub command : Command
 
 infixl 10 ◌>>=◌
@@ -100,10 +102,18 @@ abbrev pub kinds_in : List (List ℕ) → Result (Option Kinds) Misread
 kinds_in [] = Ok None
 kinds_in (value ∷ values) = option_map_or (λ kinds. Ok (Some kinds)) (kinds_of value) (Err (bad_kinds value))
 
+-- the values of the one option, each with that of the other at the same place, where there are as many of both
+abbrev pub pairs_in : List ℕ → List ℕ → List Argument → Option (List (List ℕ × List ℕ))
+pairs_in name other given = if length (values_of name given) == length (values_of other given)
+    then Some (zip (values_of name given) (values_of other given)) else None
+
 -- the platforms, each with its file
 abbrev pub platforms_in : List Argument → Result (List (List ℕ × List ℕ)) Misread
-platforms_in given = if length (values_of PLATFORM.now given) == length (values_of CFGS.now given)
-    then Ok (zip (values_of PLATFORM.now given) (values_of CFGS.now given)) else Err lone_platform
+platforms_in given = option_map_or (λ pairs. Ok pairs) (pairs_in PLATFORM.now CFGS.now given) (Err lone_platform)
+
+-- the host with its file, where it is named
+abbrev pub host_in : List Argument → Result (List (List ℕ × List ℕ)) Misread
+host_in given = option_map_or (λ pairs. Ok pairs) (pairs_in HOST.now HOST_CFGS.now given) (Err lone_host)
 
 -- how an answer is shown, and of which links
 abbrev pub options_in : List Argument → Result Options Misread
@@ -143,10 +153,12 @@ wanted_of p given = command_in p (words_in given) >>= λ found.
     all_judged p.options found.0 given >>= λ _.
     options_in given >>= λ options.
     platforms_in given >>= λ platforms.
+    host_in given >>= λ host.
     asked_by given found.0 found.1 >>= λ command.
     Ok (record {
       options = options;
       platforms = platforms;
+      host = host;
       command = command;
       path_files = values_of PATHS_FROM.now given;
     })
@@ -183,6 +195,9 @@ module _ (has_bytes : List ℕ → List ℕ → Type 0) where
     pub platforms : List PlatformData
     pub named : AllZip IsNamed wanted.platforms platforms
     pub question : asked.question ≡ question_on platforms
+    pub hosts : List PlatformData
+    pub host_named : AllZip IsNamed wanted.host hosts
+    pub host : asked.host ≡ question_on hosts
     pub lists : List (List ℕ)
     pub read : AllZip HasPaths wanted.path_files lists
     pub command : asked.command ≡ with_paths (flat_map paths_of lists) wanted.command
@@ -204,7 +219,7 @@ module _ (has_bytes : List ℕ → List ℕ → Type 0) where
   -- why a file that is named doesn't have what is wanted
   abbrev pub IsUnfound : Wanted → Misread → Type 0
   IsUnfound wanted misread = IsOfOne IsPlatformFault wanted.platforms misread
-      ⊎ IsOfOne IsPathsFault wanted.path_files misread
+      ⊎ (IsOfOne IsPlatformFault wanted.host misread ⊎ IsOfOne IsPathsFault wanted.path_files misread)
 
   -- the words ask this, of which the files that they name have some
   pub record Asks (p : Program) (words : List (List ℕ)) (asked : Asked) : Type 0 where

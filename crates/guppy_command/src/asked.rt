@@ -1,14 +1,16 @@
 //! What arguments ask.
 ghost use Rattle.std.specs.Prelude.{◌≡◌, map, string_bytes, option_map, IfOk};
 ghost use Rattle.std.specs.List.{filter_map, find, zip};
-ghost use Rattle.guppy_command.specs.Asked.{word_of, value_for, picked, is_option, values_of, has, is_among, takes, may_repeat, command_in, judged, all_judged, kinds_in, platforms_in, options_in, has_paths, affected_of, asked_by, wanted_of, is_all};
+ghost use Rattle.guppy_command.specs.Asked.{word_of, value_for, picked, is_option, values_of, has, is_among, takes, may_repeat, command_in, judged, all_judged, kinds_in, pairs_in, platforms_in, host_in, options_in, has_paths, affected_of, asked_by, wanted_of, is_all};
 ghost use Rattle.guppy_command.specs.Command.{from_root};
 ghost use Rattle.guppy_command.specs.Shown.{argument_shown, row_shown, program_shown, command_shown, wanted_shown, texts, Gives};
 
 use crate::command::{Command, command_of, from_root};
 use crate::grammar::{Argument, Misread, OptionRow, Program, called};
 use crate::options::{Kinds, Options, kinds_of};
-use crate::table::{CFGS, IDS, IGNORE, KINDS, PATHS_FROM, PLATFORM, PUBLISHABLE, WORKSPACE};
+use crate::table::{
+    CFGS, HOST, HOST_CFGS, IDS, IGNORE, KINDS, PATHS_FROM, PLATFORM, PUBLISHABLE, WORKSPACE,
+};
 use guppy_data::PlatformSpec;
 use guppy_target::Platform;
 use std::alloc::{AllocError, Global};
@@ -20,6 +22,8 @@ pub struct Wanted<'a> {
     pub options: Options,
     /// The platforms by their names, each with the file that says what is set there.
     pub platforms: Vec<(&'a str, &'a str)>,
+    /// The host, where it is named, with the file that says what is set there.
+    pub host: Vec<(&'a str, &'a str)>,
     /// The command.
     pub command: Command<'a>,
     /// The files that have more paths.
@@ -33,6 +37,8 @@ pub struct Asked<'a> {
     pub options: Options,
     /// The platforms on which links count.
     pub platforms: PlatformSpec<Platform>,
+    /// The host, on which what is built to run there counts, too, or any where it isn't named.
+    pub host: PlatformSpec<Platform>,
     /// The command.
     pub command: Command<'a>,
 }
@@ -230,6 +236,25 @@ fn paired<'a>(
     Ok(pairs)
 }
 
+// The values of the option, each with that of the other one at the same place, where there are as many of both.
+fn pairs_in<'a>(
+    alloc: Global,
+    name: &str,
+    other: &str,
+    given: &[Argument<'a>],
+) -> Result<Option<Vec<(&'a str, &'a str)>>, AllocError>
+    ensures { IfOk result (λ pairs. option_map (λ pairs. map (λ named. (named.0.now, named.1.now)) pairs.items) pairs
+        ≡ pairs_in name.now other.now (map argument_shown given.now)) }
+{
+    let values = values_of(alloc, name, given)?;
+    let others = values_of(alloc, other, given)?;
+    if values.len() == others.len() {
+        Ok(Some(paired(alloc, values.as_slice(), others.as_slice())?))
+    } else {
+        Ok(None)
+    }
+}
+
 // The platforms, each with its file.
 fn platforms_in<'a>(
     alloc: Global,
@@ -238,12 +263,23 @@ fn platforms_in<'a>(
     ensures { Gives (λ pairs. map (λ named. (named.0.now, named.1.now)) pairs.items)
         (platforms_in (map argument_shown given.now)) result }
 {
-    let triples = values_of(alloc, PLATFORM, given)?;
-    let files = values_of(alloc, CFGS, given)?;
-    if triples.len() == files.len() {
-        Ok(paired(alloc, triples.as_slice(), files.as_slice())?)
-    } else {
-        Err(Misread::LonePlatform)
+    match pairs_in(alloc, PLATFORM, CFGS, given)? {
+        Some(platforms) => Ok(platforms),
+        None => Err(Misread::LonePlatform),
+    }
+}
+
+// The host with its file, where it is named.
+fn host_in<'a>(
+    alloc: Global,
+    given: &[Argument<'a>],
+) -> Result<Vec<(&'a str, &'a str)>, Misread<'a>>
+    ensures { Gives (λ pairs. map (λ named. (named.0.now, named.1.now)) pairs.items)
+        (host_in (map argument_shown given.now)) result }
+{
+    match pairs_in(alloc, HOST, HOST_CFGS, given)? {
+        Some(host) => Ok(host),
+        None => Err(Misread::LoneHost),
     }
 }
 
@@ -347,10 +383,12 @@ pub fn wanted_of<'a>(
     judge_all(program, command, given)?;
     let options = options_in(alloc, given)?;
     let platforms = platforms_in(alloc, given)?;
+    let host = host_in(alloc, given)?;
     let command = asked_by(alloc, given, command, words)?;
     Ok(Wanted {
         options,
         platforms,
+        host,
         command,
         path_files: values_of(alloc, PATHS_FROM, given)?,
     })

@@ -173,10 +173,12 @@ fn found<'a, D: Files>(
         (IsUnfound (D.has files.now) (wanted_shown wanted.entry))) }
 {
     let platforms = platforms_of(alloc, files, wanted.platforms.as_slice())?;
+    let host = platforms_of(alloc, files, wanted.host.as_slice())?;
     let more = paths_in(alloc, files, wanted.path_files.as_slice())?;
     Ok(Asked {
         options: wanted.options,
         platforms: question_on(platforms),
+        host: question_on(host),
         command: with_paths(wanted.command, more)?,
     })
 }

@@ -59,6 +59,8 @@ pub enum Misread<'a> {
     BadKinds(&'a str),
     /// There is a platform without a file that has what is set there, or such a file without a platform.
     LonePlatform,
+    /// The host has no file with what is set there, or there is such a file without a host.
+    LoneHost,
     /// The folder to leave out is the whole workspace, or none.
     AllIgnored(&'a str),
     /// No path is given.

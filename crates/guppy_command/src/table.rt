@@ -6,6 +6,10 @@ pub const KINDS: &str = "--kinds";
 pub const PLATFORM: &str = "--platform";
 /// The file that says what is set on a platform.
 pub const CFGS: &str = "--cfgs";
+/// The host, on which what is built to run there counts.
+pub const HOST: &str = "--host";
+/// The file that says what is set on the host.
+pub const HOST_CFGS: &str = "--host-cfgs";
 /// Members of the workspace are shown alone.
 pub const WORKSPACE: &str = "--workspace";
 /// Packages are called by their IDs.

@@ -10,7 +10,7 @@ use crate::input::records_of;
 use crate::records::id_of;
 use guppy::{Error, PackageGraph, PackageId};
 use guppy_command::found::asked_of;
-use guppy_command::table::{CFGS, IDS, KINDS, PLATFORM, WORKSPACE};
+use guppy_command::table::{CFGS, HOST, HOST_CFGS, IDS, KINDS, PLATFORM, WORKSPACE};
 use guppy_command::{Asked, Files, Misread, OptionRow, Program};
 use guppy_data::{PackageRecord, Records, VerifyFault};
 use guppy_program::Format;
@@ -22,6 +22,8 @@ const OPTIONS: &[OptionRow] = &[
     (KINDS, Some("KINDS"), false, None, ""),
     (PLATFORM, Some("TRIPLE"), true, None, ""),
     (CFGS, Some("FILE"), true, None, ""),
+    (HOST, Some("TRIPLE"), false, None, ""),
+    (HOST_CFGS, Some("FILE"), false, None, ""),
     (WORKSPACE, None, false, None, ""),
     (IDS, None, false, None, ""),
 ];

@@ -4,7 +4,6 @@ use Rattle.guppy_data.specs.declared.records.PackageRecord.{PackageRecord}
 use Rattle.guppy_data.specs.declared.records.LinkRecord.{LinkRecord}
 use Rattle.guppy_data.specs.declared.records.WorkspaceRecord.{WorkspaceRecord}
 use Rattle.guppy_data.specs.declared.texts.error.Error.{Error}
-use Rattle.guppy_data.specs.Platform.{OnAny}
 use Rattle.guppy.specs.Accepted.{IsAccepted}
 use Rattle.guppy.specs.Graph.{GraphData, Holds}
 use Rattle.guppy.specs.Refused.{IsRefusal}
@@ -37,16 +36,15 @@ abbrev pub reads_details : Asked → Bool
 reads_details asked = are_named asked.question || asks_for_targets asked.command
 
 module _ {Fault : Type 0} (format : Format Fault) (asked : Asked) (input : List ℕ) where
-  -- the input says records, and P holds of them with what counts of their links on the platforms in question, or may on
-  -- the host, of which nothing is known, of that the links of these kinds, or all, and with these what the command asks
-  -- about
+  -- the input says records, and P holds of them with what counts of their links on the platforms in question or, of what
+  -- runs there, on the host, of that the links of these kinds, or all, and with these what the command asks about
   pub record OfRecords (P : List PackageRecord → List LinkRecord → WorkspaceRecord → Type 0) : Type 0 where
     pub packages : List PackageRecord
     pub links : List LinkRecord
     pub workspace : WorkspaceRecord
     pub said : format.says (reads_details asked) input packages links workspace
     pub counting : List LinkRecord
-    pub counted : AreKept asked.question OnAny packages links counting
+    pub counted : AreKept asked.question asked.host packages links counting
     pub asked_links : List LinkRecord
     pub are_asked : AreAskedOf format asked.command input (kept_links asked.options.kinds counting) asked_links
     pub holds : P packages asked_links workspace

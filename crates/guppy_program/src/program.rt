@@ -19,7 +19,7 @@ use guppy_command::fault::{passed_on, want_of_memory};
 use guppy_command::options::keep_links;
 use guppy_command::transfer::{read_all, write_text};
 use guppy_command::{Asked, Command, Files, Sink, Source};
-use guppy_data::{LinkRecord, PlatformSpec};
+use guppy_data::LinkRecord;
 use guppy_platforms::{are_named, keep_counting};
 use guppy_publish::add_declared;
 use std::alloc::Global;
@@ -72,7 +72,7 @@ fn load<F: Format>(
     let Ok(()) = keep_counting(
         alloc,
         &asked.platforms,
-        &PlatformSpec::Any,
+        &asked.host,
         records.packages.as_slice(),
         &mut records.links,
     ) else {

@@ -118,7 +118,7 @@ const SHORT_CUT: &[u8] = b"package a\npackage b\npackage c\npackage d\n\
 const TWO_SPACES: &[u8] = b"package a\npackage  b\n";
 
 // Case, command line, input, and what is printed.
-const ANSWERS: [(&str, &str, &[u8], &str); 61] = [
+const ANSWERS: [(&str, &str, &[u8], &str); 62] = [
     ("first_run", "reach forward a", FIRST, "a\nb\n"),
     (
         "no_last_newline",
@@ -265,6 +265,12 @@ const ANSWERS: [(&str, &str, &[u8], &str); 61] = [
     (
         "platforms",
         "--cfgs empty.cfgs --platform x links forward",
+        CHAIN,
+        "a b\nb c\n",
+    ),
+    (
+        "platforms",
+        "--platform x --cfgs a.cfgs --host-cfgs=unix.cfgs --host y links forward",
         CHAIN,
         "a b\nb c\n",
     ),
@@ -425,7 +431,7 @@ const REFUSED: [(&str, &str, &[u8], &str); 12] = [
 ];
 
 // Case, command line, input, and the text of the fault of the arguments or a line.
-const MISREAD: [(&str, &str, &[u8], &str); 54] = [
+const MISREAD: [(&str, &str, &[u8], &str); 57] = [
     ("program_faults", "depends a b", TWO_SPACES, "bad line 2"),
     ("program_faults", "depends a", TWO_SPACES, "bad arguments"),
     (
@@ -498,6 +504,19 @@ const MISREAD: [(&str, &str, &[u8], &str); 54] = [
     (
         "platforms",
         "order --platform x --cfgs unix.cfgs",
+        FIRST,
+        "bad arguments",
+    ),
+    ("platforms", "--host x order", FIRST, "bad arguments"),
+    (
+        "platforms",
+        "--host-cfgs unix.cfgs order",
+        FIRST,
+        "bad arguments",
+    ),
+    (
+        "platforms",
+        "--host x --host-cfgs bad.cfgs order",
         FIRST,
         "bad arguments",
     ),

@@ -1,5 +1,4 @@
 use Rattle.std.proofs.Common.{List, sym, subst}
-use Rattle.guppy_data.specs.Platform.{OnAny}
 use Rattle.guppy_data.specs.declared.records.LinkRecord.{LinkRecord}
 use Rattle.guppy_data.specs.declared.records.PackageRecord.{PackageRecord}
 use Rattle.std.specs.Prelude.{IfOk, IfErr, OnOk}
@@ -26,7 +25,7 @@ returns-in_err-graph-clause-err g c =
       workspace = r.workspace;
       said = subst (λ details. g.F.Format.format.says details c.args.input.now r.packages.items r.links.items r.workspace) c.reads_details.ensures c.in_ok-records.ensures.said;
       counting = c.keep_counting.new.links.items;
-      counted = subst (λ (packages : List PackageRecord). AreKept (asked_shown c.args.asked.now).question OnAny packages r.links.items c.keep_counting.new.links.items) c.as_slice.ensures.value c.in-Ok.ensures.kept;
+      counted = subst (λ (packages : List PackageRecord). AreKept (asked_shown c.args.asked.now).question (asked_shown c.args.asked.now).host packages r.links.items c.keep_counting.new.links.items) c.as_slice.ensures.value c.in-Ok.ensures.kept;
       asked_links = kept;
       are_asked = subst (λ (links : List LinkRecord). AreAskedOf g.F.Format.format (asked_shown c.args.asked.now).command c.args.input.now links kept) c.keep_links.ensures c.in_ok-keep_asked.ensures.ok;
       holds = refused;
@@ -48,7 +47,7 @@ returns-clause-ok g c =
       workspace = r.workspace;
       said = subst (λ details. g.F.Format.format.says details c.args.input.now r.packages.items r.links.items r.workspace) c.reads_details.ensures c.in_ok-records.ensures.said;
       counting = c.keep_counting.new.links.items;
-      counted = subst (λ (packages : List PackageRecord). AreKept (asked_shown c.args.asked.now).question OnAny packages r.links.items c.keep_counting.new.links.items) c.as_slice.ensures.value c.in-Ok.ensures.kept;
+      counted = subst (λ (packages : List PackageRecord). AreKept (asked_shown c.args.asked.now).question (asked_shown c.args.asked.now).host packages r.links.items c.keep_counting.new.links.items) c.as_slice.ensures.value c.in-Ok.ensures.kept;
       asked_links = kept;
       are_asked = subst (λ (links : List LinkRecord). AreAskedOf g.F.Format.format (asked_shown c.args.asked.now).command c.args.input.now links kept) c.keep_links.ensures c.in_ok-keep_asked.ensures.ok;
       holds = (
