@@ -394,7 +394,7 @@ def try_left_out(graph):
             (["--ignore", "./.", "x"], "--ignore ./. leaves out everything: give a folder"),
             (["--ignore=", "x"], "--ignore  leaves out everything: give a folder"),
             (["x", "--paths-from"], "a value is missing behind --paths-from"),
-            (["x", "--sinc", "main"], "--sinc is no option of the program: the nearest is --since, of the scripts"),
+            (["x", "--sinc", "main"], "--sinc is no option: the nearest is --kinds"),
             (["-x"], "-x is no option: guppy-cargo help lists them"),
             (["x", "--publishable"], "affected takes no --publishable"),
             (["--paths-from", os.path.join(room, "bytes")], f"{os.path.join(room, 'bytes')}: the paths in it can't be read"),
@@ -600,11 +600,6 @@ def try_help(graph):
         wanted = {it for it in COMMANDS if apart[it] == min(apart.values())}
         message = re.fullmatch("error: (.*) is no command: the nearest is (.*)\n", run([word], b"")[2])
         yield f"{word}, the nearest command", True, bool(message and message[1] == word and message[2] in wanted)
-    with open(os.path.join(HERE, "../scripts/words.sh"), encoding="utf-8") as script:
-        taken = set(re.findall("(--[a-z][a-z-]+)[=) ]", script.read().split("# The words of this kind")[0])) | {"--with"}
-    for word in sorted(taken - set(helped)):
-        told = f"error: {word} is no option of the program: the nearest is {word}, of the scripts\n"
-        yield f"{word}, of the scripts", (2, "", told), run(["order", word, "x"], b"")
     yield "--version", (0, "guppy-cargo of guppy 0.19.1, proved\n", ""), run(["--version"], b"")
     for words, fault in (
         ("help no-such", "help is no command: guppy-cargo help lists them"),

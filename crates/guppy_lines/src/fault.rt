@@ -60,7 +60,10 @@ impl fmt::Display for RunFault {
             RunFault::BadArguments => write!(f, "bad arguments"),
             RunFault::NoWalk { from, to } => write!(f, "no links lead from {from} to {to}"),
             RunFault::Unpublishable { member, needed } => {
-                write!(f, "{member} can't be published: it needs {needed}, which isn't publishable")
+                write!(
+                    f,
+                    "{member} can't be published: it needs {needed}, which isn't publishable"
+                )
             }
             RunFault::BadLine(number) => write!(f, "bad line {number}"),
             RunFault::InputFailed => write!(f, "input failed"),

@@ -14,7 +14,7 @@ use Rattle.guppy.specs.DevOnly.{is_dev_only}
 use Rattle.guppy.specs.Graph.{GraphData}
 use Rattle.guppy.specs.Ids.{HasId, DistinctBelow}
 use Rattle.guppy.specs.Members.{member_path}
-use Rattle.guppy_program.specs.Publish.{is_somewhere, is_held_back, is_hindrance, is_hindrance_at, hindrance_of, IsFree, IsHindered}
+use Rattle.guppy_program.specs.Publish.{is_somewhere, is_held_back, is_hindrance, hindrance_of, IsFree}
 use Rattle.guppy_program.proofs.Membership.{same_truth}
 use Rattle.guppy_program.proofs.PublishableMembers.{one_place}
 

@@ -1,4 +1,4 @@
-use Rattle.std.proofs.Common.{subst, Bor, length, map, take, All, arith}
+use Rattle.std.proofs.Common.{subst, Bor, map, All, arith}
 use Rattle.std.proofs.lemmas.List.{length-map, take_all}
 use Rattle.guppy_data.specs.declared.texts.package_id.PackageId.{PackageId}
 use Rattle.guppy_program.specs.Publish.{IsFree}

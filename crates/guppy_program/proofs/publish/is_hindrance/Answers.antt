@@ -1,4 +1,4 @@
-use Rattle.std.proofs.Common.{◌≡◌, sym, subst, Bor}
+use Rattle.std.proofs.Common.{◌≡◌, subst, Bor}
 use Rattle.std.specs.Prelude.{◌&&◌, not, slice_get, IsSomeAnd}
 use Rattle.guppy.specs.Graph.{GraphData}
 use Rattle.guppy.specs.Views.{link_graph, link_number, package_position}

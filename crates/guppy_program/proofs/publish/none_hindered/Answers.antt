@@ -1,7 +1,5 @@
-use Rattle.std.proofs.Common.{◌≡◌, ⊎_elim, sym, subst, Bor, map}
-use Rattle.guppy_data.specs.declared.texts.error.Error.TheVariants.{OutOfMemory}
+use Rattle.std.proofs.Common.{⊎_elim, sym, subst, Bor, map}
 use Rattle.guppy_data.specs.declared.texts.package_id.PackageId.{PackageId}
-use Rattle.guppy_command.specs.Cause.{library, unpublishable}
 use Rattle.guppy_program.specs.Printed.{called}
 use Rattle.guppy_program.specs.Publish.{IsHindranceCause}
 use Rattle.guppy_program.proofs.publish.none_hindered.Goals as goal

@@ -1,14 +1,13 @@
-use Rattle.std.proofs.Common.{◌≡◌, ◌∙◌, refl, ap, sym, subst, ℕ, List, Bor, map, true, All}
+use Rattle.std.proofs.Common.{◌∙◌, refl, ap, subst, ℕ, List, Bor, map, All}
 use Rattle.std.specs.Prelude.{IfOk, OnOk}
 use Rattle.std.proofs.lemmas.Result.{err_from_is_err_and}
 use Rattle.guppy.specs.FirmCycles.{HasNoFirmCycle}
 use Rattle.guppy.specs.Verified.{IsVerified}
 use Rattle.guppy_publish.specs.Publishing.{ArePublishIds}
-use Rattle.guppy_command.specs.Cause.{Cause, library, unpublishable}
 use Rattle.guppy_command.specs.Command.{publish_order}
-use Rattle.guppy_program.specs.Answer.{package_list, IsCommandFault}
+use Rattle.guppy_program.specs.Answer.{package_list}
 use Rattle.guppy_program.specs.Printed.{called}
-use Rattle.guppy_program.specs.Publish.{IsFree, is_publishable}
+use Rattle.guppy_program.specs.Publish.{IsFree}
 use Rattle.guppy_program.proofs.Refusals.{told_of}
 use Rattle.guppy_program.proofs.publish.published.Goals as goal
 use Rattle.guppy_program.proofs.publish.published.Goals.{then-publishable+in_ok-none_hindered, else-publishable}
