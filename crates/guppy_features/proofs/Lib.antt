@@ -2,3 +2,4 @@ pub mod LeavingLinks
 pub mod Adding
 pub mod Adders
 pub mod Follows
+pub mod Reasons

@@ -7,3 +7,4 @@ pub mod Values
 pub mod Follows
 pub mod Parts
 pub mod FactOrder
+pub mod Reasons

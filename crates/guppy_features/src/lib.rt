@@ -19,6 +19,7 @@
 //! - `needs`, `values` and `roots`: the clauses by what a dependency needs, by what a feature's value switches on, and by
 //!   what is asked of a chosen package;
 //! - `clauses`: all of them;
+//! - `reason`: why a fact holds, in steps;
 //! - `set`: the facts that hold.
 #![tactic(auto)]
 
@@ -28,6 +29,7 @@ mod fact;
 mod needs;
 mod options;
 mod question;
+mod reason;
 mod roots;
 mod rules;
 mod set;
@@ -35,5 +37,6 @@ mod values;
 
 pub use crate::fact::{BuildPlatform, Fact, FactKind};
 pub use crate::options::{CargoOptions, CargoResolverVersion, Initial, StandardFeatures};
+pub use crate::reason::Reason;
 pub use crate::set::CargoSet;
 pub use guppy_closure::ClosureFault;
