@@ -3,3 +3,4 @@ pub mod Adding
 pub mod Adders
 pub mod Follows
 pub mod Reasons
+pub mod ChosenLists

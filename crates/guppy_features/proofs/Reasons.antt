@@ -50,8 +50,8 @@ module _ (clauses : List (Clause Fact)) where
   has_step [] n c h found = absurd (nothing_in n h)
   has_step (m ∷ ns) n c h found = elim (Contains-cons_cases m n ns h) as (λ _. Contains (step_of m ++ reasons_of clauses ns) (reason_of c)) [
     | inl e ↦
-      let here : step_of m ≡ reason_of c ∷ [] = ap step_of e ∙ step_is n c found in
-      Contains-append_left (step_of m) (reasons_of clauses ns) (reason_of c) (subst (λ (steps : List Reason). Contains steps (reason_of c)) (sym here) (Contains-first (reason_of c) []))
+        let here : step_of m ≡ reason_of c ∷ [] = ap step_of e ∙ step_is n c found in
+        Contains-append_left (step_of m) (reasons_of clauses ns) (reason_of c) (subst (λ (steps : List Reason). Contains steps (reason_of c)) (sym here) (Contains-first (reason_of c) []))
     | inr later ↦ Contains-append_right (step_of m) (reasons_of clauses ns) (reason_of c) (has_step ns n c later found)
   ]
 

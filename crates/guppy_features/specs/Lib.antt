@@ -8,3 +8,4 @@ pub mod Follows
 pub mod Parts
 pub mod FactOrder
 pub mod Reasons
+pub mod Chosen

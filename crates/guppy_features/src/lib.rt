@@ -20,9 +20,11 @@
 //!   what is asked of a chosen package;
 //! - `clauses`: all of them;
 //! - `reason`: why a fact holds, in steps;
-//! - `set`: the facts that hold.
+//! - `set`: the facts that hold;
+//! - `chosen`: which packages are asked for what, by a command line's features.
 #![tactic(auto)]
 
+mod chosen;
 mod clauses;
 mod dependencies;
 mod fact;
@@ -35,6 +37,7 @@ mod rules;
 mod set;
 mod values;
 
+pub use crate::chosen::{ChosenFault, initials_for};
 pub use crate::fact::{BuildPlatform, Fact, FactKind};
 pub use crate::options::{CargoOptions, CargoResolverVersion, Initial, StandardFeatures};
 pub use crate::reason::Reason;
