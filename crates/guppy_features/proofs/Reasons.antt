@@ -1,15 +1,12 @@
 -- A derivation's clauses as steps.
 use Rattle.std.proofs.Common.{◌≡◌, ◌⊎◌, ℕ, ◌+◌, ◌<◌, List, [], ◌∷◌, ◌++◌, length, get_or, take, Option, Some, None, inl, inr, refl, ap, sym, subst, ◌∙◌}
 use Rattle.std.specs.Prelude.{Contains, All, option_map, option_to_list, slice_get}
-use Rattle.std.specs.List.{flat_map}
 use Rattle.std.proofs.lemmas.List.Elements.{Contains-append_left, Contains-append_right, Contains-append_cases, All-nil, All-push}
 use Rattle.std.proofs.lemmas.List.{flat_map_more, take_more}
 use Rattle.std.proofs.lemmas.Option.{slice_get_within, slice_get-get_or}
 use Rattle.guppy_search.proofs.Lists.{nothing_in, Contains-first, Contains-later, Contains-cons_cases, EachAfter-nil, EachAfter-push, EachAfter-along}
 use Rattle.guppy_closure.specs.declared.clause.Clause.{Clause}
-use Rattle.guppy_closure.specs.Clauses.{InBody}
 use Rattle.guppy_closure.specs.Derived.{IsDerived, IsDerivation, Follows, EndsWith, AreNeeded as AreClausesNeeded}
-use Rattle.guppy_closure.specs.Named.{body_of}
 use Rattle.guppy_closure.specs.Relations.{AreClausesOf}
 use Rattle.guppy_closure.proofs.Relations.{in_body_of}
 use Rattle.guppy_closure.proofs.Places.{contains_at}

@@ -5,7 +5,7 @@ ghost use Rattle.std.specs.Option.{IfSome};
 ghost use Rattle.std.specs.Str.{bytes_eq};
 ghost use Rattle.std.specs.String.{string_bytes};
 ghost use Rattle.guppy_features.specs.Dependencies.{links_from};
-ghost use Rattle.guppy_features.specs.Chosen.{AreWithin, IsRootFor, IsAnswer, IsFirstRefused, through, beside_root, chosen, chosen_of, has_dependency, has_feature, has_optional, hides, initial, initials, is_accepted, is_accepted_at_root, is_accepted_by_one, is_at_root, is_beside, is_beside_with, is_hidden, is_named, is_other, seen_initial, seen_value, seen_wanted, standard_of, taken, taken_at_root, taken_by_name, taken_of};
+ghost use Rattle.guppy_features.specs.Chosen.{AreWithin, IsRootFor, IsAnswer, IsFirstRefused, through, beside_root, chosen, chosen_of, has_dependency, has_feature, has_optional, hides, initial, initials, is_accepted, is_accepted_at_root, is_at_root, is_beside, is_beside_with, is_hidden, is_named, is_other, seen_initial, seen_value, seen_wanted, standard_of, taken, taken_at_root, taken_by_name, taken_of};
 
 use crate::options::{CargoResolverVersion, Initial, StandardFeatures};
 use guppy_core::DependencyDirection;
@@ -157,7 +157,8 @@ impl Chosen<'_> {
     // Whether a chosen member takes it.
     fn is_taken(self, feature: &NamedFeatureDep) -> bool
         requires { AreWithin (chosen_of self) }
-        ensures { result ≡ list_any (λ p. is_some (taken self.entry.graph.now p (seen_value feature.now))) self.entry.members.now }
+        ensures { result ≡ list_any (λ p. is_some (taken self.entry.graph.now p (seen_value feature.now)))
+            self.entry.members.now }
     {
         for position in self.members {
             if taken(self.graph, *position, feature).is_some() {
@@ -170,7 +171,8 @@ impl Chosen<'_> {
     // Whether one hides it.
     fn is_hidden(self, feature: &NamedFeatureDep) -> bool
         requires { AreWithin (chosen_of self) }
-        ensures { result ≡ list_any (λ p. hides self.entry.graph.now p (seen_value feature.now)) self.entry.members.now }
+        ensures { result ≡ list_any (λ p. hides self.entry.graph.now p (seen_value feature.now))
+            self.entry.members.now }
     {
         for position in self.members {
             if hides(self.graph, *position, feature) {
@@ -532,7 +534,8 @@ fn has_dependency(graph: &RecordGraph, position: usize, name: &str) -> bool
 // Whether a link of this name leaves the package.
 fn has_link(graph: &RecordGraph, position: usize, name: &str) -> bool
     requires { position < length graph.now.packages }
-    ensures { result ≡ list_any (λ l. bytes_eq (string_bytes l.edge.dep_name) name.now) (links_from graph.now position) }
+    ensures { result ≡ list_any (λ l. bytes_eq (string_bytes l.edge.dep_name) name.now)
+        (links_from graph.now position) }
 {
     let ix = graph.ix_at(position);
     for number in graph.dep_graph().links_of(ix, DependencyDirection::Forward) {

@@ -1,7 +1,7 @@
-use Rattle.std.proofs.Common.{◌≡◌, List, [], ◌∷◌, ◌++◌, None, Some, Vec, Global, map, ap, sym, ◌∙◌}
+use Rattle.std.proofs.Common.{◌≡◌, [], ◌∷◌, ◌++◌, None, Some, Vec, Global, map, ap, sym, ◌∙◌}
 use Rattle.std.specs.Prelude.{option_map}
 use Rattle.guppy_data.specs.declared.texts.named_feature.NamedFeatureDep.{NamedFeatureDep}
-use Rattle.guppy_features.specs.Chosen.{Value, chosen_of, seen_value, seen_wanted, taken_of}
+use Rattle.guppy_features.specs.Chosen.{chosen_of, seen_value, seen_wanted, taken_of}
 use Rattle.guppy_features.proofs.ChosenLists.{made_none, made_some}
 use Rattle.guppy_features.proofs.chosen.Chosen.values_of.Goals as goal
 use Rattle.guppy_features.proofs.chosen.Chosen.values_of.Goals.{in-Some+in_ok-to_value+in_ok-push, in_default}
