@@ -74,12 +74,12 @@ impl<'a> CargoSet<'a> {
     /// Why the fact holds, or `None` where it doesn't: who asks for it, in steps, each behind those whose facts its own
     /// follows from, and the last one with this fact. Nothing that it doesn't need is told, and no fact twice.
     ///
-    /// A step whose fact follows from nothing is asked for of a chosen package. Else a feature that is on is asked for by
-    /// the feature that it follows from, or by a dependency that is used: one of a package that takes part, or an
+    /// A step whose fact follows from nothing is asked for of a chosen package. Else a feature that is on is asked for
+    /// by the feature that it follows from, or by a dependency that is used: one of a package that takes part, or an
     /// optional one that is switched on.
     ///
-    /// Time grows with the facts that hold. Takes memory for a bit a fact and some 120 bytes a step, and fails only where
-    /// there is none.
+    /// Time grows with the facts that hold. Takes memory for a bit a fact and some 120 bytes a step, and fails only
+    /// where there is none.
     pub fn why(&self, alloc: Global, fact: Fact) -> Result<Option<Vec<Reason>>, AllocError>
         ensures holds { IfOk result (λ reasons.
             IsTrue (is_some reasons) ↔ HoldsBy (FollowsFor self.now) fact) }
