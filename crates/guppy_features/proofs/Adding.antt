@@ -26,7 +26,7 @@ module _ {F : Type 0} where
   in_second xs None b e = absurd cc
   in_second xs (Some x) b e = let q : x ≡ b = cc in subst (λ (y : F). Contains (xs ++ y ∷ []) b) (sym q) (Contains-append_right xs (b ∷ []) b (Contains-first b []))
 
-  in_body : (c : Clause F) (b : F) → InBody c b → Contains (body_of c) b
+  pub in_body : (c : Clause F) (b : F) → InBody c b → Contains (body_of c) b
   in_body c b i = elim i as (λ _. Contains (body_of c) b) [
     | inl e ↦ in_first c.first b (option_to_list c.second) e
     | inr e ↦ in_second (option_to_list c.first) c.second b e

@@ -2,3 +2,5 @@ pub mod LeavingLinks
 pub mod Adding
 pub mod Adders
 pub mod Follows
+pub mod Reasons
+pub mod ChosenLists

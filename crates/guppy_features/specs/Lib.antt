@@ -7,3 +7,5 @@ pub mod Values
 pub mod Follows
 pub mod Parts
 pub mod FactOrder
+pub mod Reasons
+pub mod Chosen

@@ -19,21 +19,27 @@
 //! - `needs`, `values` and `roots`: the clauses by what a dependency needs, by what a feature's value switches on, and by
 //!   what is asked of a chosen package;
 //! - `clauses`: all of them;
-//! - `set`: the facts that hold.
+//! - `reason`: why a fact holds, in steps;
+//! - `set`: the facts that hold;
+//! - `chosen`: which packages are asked for what, by a command line's features.
 #![tactic(auto)]
 
+mod chosen;
 mod clauses;
 mod dependencies;
 mod fact;
 mod needs;
 mod options;
 mod question;
+mod reason;
 mod roots;
 mod rules;
 mod set;
 mod values;
 
+pub use crate::chosen::{ChosenFault, initials_for};
 pub use crate::fact::{BuildPlatform, Fact, FactKind};
 pub use crate::options::{CargoOptions, CargoResolverVersion, Initial, StandardFeatures};
+pub use crate::reason::Reason;
 pub use crate::set::CargoSet;
 pub use guppy_closure::ClosureFault;

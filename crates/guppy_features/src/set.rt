@@ -1,15 +1,18 @@
 //! What Cargo resolves.
-ghost use Rattle.std.specs.Prelude.{◌≡◌, ◌↔◌, ◌<◌, All, Contains, IfOk, IsTrue, length};
+ghost use Rattle.std.specs.Prelude.{◌≡◌, ◌↔◌, ◌<◌, All, Contains, IfOk, IsTrue, is_some, length};
+ghost use Rattle.std.specs.Option.{IfSome};
 ghost use Rattle.std.specs.List.Sorted.{IsStrictlySortedBy};
 ghost use Rattle.guppy_closure.specs.Relations.{HoldsBy};
 ghost use Rattle.guppy_features.specs.FactOrder.{fact_cmp};
 ghost use Rattle.guppy_features.specs.declared.fact.Fact.{Fact};
 ghost use Rattle.guppy_features.specs.Questions.{question};
 ghost use Rattle.guppy_features.specs.Follows.{FollowsFor};
+ghost use Rattle.guppy_features.specs.Reasons.{AreReasons, EndsIn, AreNeeded};
 
 use crate::fact::Fact;
 use crate::options::CargoOptions;
 use crate::question::Asked;
+use crate::reason::{Reason, reasons_of};
 use guppy_closure::{ClosureFault, Known};
 use guppy_graph::RecordGraph;
 use std::alloc::{AllocError, Global};
@@ -66,6 +69,30 @@ impl<'a> CargoSet<'a> {
         ensures { IsTrue result ↔ HoldsBy (FollowsFor self.now) fact }
     {
         self.known.holds(&fact)
+    }
+
+    /// Why the fact holds, or `None` where it doesn't: who asks for it, in steps, each behind those whose facts its own
+    /// follows from, and the last one with this fact. Nothing that it doesn't need is told, and no fact twice.
+    ///
+    /// A step whose fact follows from nothing is asked for of a chosen package. Else a feature that is on is asked for
+    /// by the feature that it follows from, or by a dependency that is used: one of a package that takes part, or an
+    /// optional one that is switched on.
+    ///
+    /// Time grows with the facts that hold. Takes memory for a bit a fact and some 120 bytes a step, and fails only
+    /// where there is none.
+    pub fn why(&self, alloc: Global, fact: Fact) -> Result<Option<Vec<Reason>>, AllocError>
+        ensures holds { IfOk result (λ reasons.
+            IsTrue (is_some reasons) ↔ HoldsBy (FollowsFor self.now) fact) }
+        ensures order { IfOk result (λ reasons. IfSome reasons (λ steps.
+            AreReasons (FollowsFor self.now) steps.items)) }
+        ensures last { IfOk result (λ reasons. IfSome reasons (λ steps. EndsIn steps.items fact)) }
+        ensures needed { IfOk result (λ reasons. IfSome reasons (λ steps. AreNeeded steps.items fact)) }
+    {
+        let Some(numbers) = self.known.derivation(alloc, &fact)? else {
+            return Ok(None);
+        };
+        let steps = reasons_of(alloc, self.known.clauses(), numbers.as_slice())?;
+        Ok(Some(steps))
     }
 
     /// The facts that hold, ascending, each once. Takes memory for them, and fails only where there is none.

@@ -6,7 +6,7 @@
 //! is what `rustc --print cfg` prints, with a space for the end of a line.
 //!
 //! - `words`: what the arguments say;
-//! - `initials`: which packages are chosen by them, and what of `--features` is for which.
+//! - `initials`: which members are chosen by them, and what each package is asked for.
 #![tactic(auto)]
 
 ghost use Rattle.std.specs.Prelude.{◌<◌, length};

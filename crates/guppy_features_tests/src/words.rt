@@ -1,6 +1,7 @@
 //! What the arguments ask.
 
 use anyhow::bail;
+use guppy_data::NamedFeatureDep;
 use guppy_features::{CargoResolverVersion, StandardFeatures};
 use guppy_target::Platform;
 use std::alloc::Global;
@@ -30,8 +31,8 @@ pub struct Words {
     pub targets: Vec<Platform>,
     /// The names of the chosen members.
     pub members: Vec<String>,
-    /// The values of `--features`, each some words between commas.
-    pub features: Vec<String>,
+    /// The values of `--features`.
+    pub features: Vec<NamedFeatureDep>,
     /// Which features they are asked for beside these.
     pub standard: StandardFeatures,
     /// Whether tests are built.
@@ -62,7 +63,7 @@ impl Words {
         match mem::replace(&mut self.next, Next::Option) {
             Next::Option => self.add_option(word.as_str())?,
             Next::Member => self.members.push(word)?,
-            Next::Features => self.features.push(word)?,
+            Next::Features => self.add_features(word.as_str())?,
             Next::Resolver => self.resolver = resolver_of(word.as_str())?,
             Next::Triple => self.triple = word,
             Next::Settings => self.add_platform(word.as_str())?,
@@ -92,6 +93,18 @@ impl Words {
         Ok(())
     }
 
+    // The values stand between commas and white space.
+    fn add_features(&mut self, word: &str) -> anyhow::Result<()> {
+        for list in word.split_whitespace() {
+            for text in list.split(',') {
+                if !text.is_empty() {
+                    self.features.push(feature_of(self.alloc, text)?)?;
+                }
+            }
+        }
+        Ok(())
+    }
+
     fn add_platform(&mut self, settings: &str) -> anyhow::Result<()> {
         let mut lines = String::new(self.alloc);
         for setting in settings.split(' ') {
@@ -106,6 +119,25 @@ impl Words {
         }
         Ok(())
     }
+}
+
+// What the text asks for, as Cargo reads it.
+fn feature_of(alloc: Global, text: &str) -> anyhow::Result<NamedFeatureDep> {
+    let copy = |text: &str| String::from_str(alloc, text);
+    let Some((dep_name, feature)) = text.split_once('/') else {
+        if text.starts_with("dep:") {
+            bail!("a feature begins with dep:");
+        }
+        return Ok(NamedFeatureDep::NamedFeature(copy(text)?));
+    };
+    if feature.contains('/') {
+        bail!("a feature has several slashes");
+    }
+    Ok(NamedFeatureDep::DependencyNamedFeature {
+        dep_name: copy(dep_name.strip_suffix("?").unwrap_or(dep_name))?,
+        feature: copy(feature)?,
+        weak: dep_name.ends_with("?"),
+    })
 }
 
 fn resolver_of(word: &str) -> anyhow::Result<CargoResolverVersion> {
