@@ -23,7 +23,7 @@
 #![tactic(auto)]
 
 mod clauses;
-mod dependencies;
+pub mod dependencies;
 mod fact;
 mod needs;
 mod options;
@@ -35,5 +35,6 @@ mod values;
 
 pub use crate::fact::{BuildPlatform, Fact, FactKind};
 pub use crate::options::{CargoOptions, CargoResolverVersion, Initial, StandardFeatures};
+pub use crate::question::{Asked, is_macro_library, may_be_on};
 pub use crate::set::CargoSet;
 pub use guppy_closure::ClosureFault;

@@ -30,6 +30,17 @@ pub fn initials_of(graph: &RecordGraph, words: &Words) -> anyhow::Result<Vec<Ini
     Ok(initials)
 }
 
+/// The positions of the chosen members.
+pub fn members_of(graph: &RecordGraph, words: &Words) -> anyhow::Result<Vec<usize>>
+    ensures { IfOk result (λ members. All (λ m. m < length graph.now.packages) members.items) }
+{
+    let mut members = Vec::new(graph.alloc());
+    for name in &words.members {
+        members.push(member_of(graph, name.as_str())?)?;
+    }
+    Ok(members)
+}
+
 // With resolver 1, the position of the package at the workspace's root, if there is one.
 fn root_of(graph: &RecordGraph, resolver: CargoResolverVersion) -> Option<usize>
     ensures { IfSome result (λ position. position < length graph.now.packages) }
