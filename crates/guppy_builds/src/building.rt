@@ -20,7 +20,7 @@ pub(crate) struct Building<'a> {
 
 impl<'a> Building<'a> {
     pub(crate) fn new(set: &'a CargoSet<'a>) -> Self
-        ensures { question_of result.entry ≡ set.now }
+        ensures { question_of result ≡ set.now }
     {
         Building {
             asked: set.asked(),

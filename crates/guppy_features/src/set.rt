@@ -62,7 +62,7 @@ impl<'a> CargoSet<'a> {
 
     /// What is asked, and of which graph.
     pub fn asked(&self) -> Asked<'a>
-        ensures { question_of result.entry ≡ self.now }
+        ensures { question_of result ≡ self.now }
     {
         self.asked
     }
