@@ -4,7 +4,6 @@ ghost use Rattle.guppy_closure.specs.Relations.{HoldsBy};
 ghost use Rattle.guppy_features.specs.Follows.{FollowsFor};
 ghost use Rattle.guppy_features.specs.Dependencies.{seen_dependency};
 ghost use Rattle.guppy_features.specs.Questions.{question_of as asked_question, use_of};
-ghost use Rattle.guppy_builds.specs.Building.{question_of};
 ghost use Rattle.guppy_builds.specs.Required.{IsOn};
 
 use guppy_features::dependencies::Dependency;
@@ -20,7 +19,7 @@ pub(crate) struct Building<'a> {
 
 impl<'a> Building<'a> {
     pub(crate) fn new(set: &'a CargoSet<'a>) -> Self
-        ensures { question_of result ≡ set.now }
+        ensures { asked_question result.asked ≡ set.now }
     {
         Building {
             asked: set.asked(),
@@ -30,7 +29,7 @@ impl<'a> Building<'a> {
 
     /// Whether there is the fact, and it holds.
     pub(crate) fn is_on(self, fact: Option<Fact>) -> bool
-        ensures { IsTrue result ↔ IsOn (question_of self.entry) fact }
+        ensures { IsTrue result ↔ IsOn (asked_question self.entry.asked) fact }
     {
         match fact {
             Some(fact) => self.set.contains(fact),
@@ -41,7 +40,8 @@ impl<'a> Building<'a> {
     /// Whether the dependency is used on the side.
     pub(crate) fn is_used(self, side: BuildPlatform, dependency: &Dependency<'_>) -> bool
         requires { dependency.now.from < length self.asked.graph.now.packages }
-        ensures { IsTrue result ↔ IsOn (question_of self.entry) (use_of (question_of self.entry) side (seen_dependency dependency.now)) }
+        ensures { IsTrue result ↔ IsOn (asked_question self.entry.asked)
+            (use_of (asked_question self.entry.asked) side (seen_dependency dependency.now)) }
     {
         self.is_on(self.asked.use_of(side, dependency))
     }

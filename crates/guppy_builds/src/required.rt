@@ -1,8 +1,9 @@
 //! Whether the features are on that a target requires.
 ghost use Rattle.std.specs.Prelude.{◌≡◌, ◌⊎◌, ◌↔◌, ℕ, ◌<◌, length, map, All, IsTrue};
 ghost use Rattle.guppy_features.specs.Dependencies.{seen_dependency, AreOf, IsWithin};
+ghost use Rattle.guppy_features.specs.Needs.{feature_there};
 ghost use Rattle.guppy_builds.specs.Building.{question_of};
-ghost use Rattle.guppy_builds.specs.Required.{HasOne, may_be_used, Uses, IsUsedAmong, HasOn, IsRequiredOn, AreRequiredOn};
+ghost use Rattle.guppy_builds.specs.Required.{IsOn, HasOne, may_be_used, Uses, IsUsedAmong, HasOn, IsRequiredOn, AreRequiredOn};
 
 use crate::building::Building;
 use guppy_data::{DependencyKind, PlatformStatus};
@@ -79,7 +80,7 @@ impl Building<'_> {
     // Whether the dependency's package has the feature on.
     fn has_feature_on(self, dependency: &Dependency<'_>, feature: &str) -> bool
         requires { dependency.now.to < length self.asked.graph.now.packages }
-        ensures { IsTrue result ↔ IsOn (question_of self.entry) (feature_there (question_of self.entry) Target feature.now (seen_dependency dependency.now)) }
+        ensures { IsTrue result ↔ IsOn (question_of self.entry) (feature_there (question_of self.entry) BuildPlatform.Target feature.now (seen_dependency dependency.now)) }
     {
         let side = self.asked.side_of(BuildPlatform::Target, dependency);
         self.is_on(self.asked.feature(dependency.to, side, feature))
@@ -93,8 +94,8 @@ impl Building<'_> {
     ) -> bool
         requires within_all { All (IsWithin (length self.asked.graph.now.packages)) dependencies.now }
         requires from { dependency.now.from < length self.asked.graph.now.packages }
-        ensures { IsTrue result ↔ (IsUsedAmong (question_of self.entry) (map seen_dependency dependencies.now) (seen_dependency dependency.now) Target
-            ⊎ IsUsedAmong (question_of self.entry) (map seen_dependency dependencies.now) (seen_dependency dependency.now) Host) }
+        ensures { IsTrue result ↔ (IsUsedAmong (question_of self.entry) (map seen_dependency dependencies.now) (seen_dependency dependency.now) BuildPlatform.Target
+            ⊎ IsUsedAmong (question_of self.entry) (map seen_dependency dependencies.now) (seen_dependency dependency.now) BuildPlatform.Host) }
     {
         self.is_used_among(dependencies, dependency, BuildPlatform::Target)
             || self.is_used_among(dependencies, dependency, BuildPlatform::Host)

@@ -41,8 +41,15 @@ impl<'a> Model for BuildSet<'a> {
 }
 
 impl<'a> BuildSet<'a> {
-    /// What is built, where the set says which features are on, of the chosen members at these positions, which are
-    /// those of packages of the graph.
+    /// What is built where the set says which features are on. The members are those that are chosen, by their
+    /// positions, which are those of packages of the graph. With resolver 1 the set may be asked of the workspace's root,
+    /// too, which is no member here unless it is chosen.
+    ///
+    /// Fails with `TooManyClauses` where there would be 2^30 or more, and else with `OutOfMemory` only where there is
+    /// none. Clauses are, for each platform that is built for and for the one that builds, as many as dependencies and
+    /// procedural macros, and as many as targets of members, twice with tests. Time grows with these, times the logarithm
+    /// of the features that are named and of the clauses, and for each feature `x/f` that a target requires with the
+    /// square of its package's dependencies. Takes memory for the clauses, some 200 bytes each.
     pub fn new(set: &CargoSet<'a>, members: &'a [usize]) -> Result<Self, ClosureFault>
         requires { All (λ m. m < length set.now.graph.packages) members.now }
         ensures { IfOk result (λ found. found ≡ builds set.now members.now) }
