@@ -1,5 +1,5 @@
 -- What may be built of a package.
-use Rattle.std.specs.Prelude.{ℕ, Bool, true, false}
+use Rattle.std.specs.Prelude.{ℕ}
 use Rattle.guppy_features.specs.declared.fact.BuildPlatform.{BuildPlatform}
 use Rattle.guppy_features.specs.declared.fact.BuildPlatform.TheVariants.{Target as TargetSide, Host as HostSide}
 use Rattle.guppy_builds.specs.declared.build.BuildPlace.{BuildPlace}

@@ -1,5 +1,5 @@
 -- What the chosen members, and the packages with their dependencies, add to what is built.
-use Rattle.std.specs.Prelude.{ℕ, IsTrue, Option, Some, None, List, length}
+use Rattle.std.specs.Prelude.{ℕ, IsTrue, Some, None, List, length}
 use Rattle.guppy_data.specs.declared.records.BuildTargetRecord.{BuildTargetRecord}
 use Rattle.guppy_features.specs.Dependencies.{DependencyData, dependencies}
 use Rattle.guppy_features.specs.Questions.{Question, is_macro}

@@ -1,9 +1,8 @@
 -- The platforms that are built for, each by itself.
-use Rattle.std.specs.Prelude.{ℕ, Bool, true, false, ◌&&◌, ◌||◌, not, if◌then◌else◌, length, slice_get, option_to_list}
+use Rattle.std.specs.Prelude.{ℕ, Bool, ◌||◌, if◌then◌else◌, length, slice_get, option_to_list}
 use Rattle.guppy_data.specs.Platform.{Status, Question as Platforms, OnPlatforms, OnAlways, OnAny, status_value, recorded_status, question_of as platforms_of}
 use Rattle.guppy_data.specs.declared.platform.spec.PlatformSpec.{PlatformSpec}
 use Rattle.guppy_data.specs.declared.platform.spec.PlatformSpec.TheVariants.{Always as SpecAlways, Platforms as SpecPlatforms, Any as SpecAny}
-use Rattle.guppy_data.specs.declared.texts.dependency_kind.DependencyKind.{DependencyKind}
 use Rattle.guppy_target.specs.Answer.{answer_of}
 use Rattle.guppy_target.specs.Platform.{PlatformData}
 use Rattle.guppy_features.specs.declared.fact.BuildPlatform.{BuildPlatform}

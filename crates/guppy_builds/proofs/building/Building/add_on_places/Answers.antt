@@ -1,4 +1,4 @@
-use Rattle.std.proofs.Common.{◌≡◌, arith, ◌∙◌}
+use Rattle.std.proofs.Common.{◌≡◌, arith}
 use Rattle.guppy_features.proofs.Adding.{adds_below_more, adds_below_all}
 use Rattle.guppy_builds.specs.Building.{question_of}
 use Rattle.guppy_builds.specs.Places.{platform_count}

@@ -1,4 +1,4 @@
-use Rattle.std.proofs.Common.{◌≡◌, ◌∙◌, false, true, refl, ap, sym, subst}
+use Rattle.std.proofs.Common.{false, refl}
 use Rattle.std.specs.Prelude.{IsTrue}
 use Rattle.std.specs.String.{string_bytes}
 use Rattle.guppy_builds.specs.Building.{question_of}

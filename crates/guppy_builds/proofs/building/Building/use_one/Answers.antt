@@ -1,4 +1,4 @@
-use Rattle.std.proofs.Common.{false, map, refl}
+use Rattle.std.proofs.Common.{false, refl}
 use Rattle.std.specs.Prelude.{IsTrue}
 use Rattle.guppy_features.specs.Dependencies.{seen_dependency}
 use Rattle.guppy_builds.specs.Building.{question_of}
