@@ -4,6 +4,9 @@
 //! members, and of a package that is built each that it depends on, where the dependency is on for that platform, and
 //! switched on if it is optional. A [`BuildSet`] has what is built and nothing else.
 //!
+//! It speaks of packages, not of each of their targets, and of `cargo build` and `cargo test` with no target named. What
+//! guppy_features says of optional dependencies that Cargo's resolver of versions leaves out holds here, too.
+//!
 //! The modules, from the bottom up:
 //!
 //! - `build`: that a package is built, and for which platform;

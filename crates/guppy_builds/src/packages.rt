@@ -120,7 +120,13 @@ impl Building<'_> {
         requires { position < length self.asked.graph.now.packages }
         ensures { result ≡ has_script (question_of self.entry) position }
     {
-        have_script(self.asked.graph.package_at(position).build_targets.as_slice())
+        have_script(
+            self.asked
+                .graph
+                .package_at(position)
+                .build_targets
+                .as_slice(),
+        )
     }
 }
 

@@ -7,7 +7,9 @@ ghost use Rattle.guppy_builds.specs.Places.{count_of, platform_count, platform_a
 
 use crate::build::BuildPlace;
 use crate::building::Building;
-use guppy_data::{DependencyKind, EnabledTernary, PlatformSpec, PlatformStatus, PlatformStatusImpl};
+use guppy_data::{
+    DependencyKind, EnabledTernary, PlatformSpec, PlatformStatus, PlatformStatusImpl,
+};
 use guppy_features::dependencies::Dependency;
 use guppy_features::{BuildPlatform, may_be_on};
 use guppy_target::{CfgEval, Platform};

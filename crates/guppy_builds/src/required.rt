@@ -87,11 +87,7 @@ impl Building<'_> {
     }
 
     // Whether it is used on one of the sides.
-    fn is_used_on_one(
-        self,
-        dependencies: &[Dependency<'_>],
-        dependency: &Dependency<'_>,
-    ) -> bool
+    fn is_used_on_one(self, dependencies: &[Dependency<'_>], dependency: &Dependency<'_>) -> bool
         requires within_all { All (IsWithin (length self.asked.graph.now.packages)) dependencies.now }
         requires from { dependency.now.from < length self.asked.graph.now.packages }
         ensures { IsTrue result ↔ (IsUsedAmong (question_of self.entry) (map seen_dependency dependencies.now) (seen_dependency dependency.now) BuildPlatform.Target

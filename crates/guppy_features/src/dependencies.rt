@@ -28,10 +28,7 @@ pub struct Dependency<'a> {
 
 /// The dependencies of the package at the position, six for each link that leaves it. Takes memory for them, and fails
 /// only where there is none.
-pub fn dependencies(
-    graph: &RecordGraph,
-    position: usize,
-) -> Result<Vec<Dependency<'_>>, AllocError>
+pub fn dependencies(graph: &RecordGraph, position: usize) -> Result<Vec<Dependency<'_>>, AllocError>
     requires { position < length graph.now.packages }
     ensures dependencies { IfOk result (λ list. AreOf graph.now position list.items) }
     ensures within { IfOk result (λ list. All (IsWithin (length graph.now.packages)) list.items) }

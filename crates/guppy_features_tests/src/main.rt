@@ -23,9 +23,8 @@ use guppy_data::PlatformSpec;
 use guppy_features::{BuildPlatform, CargoOptions, CargoSet, Fact};
 use guppy_graph::RecordGraph;
 use guppy_metadata::records_of;
-use std::env;
 use std::io::{Read, Write};
-use std::mem;
+use std::{env, mem};
 
 fn side_name(side: BuildPlatform) -> &'static str {
     match side {
@@ -106,7 +105,10 @@ fn main(rt: HostRuntime) -> anyhow::Result<()> {
         initials: initials_of(&graph, &words)?,
         tests: words.tests,
         resolver: words.resolver,
-        target_platform: PlatformSpec::Platforms(mem::replace(&mut words.targets, Vec::new(rt.alloc()))),
+        target_platform: PlatformSpec::Platforms(mem::replace(
+            &mut words.targets,
+            Vec::new(rt.alloc()),
+        )),
         host_platform: PlatformSpec::Platforms(mem::replace(&mut words.host, Vec::new(rt.alloc()))),
     };
     let Ok(set) = CargoSet::new(&graph, &options) else {
