@@ -2,10 +2,10 @@
 """Judges by cargo itself what a program says is built, and with which features.
 
 Workspaces are drawn, with questions on each; cargo's graph of units tells what would be built, and nothing is compiled.
-The program reads what `cargo metadata --all-features` prints, takes what is asked as arguments (`words_for`), and prints
-`part NAME VERSION SIDE`, `feature NAME VERSION SIDE FEATURE` and, where it tells what is built, `built NAME VERSION SIDE
-PLATFORM`. Without arguments this judges the program as built; else the first names one, and further ones from which to
-which number workspaces are drawn. `--keep NUMBER FOLDER` writes a drawn workspace to a folder, and prints its questions.
+The program reads what `cargo metadata --all-features` prints, takes what is asked as arguments (`words_for`), and
+prints `part NAME VERSION SIDE`, `feature NAME VERSION SIDE FEATURE` and `built NAME VERSION SIDE PLATFORM`, a line each.
+Without arguments this judges the program as built; else the first names one, and further ones from which to which
+number workspaces are drawn. `--keep NUMBER FOLDER` writes a drawn workspace to a folder, and prints its questions.
 
 `--own` in the program's place tries the judge: `built.py` has the definition in Python, and wrong definitions, one a
 rule, are planted in it, of which each must be told. The last line is 'N passed, M failed'.
@@ -33,8 +33,6 @@ DRAWN, OWN, ASKED = 150, 40, 6
 # So many are drawn over crates of Debian's, where some are installed.
 OVER_CRATES = 20
 SECONDS = 120
-# The program doesn't tell what is built.
-HAS_BUILDS = False
 TARGET, HOST = built.TARGET, built.HOST
 
 
@@ -291,13 +289,12 @@ def told_by(definition):
     return lambda asked, world: definition.answer(asked.metadata, words_of(asked, world))
 
 
-def differs(tell, asked, world, has_builds=True):
-    """What is told wrongly: what is built or, of a program that doesn't tell this, the features of what cargo builds."""
+def differs(tell, asked, world):
+    """What is told wrongly: what is built with which features, or that what cargo builds takes part."""
     lines = tell(asked, world)
-    if has_builds:
-        return difference(asked.cargo, built_by_lines(lines, asked.resolver))
     wanted = features_by_cargo(asked.cargo, asked.resolver)
-    return difference(wanted, features_by_lines(lines, wanted))
+    return difference(asked.cargo, built_by_lines(lines, asked.resolver)) or difference(
+        wanted, features_by_lines(lines, wanted))
 
 
 def ask_all(world, seeds, over_crates=0):
@@ -314,11 +311,11 @@ def ask_all(world, seeds, over_crates=0):
             yield from asked
 
 
-def judge(tell, world, questions, has_builds=True):
+def judge(tell, world, questions):
     """How many questions of each limit it tells as cargo does and not, and what is told wrongly beyond these limits."""
     counts, failures = Counter(), []
     for asked in questions:
-        wrong = differs(tell, asked, world, has_builds)
+        wrong = differs(tell, asked, world)
         counts[asked.limit, wrong is None] += 1
         if wrong and not asked.limit:
             failures.append(f"features: {asked}: FAILED: {wrong}")
@@ -374,7 +371,7 @@ def main(words):
             passed, failed = try_own(world, range(*map(int, numbers)) if numbers else range(OWN))
         elif os.access(program, os.X_OK):
             seeds = range(*map(int, numbers)) if numbers else range(DRAWN)
-            passed, failed = judge(told_by_program(program), world, ask_all(world, seeds, OVER_CRATES), HAS_BUILDS)
+            passed, failed = judge(told_by_program(program), world, ask_all(world, seeds, OVER_CRATES))
         else:
             return f"features: {program} is not there"
     print(f"features: {time.time() - begun:.0f} seconds")

@@ -11,26 +11,24 @@ use std::alloc::AllocError;
 
 /// A dependency: of one section of a link the required or the optional part.
 #[derive(Clone, Copy)]
-pub(crate) struct Dependency<'a> {
+pub struct Dependency<'a> {
     /// The position of the package that depends.
-    pub(crate) from: usize,
+    pub from: usize,
     /// The position of the one depended on.
-    pub(crate) to: usize,
+    pub to: usize,
     /// The name in the manifest.
-    pub(crate) name: &'a str,
+    pub name: &'a str,
     /// The section.
-    pub(crate) section: DependencyKind,
+    pub section: DependencyKind,
     /// Whether it is the optional part.
-    pub(crate) is_optional: bool,
+    pub is_optional: bool,
     /// The part.
-    pub(crate) part: &'a DepRequiredOrOptional,
+    pub part: &'a DepRequiredOrOptional,
 }
 
-/// The dependencies of the package at the position.
-pub(crate) fn dependencies(
-    graph: &RecordGraph,
-    position: usize,
-) -> Result<Vec<Dependency<'_>>, AllocError>
+/// The dependencies of the package at the position, six for each link that leaves it. Takes memory for them, and fails
+/// only where there is none.
+pub fn dependencies(graph: &RecordGraph, position: usize) -> Result<Vec<Dependency<'_>>, AllocError>
     requires { position < length graph.now.packages }
     ensures dependencies { IfOk result (λ list. AreOf graph.now position list.items) }
     ensures within { IfOk result (λ list. All (IsWithin (length graph.now.packages)) list.items) }

@@ -26,7 +26,7 @@
 
 mod chosen;
 mod clauses;
-mod dependencies;
+pub mod dependencies;
 mod fact;
 mod needs;
 mod options;
@@ -40,6 +40,7 @@ mod values;
 pub use crate::chosen::{ChosenFault, initials_for};
 pub use crate::fact::{BuildPlatform, Fact, FactKind};
 pub use crate::options::{CargoOptions, CargoResolverVersion, Initial, StandardFeatures};
+pub use crate::question::{Asked, is_macro_library, may_be_on};
 pub use crate::reason::Reason;
 pub use crate::set::CargoSet;
 pub use guppy_closure::ClosureFault;

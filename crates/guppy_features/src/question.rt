@@ -19,14 +19,16 @@ use guppy_target::{CfgEval, Platform};
 
 /// What is asked of a graph.
 #[derive(Clone, Copy)]
-pub(crate) struct Asked<'a> {
-    pub(crate) graph: &'a RecordGraph,
-    pub(crate) options: &'a CargoOptions,
+pub struct Asked<'a> {
+    /// The graph.
+    pub graph: &'a RecordGraph,
+    /// What is asked.
+    pub options: &'a CargoOptions,
 }
 
 impl<'a> Asked<'a> {
     /// Whether the sides are apart: not with resolver 1.
-    pub(crate) fn splits(self) -> bool
+    pub fn splits(self) -> bool
         ensures { result ≡ splits (question_of self.entry) }
     {
         !matches!(self.options.resolver, CargoResolverVersion::V1)
@@ -43,7 +45,7 @@ impl<'a> Asked<'a> {
     }
 
     /// Whether the library of the package is a procedural macro.
-    pub(crate) fn is_macro(self, position: usize) -> bool
+    pub fn is_macro(self, position: usize) -> bool
         requires { position < length self.graph.now.packages }
         ensures { result ≡ is_macro (question_of self.entry) position }
     {
@@ -101,7 +103,7 @@ impl<'a> Asked<'a> {
     }
 
     /// The side that the dependency's package is on, for a package on the side.
-    pub(crate) fn side_of(self, side: BuildPlatform, dependency: &Dependency<'_>) -> BuildPlatform
+    pub fn side_of(self, side: BuildPlatform, dependency: &Dependency<'_>) -> BuildPlatform
         requires { dependency.now.to < length self.graph.now.packages }
         ensures { result ≡ side_of (question_of self.entry) side (seen_dependency dependency.now) }
     {
@@ -116,7 +118,7 @@ impl<'a> Asked<'a> {
     }
 
     /// That the package's feature of the name is on, if it has one.
-    pub(crate) fn feature(self, position: usize, side: BuildPlatform, name: &str) -> Option<Fact>
+    pub fn feature(self, position: usize, side: BuildPlatform, name: &str) -> Option<Fact>
         requires { position < length self.graph.now.packages }
         ensures { result ≡ feature_fact self.entry.graph.now.packages position side name.now }
     {
@@ -137,7 +139,7 @@ impl<'a> Asked<'a> {
 
     /// What holds where the dependency is used on the side: that its package takes part, or that the optional one is
     /// switched on.
-    pub(crate) fn use_of(self, side: BuildPlatform, dependency: &Dependency<'_>) -> Option<Fact>
+    pub fn use_of(self, side: BuildPlatform, dependency: &Dependency<'_>) -> Option<Fact>
         requires { dependency.now.from < length self.graph.now.packages }
         ensures { result ≡ use_of (question_of self.entry) side (seen_dependency dependency.now) }
     {
@@ -149,8 +151,8 @@ impl<'a> Asked<'a> {
     }
 }
 
-// Whether what has the status is on on one of the platforms, as far as it can be told.
-fn may_be_on(status: PlatformStatus<'_>, platform: &PlatformSpec<Platform>) -> bool
+/// Whether what has the status is on on one of the platforms, as far as it can be told.
+pub fn may_be_on(status: PlatformStatus<'_>, platform: &PlatformSpec<Platform>) -> bool
     ensures { result ≡ may_be (status_value answer_of (seen_status status.entry) (platforms_of platform.now)) }
 {
     status.enabled_on(platform, &CfgEval) != EnabledTernary::Disabled
@@ -162,7 +164,8 @@ fn has_macro_library(targets: &[BuildTargetRecord]) -> bool
     targets.iter().any(|target| is_macro_library(target))
 }
 
-fn is_macro_library(target: &BuildTargetRecord) -> bool
+/// Whether the target is a library that is a procedural macro.
+pub fn is_macro_library(target: &BuildTargetRecord) -> bool
     ensures { result ≡ is_macro_library target.now }
 {
     matches!(target.id, OwnedBuildTargetId::Library)

@@ -5,7 +5,7 @@ ghost use Rattle.std.specs.List.Sorted.{IsStrictlySortedBy};
 ghost use Rattle.guppy_closure.specs.Relations.{HoldsBy};
 ghost use Rattle.guppy_features.specs.FactOrder.{fact_cmp};
 ghost use Rattle.guppy_features.specs.declared.fact.Fact.{Fact};
-ghost use Rattle.guppy_features.specs.Questions.{question};
+ghost use Rattle.guppy_features.specs.Questions.{question, question_of};
 ghost use Rattle.guppy_features.specs.Follows.{FollowsFor};
 ghost use Rattle.guppy_features.specs.Reasons.{AreReasons, EndsIn, AreNeeded};
 
@@ -61,6 +61,13 @@ impl<'a> CargoSet<'a> {
         let asked = Asked { graph, options };
         let known = Known::new(graph.alloc(), asked.clauses()?)?;
         Ok(CargoSet { asked, known })
+    }
+
+    /// What is asked, and of which graph.
+    pub fn asked(&self) -> Asked<'a>
+        ensures { question_of result ≡ self.now }
+    {
+        self.asked
     }
 
     /// Whether the fact holds, as Cargo resolves what is asked. Takes of the order of log n comparisons for n facts that

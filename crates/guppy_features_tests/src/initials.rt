@@ -27,8 +27,8 @@ pub fn initials_of(graph: &RecordGraph, words: &Words) -> anyhow::Result<Vec<Ini
     }
 }
 
-// The positions of the chosen members.
-fn members_of(graph: &RecordGraph, words: &Words) -> anyhow::Result<Vec<usize>>
+/// The positions of the chosen members.
+pub fn members_of(graph: &RecordGraph, words: &Words) -> anyhow::Result<Vec<usize>>
     ensures { IfOk result (λ members. All (λ p. p < length graph.now.packages) members.items) }
 {
     let mut members = Vec::new(graph.alloc());

@@ -29,6 +29,9 @@ pub struct Words {
     pub host: Vec<Platform>,
     /// The platforms that are built for.
     pub targets: Vec<Platform>,
+    /// The names of the platform that builds, and of those that are built for.
+    pub host_triples: Vec<String>,
+    pub target_triples: Vec<String>,
     /// The names of the chosen members.
     pub members: Vec<String>,
     /// The values of `--features`.
@@ -50,6 +53,8 @@ impl Words {
             is_host: false,
             host: Vec::new(alloc),
             targets: Vec::new(alloc),
+            host_triples: Vec::new(alloc),
+            target_triples: Vec::new(alloc),
             members: Vec::new(alloc),
             features: Vec::new(alloc),
             standard: StandardFeatures::Default,
@@ -111,11 +116,14 @@ impl Words {
             lines.push_str(setting)?;
             lines.push_str("\n")?;
         }
-        let platform = Platform::new(self.alloc, self.triple.as_str(), lines.as_str())?;
+        let triple = mem::replace(&mut self.triple, String::new(self.alloc));
+        let platform = Platform::new(self.alloc, triple.as_str(), lines.as_str())?;
         if self.is_host {
             self.host.push(platform)?;
+            self.host_triples.push(triple)?;
         } else {
             self.targets.push(platform)?;
+            self.target_triples.push(triple)?;
         }
         Ok(())
     }

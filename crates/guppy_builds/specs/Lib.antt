@@ -1,0 +1,7 @@
+pub mod Builds
+pub mod Places
+pub mod Required
+pub mod Follows
+pub mod Building
+pub mod Parts
+pub mod BuildOrder

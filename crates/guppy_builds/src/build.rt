@@ -1,0 +1,73 @@
+//! What may be built of a package.
+use guppy_features::BuildPlatform;
+
+/// The platform that something is built for.
+#[derive(Clone, Copy, Debug, PartialEq, Eq, PartialOrd, Ord)]
+pub enum BuildPlace {
+    /// Of those that are built for, the platform of this place in their list.
+    Target(usize),
+    /// The platform that builds.
+    Host,
+}
+
+impl BuildPlace {
+    ghost use Rattle.std.specs.Prelude.{◌≡◌};
+    ghost use Rattle.guppy_builds.specs.Builds.{side_of};
+
+    /// The side that this is.
+    pub fn side(self) -> BuildPlatform
+        ensures { result ≡ side_of self }
+    {
+        match self {
+            BuildPlace::Target(_) => BuildPlatform::Target,
+            BuildPlace::Host => BuildPlatform::Host,
+        }
+    }
+}
+
+/// How a package is built.
+#[derive(Clone, Copy, Debug, PartialEq, Eq, PartialOrd, Ord)]
+pub enum BuildMode {
+    /// By itself.
+    Build,
+    /// With its dev-dependencies, for a test or an example.
+    Test,
+}
+
+/// That a package is built for a platform.
+#[derive(Clone, Copy, Debug, PartialEq, Eq, PartialOrd, Ord)]
+pub struct Build {
+    /// The position of the package.
+    pub position: usize,
+    /// The platform.
+    pub place: BuildPlace,
+    /// How it is built.
+    pub mode: BuildMode,
+}
+
+impl Build {
+    ghost use Rattle.std.specs.Prelude.{◌≡◌};
+    ghost use Rattle.guppy_builds.specs.Builds.{built, tested};
+
+    /// A target of the package is built for the platform.
+    pub fn built(position: usize, place: BuildPlace) -> Self
+        ensures { result ≡ built position place }
+    {
+        Build {
+            position,
+            place,
+            mode: BuildMode::Build,
+        }
+    }
+
+    /// One is built with the package's dev-dependencies.
+    pub fn tested(position: usize, place: BuildPlace) -> Self
+        ensures { result ≡ tested position place }
+    {
+        Build {
+            position,
+            place,
+            mode: BuildMode::Test,
+        }
+    }
+}
