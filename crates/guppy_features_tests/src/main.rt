@@ -10,7 +10,7 @@
 //! - `initials`: which members are chosen by them, and what each package is asked for.
 #![tactic(auto)]
 
-ghost use Rattle.std.specs.Prelude.{◌<◌, length};
+ghost use Rattle.std.specs.Prelude.{◌<◌, length, All, IfOk};
 
 mod initials;
 mod words;
@@ -23,6 +23,8 @@ use guppy_data::PlatformSpec;
 use guppy_features::{BuildPlatform, CargoOptions, CargoSet, Fact};
 use guppy_graph::RecordGraph;
 use guppy_metadata::records_of;
+use guppy_target::Platform;
+use std::alloc::Global;
 use std::io::{Read, Write};
 use std::{env, mem};
 
@@ -91,36 +93,78 @@ fn tell_builds(
     Ok(())
 }
 
-fn main(rt: HostRuntime) -> anyhow::Result<()> {
+// The graph of the JSON on standard input.
+fn graph_of(rt: &HostRuntime) -> anyhow::Result<RecordGraph> {
     let mut json = String::new(rt.alloc());
     rt.stdin().read_to_string(&mut json)?;
     let records = records_of(rt.alloc(), json.as_str())?;
     let graph = RecordGraph::from_records(records.packages, records.links, records.workspace)?;
+    Ok(graph)
+}
+
+// What the arguments ask.
+fn words_of(rt: &HostRuntime) -> anyhow::Result<Words> {
     let mut words = Words::new(rt.alloc());
-    for word in env::args(&rt)?.skip(1) {
+    for word in env::args(rt)?.skip(1) {
         words.add(word)?;
     }
-    let members = members_of(&graph, &words)?;
-    let options = CargoOptions {
-        initials: initials_of(&graph, &words)?,
+    Ok(words)
+}
+
+// The platforms, which are taken out of the words.
+fn platforms_in(alloc: Global, platforms: &mut Vec<Platform>) -> PlatformSpec<Platform> {
+    PlatformSpec::Platforms(mem::replace(platforms, Vec::new(alloc)))
+}
+
+// What is asked of Cargo.
+fn options_of(graph: &RecordGraph, words: &mut Words) -> anyhow::Result<CargoOptions>
+    ensures { IfOk result
+        (λ options. All (λ i. i.position < length graph.now.packages) options.initials.items) }
+{
+    let initials = initials_of(graph, words)?;
+    Ok(CargoOptions {
+        initials,
         tests: words.tests,
         resolver: words.resolver,
-        target_platform: PlatformSpec::Platforms(mem::replace(
-            &mut words.targets,
-            Vec::new(rt.alloc()),
-        )),
-        host_platform: PlatformSpec::Platforms(mem::replace(&mut words.host, Vec::new(rt.alloc()))),
-    };
-    let Ok(set) = CargoSet::new(&graph, &options) else {
-        bail!("there is no memory, or there are too many clauses");
-    };
+        target_platform: platforms_in(graph.alloc(), &mut words.targets),
+        host_platform: platforms_in(graph.alloc(), &mut words.host),
+    })
+}
+
+// Tells what Cargo resolves.
+fn tell_resolved(rt: &HostRuntime, graph: &RecordGraph, set: &CargoSet) -> anyhow::Result<()> {
     for position in 0..graph.package_count() {
-        tell(&rt, &graph, &set, position, BuildPlatform::Target)?;
-        tell(&rt, &graph, &set, position, BuildPlatform::Host)?;
+        tell(rt, graph, set, position, BuildPlatform::Target)?;
+        tell(rt, graph, set, position, BuildPlatform::Host)?;
     }
-    let Ok(builds) = BuildSet::new(&set, members.as_slice()) else {
+    Ok(())
+}
+
+// Tells what Cargo resolves and builds for these members.
+fn tell_all(
+    rt: &HostRuntime,
+    graph: &RecordGraph,
+    words: &Words,
+    members: &[usize],
+    options: &CargoOptions,
+) -> anyhow::Result<()>
+    requires initials { All (λ i. i.position < length graph.now.packages) options.now.initials.items }
+    requires members { All (λ m. m < length graph.now.packages) members.now }
+{
+    let Ok(set) = CargoSet::new(graph, options) else {
         bail!("there is no memory, or there are too many clauses");
     };
-    tell_builds(&rt, &graph, &words, &builds)?;
-    Ok(())
+    tell_resolved(rt, graph, &set)?;
+    let Ok(builds) = BuildSet::new(&set, members) else {
+        bail!("there is no memory, or there are too many clauses");
+    };
+    tell_builds(rt, graph, words, &builds)
+}
+
+fn main(rt: HostRuntime) -> anyhow::Result<()> {
+    let graph = graph_of(&rt)?;
+    let mut words = words_of(&rt)?;
+    let members = members_of(&graph, &words)?;
+    let options = options_of(&graph, &mut words)?;
+    tell_all(&rt, &graph, &words, members.as_slice(), &options)
 }
