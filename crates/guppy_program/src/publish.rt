@@ -119,11 +119,7 @@ fn none_hindered<F: Format>(
         return Ok(());
     };
     let member = text_of::<F>(options, names, member);
-    Err(unpublishable(
-        alloc,
-        member,
-        text_of::<F>(options, names, needed),
-    ))
+    Err(unpublishable(alloc, member, text_of::<F>(options, names, needed)))
 }
 
 /// The members in a publish order, or of these those alone that can be published, where none of them needs one that can't.
