@@ -20,7 +20,7 @@ count_of SpecAlways = 1
 count_of SpecAny = 1
 
 abbrev pub platform_count : Question → ℕ
-platform_count q = count_of q.options.target_platform
+platform_count q = count_of q.options.target_platform.now
 
 -- the one of this place, by itself
 abbrev pub platform_at : PlatformSpec PlatformData → ℕ → Platforms PlatformData
@@ -30,8 +30,8 @@ platform_at SpecAny i = OnAny
 
 -- what is built there is for this
 abbrev pub platform_of : Question → BuildPlace → Platforms PlatformData
-platform_of q (Target i) = platform_at q.options.target_platform i
-platform_of q Host = platforms_of q.options.host_platform
+platform_of q (Target i) = platform_at q.options.target_platform.now i
+platform_of q Host = platforms_of q.options.host_platform.now
 
 -- whether what has the status may be on for it
 abbrev pub may_be_on : Status → Platforms PlatformData → Bool

@@ -29,8 +29,8 @@ HasOne {X} xs P = (x : X) × Contains xs x × P x
 -- that is built for, or on the one that builds
 abbrev pub may_be_used : Question → DependencyData → Bool
 may_be_used q d = (not (is_development d.section) || q.options.tests)
-    && (may_be_on (recorded_status d.part.build_if) (platforms_of q.options.host_platform)
-    || may_be_on (recorded_status d.part.build_if) (platforms_of q.options.target_platform))
+    && (may_be_on (recorded_status d.part.build_if) (platforms_of q.options.host_platform.now)
+    || may_be_on (recorded_status d.part.build_if) (platforms_of q.options.target_platform.now))
 
 -- on the side the dependency is used, and leads to the package, and a target may use it
 abbrev pub Uses : Question → BuildPlatform → ℕ → DependencyData → Type 0

@@ -19,7 +19,7 @@ impl Building<'_> {
     pub(crate) fn platform_count(self) -> usize
         ensures { result ≡ platform_count (question_of self.entry) }
     {
-        match &self.asked.options.target_platform {
+        match self.asked.options.target_platform {
             PlatformSpec::Platforms(platforms) => platforms.len(),
             _ => 1,
         }
@@ -45,8 +45,8 @@ impl Building<'_> {
         let status = PlatformStatus::new(status);
         let options = self.asked.options;
         match place {
-            BuildPlace::Target(place) => may_be_on_one(status, &options.target_platform, place),
-            BuildPlace::Host => may_be_on(status, &options.host_platform),
+            BuildPlace::Target(place) => may_be_on_one(status, options.target_platform, place),
+            BuildPlace::Host => may_be_on(status, options.host_platform),
         }
     }
 

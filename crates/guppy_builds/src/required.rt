@@ -141,6 +141,6 @@ impl Building<'_> {
             return false;
         }
         let status = PlatformStatus::new(&dependency.part.build_if);
-        may_be_on(status, &options.host_platform) || may_be_on(status, &options.target_platform)
+        may_be_on(status, options.host_platform) || may_be_on(status, options.target_platform)
     }
 }

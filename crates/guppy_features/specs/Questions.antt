@@ -98,7 +98,7 @@ may_be Enabled = true
 -- the host's
 abbrev pub platforms_for : Question → BuildPlatform → DependencyKind → PlatformSpec PlatformData
 platforms_for q s section =
-    if is_host s || is_build section then q.options.host_platform else q.options.target_platform
+    if is_host s || is_build section then q.options.host_platform.now else q.options.target_platform.now
 
 -- whether what has the status is on for a package on the side, in the section: where the sides are apart, if it may be
 -- on the platforms that count there, else if it is on any at all

@@ -37,16 +37,16 @@ pub struct Initial {
 
 /// What is asked of Cargo.
 #[derive(Debug, Drop)]
-pub struct CargoOptions {
+pub struct CargoOptions<'a> {
     /// The chosen members. With resolver 1, in a workspace whose root is a package, that one, too.
     pub initials: Vec<Initial>,
     /// Whether tests are built, as `cargo test` does.
     pub tests: bool,
     /// The platforms that are built for. Of an empty list nothing counts on the target's side; where nothing else
     /// is built for, this is the host's, too.
-    pub target_platform: PlatformSpec<Platform>,
+    pub target_platform: &'a PlatformSpec<Platform>,
     /// The platform that builds.
-    pub host_platform: PlatformSpec<Platform>,
+    pub host_platform: &'a PlatformSpec<Platform>,
     /// The resolver.
     pub resolver: CargoResolverVersion,
 }

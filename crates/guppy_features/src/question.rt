@@ -23,7 +23,7 @@ pub struct Asked<'a> {
     /// The graph.
     pub graph: &'a RecordGraph,
     /// What is asked.
-    pub options: &'a CargoOptions,
+    pub options: &'a CargoOptions<'a>,
 }
 
 impl<'a> Asked<'a> {
@@ -78,9 +78,9 @@ impl<'a> Asked<'a> {
         ensures { result.now ≡ platforms_for (question_of self.entry) side section }
     {
         if side == BuildPlatform::Host || section == DependencyKind::Build {
-            &self.options.host_platform
+            self.options.host_platform
         } else {
-            &self.options.target_platform
+            self.options.target_platform
         }
     }
 

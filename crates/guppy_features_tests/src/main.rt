@@ -116,8 +116,13 @@ fn platforms_in(alloc: Global, platforms: &mut Vec<Platform>) -> PlatformSpec<Pl
     PlatformSpec::Platforms(mem::replace(platforms, Vec::new(alloc)))
 }
 
-// What is asked of Cargo.
-fn options_of(graph: &RecordGraph, words: &mut Words) -> anyhow::Result<CargoOptions>
+// What is asked of Cargo, on these platforms.
+fn options_of<'a>(
+    graph: &RecordGraph,
+    words: &Words,
+    target_platform: &'a PlatformSpec<Platform>,
+    host_platform: &'a PlatformSpec<Platform>,
+) -> anyhow::Result<CargoOptions<'a>>
     ensures { IfOk result
         (λ options. All (λ i. i.position < length graph.now.packages) options.initials.items) }
 {
@@ -126,8 +131,8 @@ fn options_of(graph: &RecordGraph, words: &mut Words) -> anyhow::Result<CargoOpt
         initials,
         tests: words.tests,
         resolver: words.resolver,
-        target_platform: platforms_in(graph.alloc(), &mut words.targets),
-        host_platform: platforms_in(graph.alloc(), &mut words.host),
+        target_platform,
+        host_platform,
     })
 }
 
@@ -146,7 +151,7 @@ fn tell_all(
     graph: &RecordGraph,
     words: &Words,
     members: &[usize],
-    options: &CargoOptions,
+    options: &CargoOptions<'_>,
 ) -> anyhow::Result<()>
     requires initials { All (λ i. i.position < length graph.now.packages) options.now.initials.items }
     requires members { All (λ m. m < length graph.now.packages) members.now }
@@ -165,6 +170,8 @@ fn main(rt: HostRuntime) -> anyhow::Result<()> {
     let graph = graph_of(&rt)?;
     let mut words = words_of(&rt)?;
     let members = members_of(&graph, &words)?;
-    let options = options_of(&graph, &mut words)?;
+    let target = platforms_in(rt.alloc(), &mut words.targets);
+    let host = platforms_in(rt.alloc(), &mut words.host);
+    let options = options_of(&graph, &words, &target, &host)?;
     tell_all(&rt, &graph, &words, members.as_slice(), &options)
 }
