@@ -2,9 +2,9 @@ use Rattle.std.proofs.Common.{◌∙◌, sym, ap, subst, codes, arith, ◌++◌}
 use Rattle.guppy_data.proofs.Sources.{Lacks-from_find, IsCutAt-from_split, front_from_strip}
 use Rattle.guppy_data.specs.ExternalSource.{IsCutAt}
 use Rattle.guppy_data.specs.declared.texts.named_feature.NamedFeatureDep.TheVariants.{DependencyNamedFeature}
-use Rattle.guppy_metadata.specs.Feature.{NamesDependency}
-use Rattle.guppy_metadata.proofs.Features.{printed-is}
-use Rattle.guppy_metadata.proofs.feature.feature_of.Goals as goal
+use Rattle.guppy_data.specs.NamedFeature.{NamesDependency}
+use Rattle.guppy_data.proofs.NamedFeatures.{printed-is}
+use Rattle.guppy_data.proofs.texts.named_feature.NamedFeatureDep.from_text.Goals as goal
 
 pub returns-in-Some-clause-read : goal.returns-in-Some-clause-read
 returns-in-Some-clause-read c =
