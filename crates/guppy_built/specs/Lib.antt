@@ -1,0 +1,5 @@
+pub mod Asked
+pub mod Those
+pub mod Rows
+pub mod Names
+pub mod Why

@@ -1,0 +1,30 @@
+//! What is told of what Cargo builds: each package that is built with its features, and why a feature is on.
+//!
+//! A [`BuildQuestion`] has what a command line chooses, in its own words. What Cargo makes of it is guppy_features' and
+//! guppy_builds'.
+//!
+//! The modules, from the bottom up:
+//!
+//! - `question`: what is asked; `fault`: why there is no answer;
+//! - `members`: the members that are chosen; `asked`: what all of it means to Cargo;
+//! - `unresolved`: what the metadata don't resolve;
+//! - `features`: which features of a package are on;
+//! - `rows`: what is built, a row for each package on each platform;
+//! - `names`: what facts say, by names;
+//! - `why`: why a feature is on.
+#![tactic(auto)]
+
+mod asked;
+mod fault;
+mod features;
+mod members;
+mod names;
+mod question;
+mod rows;
+mod why;
+
+pub use crate::fault::BuiltFault;
+pub use crate::names::{FactName, NamedFact, NamedReason};
+pub use crate::question::BuildQuestion;
+pub use crate::rows::{BuiltPackage, built_packages};
+pub use crate::why::why_feature;

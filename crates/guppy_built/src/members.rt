@@ -1,0 +1,67 @@
+//! The members that are chosen.
+ghost use Rattle.std.specs.Prelude.{◌<◌, All, IfOk, length};
+ghost use Rattle.std.specs.List.{AllZip};
+ghost use Rattle.guppy_graph.specs.Ids.{HasId, IsKnown};
+ghost use Rattle.guppy_built.specs.Asked.{AreChosen, AreDefault};
+
+use guppy_data::PackageId;
+use guppy_graph::RecordGraph;
+use std::alloc::{AllocError, Global};
+
+/// The position of the package with the ID, which must be known.
+pub(crate) fn position_of(graph: &RecordGraph, id: &PackageId) -> usize
+    requires { IsKnown graph.now.packages id.now }
+    ensures { HasId graph.now.packages id.now result }
+{
+    match graph.position_of_id(id) {
+        Some(position) => position,
+        None => unreachable!(),
+    }
+}
+
+// The positions of the packages with these IDs, each of which must be known.
+fn positions_of(
+    alloc: Global,
+    graph: &RecordGraph,
+    ids: &[PackageId],
+) -> Result<Vec<usize>, AllocError>
+    requires { All (IsKnown graph.now.packages) ids.now }
+    ensures named { IfOk result (λ positions. AllZip (HasId graph.now.packages) ids.now positions.items) }
+    ensures within { IfOk result (λ positions. All (λ p. p < length graph.now.packages) positions.items) }
+{
+    let mut positions = Vec::with_capacity(alloc, ids.len())?;
+    for id in ids {
+        positions.push(position_of(graph, id))?;
+    }
+    Ok(positions)
+}
+
+// The positions of the members that Cargo takes where none is named.
+fn default_members(alloc: Global, graph: &RecordGraph) -> Result<Vec<usize>, AllocError>
+    ensures members { IfOk result (λ positions. AreDefault graph.now
+        graph.now.workspace.default_members.items positions.items) }
+    ensures within { IfOk result (λ positions. All (λ p. p < length graph.now.packages) positions.items) }
+{
+    let ids = graph.workspace_record().default_members.as_slice();
+    if ids.is_empty() {
+        return graph.members_by_path().to_vec(alloc);
+    }
+    positions_of(alloc, graph, ids)
+}
+
+/// The positions of the chosen members: those with these IDs, each of which must be known, or where there is none those
+/// that Cargo takes by default.
+pub(crate) fn chosen_members(
+    alloc: Global,
+    graph: &RecordGraph,
+    ids: &[PackageId],
+) -> Result<Vec<usize>, AllocError>
+    requires { All (IsKnown graph.now.packages) ids.now }
+    ensures members { IfOk result (λ positions. AreChosen graph.now ids.now positions.items) }
+    ensures within { IfOk result (λ positions. All (λ p. p < length graph.now.packages) positions.items) }
+{
+    if ids.is_empty() {
+        return default_members(alloc, graph);
+    }
+    positions_of(alloc, graph, ids)
+}
