@@ -23,12 +23,12 @@ fn values_of(alloc: Global, texts: &[&str]) -> Result<Vec<NamedFeatureDep>, Allo
 }
 
 /// What Cargo is asked, of the chosen members at these positions.
-pub(crate) fn options_of<'a>(
+pub(crate) fn options_of<'p>(
     alloc: Global,
     graph: &RecordGraph,
-    question: &BuildQuestion<'a>,
+    question: &BuildQuestion<'_, 'p>,
     members: &[usize],
-) -> Result<CargoOptions<'a>, BuiltFault>
+) -> Result<CargoOptions<'p>, BuiltFault>
     requires members { AreChosen graph.now question.now.members.now members.now }
     requires within { All (λ p. p < length graph.now.packages) members.now }
     ensures ok { IfOk result (λ options. IsAsked graph.now (choice_of question.now) options members.now) }

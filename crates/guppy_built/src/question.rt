@@ -5,7 +5,7 @@ use guppy_target::Platform;
 
 /// What a command line chooses, and asks of it.
 #[derive(Clone, Copy, Debug)]
-pub struct BuildQuestion<'a> {
+pub struct BuildQuestion<'a, 'p> {
     /// The chosen members by their IDs; where there is none, those that Cargo takes by default.
     pub members: &'a [PackageId],
     /// What `--features` names: `F`, `x/F` or `x?/F`.
@@ -17,7 +17,7 @@ pub struct BuildQuestion<'a> {
     /// The resolver.
     pub resolver: CargoResolverVersion,
     /// The platforms that are built for.
-    pub target_platform: &'a PlatformSpec<Platform>,
+    pub target_platform: &'p PlatformSpec<Platform>,
     /// The platform that builds.
-    pub host_platform: &'a PlatformSpec<Platform>,
+    pub host_platform: &'p PlatformSpec<Platform>,
 }

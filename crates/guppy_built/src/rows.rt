@@ -108,7 +108,7 @@ impl<'a> Rows<'a, '_> {
 pub fn built_packages<'a>(
     alloc: Global,
     graph: &'a RecordGraph,
-    question: &BuildQuestion<'a>,
+    question: &BuildQuestion<'_, 'a>,
 ) -> Result<Vec<BuiltPackage<'a>>, BuiltFault>
     requires { All (IsKnown graph.now.packages) question.now.members.now }
     ensures ok { IfOk result (λ rows. AreBuilt graph.now (choice_of question.now) (map row_of rows.items)) }

@@ -1,5 +1,5 @@
 -- What a command answers of a package graph, when it is refused, and what is shown of the answer.
-use Rattle.std.specs.Prelude.{◌≡◌, ◌↔◌, ◌⊎◌, ◌<◌, ℕ, Bool, true, false, IsTrue, Option, Some, None, List, [], ◌∷◌, length, map, slice_get, replicate, All, Contains, ◌&&◌, is_some, if◌then◌else◌}
+use Rattle.std.specs.Prelude.{◌≡◌, ◌↔◌, ◌⊎◌, ◌++◌, ◌<◌, ℕ, Bool, true, false, IsTrue, Option, Some, None, List, [], ◌∷◌, length, map, slice_get, replicate, All, Contains, ◌&&◌, is_some, if◌then◌else◌}
 use Rattle.std.specs.List.{AllZip, concat, filter, list_all, list_any}
 use Rattle.std.specs.Str.{bytes_eq}
 use Rattle.guppy_search.specs.declared.ix.direction.DependencyDirection.{DependencyDirection}
@@ -31,30 +31,34 @@ use Rattle.guppy_publish.specs.Publishing.{ArePublishIds}
 use Rattle.guppy_extras.specs.Walk.{NoWalk, Between}
 use Rattle.guppy_command.specs.declared.options.Kinds.{Kinds}
 use Rattle.guppy_command.specs.declared.options.Options.{Options}
-use Rattle.guppy_command.specs.Cause.{Cause, library, ambiguous, no_walk, unpublishable}
-use Rattle.guppy_command.specs.Command.{Command, reach, depends, why, order, roots, links, cycles, duplicates, verify, publish_order, dot, affected}
+use Rattle.guppy_command.specs.Cause.{Cause, library, ambiguous, no_walk, unpublishable, build}
+use Rattle.guppy_command.specs.Command.{BuildRequest, Command, reach, depends, why, order, roots, links, cycles, duplicates, built, features, why_feature, verify, publish_order, dot, affected}
 use Rattle.guppy_dot.specs.Dot.{Drawing, IsDrawing, IsDrawn, IsNamed, among}
+use Rattle.guppy_built.specs.Asked.{Choice}
+use Rattle.guppy_built.specs.Names.{StepData}
+use Rattle.guppy_built.specs.Rows.{AreBuilt, Row}
+use Rattle.guppy_built.specs.Why.{IsWhy}
+use Rattle.guppy_program.specs.Builds.{Places, IsChosen, IsBuildFault}
 use Rattle.guppy_program.specs.Format.{Format, alternatives}
+use Rattle.guppy_program.specs.Meant.{Means}
 use Rattle.guppy_program.specs.Publish.{is_publishable, IsFree, IsHindranceTold}
 use Rattle.guppy_program.specs.Steps.{AreSteps}
 
 -- an answer, each package in it by its ID: a set of packages, packages in an order, rows of packages
 -- in an order, as the ends of links or cycles, rows of a package and those that need it, the packages of a walk, each
--- with the kinds of the link that leads to it, whether something holds, that all is well, or packages and links as they
--- are drawn
+-- with the kinds of the link that leads to it, what Cargo builds, why a feature is on, whether something holds, that all
+-- is well, or packages and links as they are drawn
 pub data Answer : Type 0 where
   package_set : List (List ℕ) → Answer
   package_list : List (List ℕ) → Answer
   package_rows : List (List (List ℕ)) → Answer
   package_needs : List (List (List ℕ)) → Answer
   package_steps : List (List ℕ × Kinds) → Answer
+  built_rows : List Row → Answer
+  reasons : List StepData → Answer
   truth : Bool → Answer
   all_well : Answer
   drawing : Drawing → Answer
-
--- the word means the package with this ID alone, as `meant` tells which ones it may mean
-abbrev pub Means : (List ℕ → List (List ℕ)) → List ℕ → List ℕ → Type 0
-Means meant word id = meant word ≡ id ∷ []
 
 -- the ID is that of a package to which links lead in the direction from those named, or of one of
 -- these
@@ -183,6 +187,26 @@ pub record IsDotAnswer (g : GraphData) (meant : List ℕ → List (List ℕ)) (w
   pub exact : IsDrawing g (IsDrawn g ids) drawn
   pub told : answer ≡ drawing drawn
 
+-- what Cargo builds by the request
+pub record IsBuiltAnswer (places : Places) (g : GraphData) (meant : List ℕ → List (List ℕ)) (request : BuildRequest)
+    (answer : Answer) : Type 0 where
+  pub choice : Choice
+  pub chosen : IsChosen places g meant request choice
+  pub rows : List Row
+  pub exact : AreBuilt g choice rows
+  pub told : answer ≡ built_rows rows
+
+-- why the feature of the package that the word means is on there
+pub record IsWhyFeatureAnswer (places : Places) (g : GraphData) (meant : List ℕ → List (List ℕ))
+    (request : BuildRequest) (word name : List ℕ) (answer : Answer) : Type 0 where
+  pub choice : Choice
+  pub chosen : IsChosen places g meant request choice
+  pub id : List ℕ
+  pub is_meant : Means meant word id
+  pub steps : List StepData
+  pub exact : IsWhy g choice id name steps
+  pub told : answer ≡ reasons steps
+
 -- this is an answer to the command, whose words mean what `meant` tells
 abbrev pub IsAnswer : (List ℕ → List (List ℕ)) → Command → GraphData → Answer → Type 0
 IsAnswer meant (reach direction words) g answer = IsReachAnswer direction g meant words answer
@@ -197,6 +221,14 @@ IsAnswer meant verify g answer = IsVerifyAnswer g answer
 IsAnswer meant (publish_order publishable) g answer = IsPublishAnswer g publishable answer
 IsAnswer meant (dot words) g answer = IsDotAnswer g meant words answer
 IsAnswer meant (affected ignored paths) g answer = IsAffectedAnswer g ignored paths answer
+IsAnswer meant _ g answer = ⊥
+
+-- and to one of what Cargo builds on these platforms
+abbrev pub IsAnswerOn : Places → (List ℕ → List (List ℕ)) → Command → GraphData → Answer → Type 0
+IsAnswerOn places meant (built request) g answer = IsBuiltAnswer places g meant request answer
+IsAnswerOn places meant (why_feature request word name) g answer =
+    IsWhyFeatureAnswer places g meant request word name answer
+IsAnswerOn places meant command g answer = IsAnswer meant command g answer
 
 -- the words by which a command names packages, in their order
 abbrev pub words_of : Command → List (List ℕ)
@@ -204,6 +236,9 @@ words_of (reach direction words) = words
 words_of (depends from to) = from ∷ to ∷ []
 words_of (why from to) = from ∷ to ∷ []
 words_of (dot words) = words
+words_of (built request) = request.members
+words_of (features request word) = request.members ++ word ∷ []
+words_of (why_feature request word name) = request.members ++ word ∷ []
 words_of _ = []
 
 -- the word means one package
@@ -286,6 +321,12 @@ IsCommandFault format call command g fault (unpublishable member needed) =
 IsCommandFault format call command g fault cause =
     IsWordFault format g.packages (words_of command) fault cause
 
+-- and of what Cargo builds on these platforms
+abbrev pub IsFaultOn : {Fault : Type 0} → Format Fault → Places → (List ℕ → List ℕ) → Command → GraphData → Fault
+    → Cause → Type 0
+IsFaultOn format places call command g fault (build cause) = IsBuildFault places (format.meant g.packages) command g cause
+IsFaultOn format places call command g fault cause = IsCommandFault format call command g fault cause
+
 -- a member of the workspace has the ID
 abbrev pub is_member : List PackageRecord → List ℕ → Bool
 is_member packages id = list_any (λ r. bytes_eq id r.id && is_some (member_path r)) packages
@@ -310,6 +351,8 @@ of_members packages (package_needs rows) =
     package_needs (filter (is_of (is_member packages)) rows)
 of_members packages (package_steps steps) =
     package_steps (filter (λ step. is_member packages step.0) steps)
+of_members packages (built_rows rows) = built_rows (filter (λ row. is_member packages row.id) rows)
+of_members packages (reasons steps) = reasons (filter (λ step. is_member packages step.fact.id) steps)
 of_members packages (drawing drawn) = drawing (among (is_member packages) drawn)
 of_members packages answer = answer
 
