@@ -3,3 +3,4 @@ pub mod Those
 pub mod Rows
 pub mod Names
 pub mod Why
+pub mod Features

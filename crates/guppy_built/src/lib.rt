@@ -7,14 +7,14 @@
 //!
 //! - `question`: what is asked; `fault`: why there is no answer;
 //! - `members`: the members that are chosen; `asked`: what all of it means to Cargo;
-//! - `unresolved`: what the metadata don't resolve;
 //! - `features`: which features of a package are on;
 //! - `rows`: what is built, a row for each package on each platform;
 //! - `names`: what facts say, by names;
-//! - `why`: why a feature is on.
+//! - `why`: why a feature is on; `askers`: who asks for a package's features.
 #![tactic(auto)]
 
 mod asked;
+mod askers;
 mod fault;
 mod features;
 mod members;
@@ -23,6 +23,7 @@ mod question;
 mod rows;
 mod why;
 
+pub use crate::askers::{FeatureOn, features_of};
 pub use crate::fault::BuiltFault;
 pub use crate::names::{FactName, NamedFact, NamedReason};
 pub use crate::question::BuildQuestion;

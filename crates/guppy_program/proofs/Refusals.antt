@@ -8,12 +8,13 @@ use Rattle.guppy_data.specs.declared.texts.error.Error.{Error}
 use Rattle.guppy_data.specs.declared.texts.error.Error.TheVariants.{PackageGraphConstructError, UnknownPackageId, UnknownFeatureId, UnknownWorkspacePath, UnknownWorkspaceName, PackageGraphInternalError, FeatureGraphInternalError, OutOfMemory}
 use Rattle.guppy_command.specs.Cause.{Cause, library, bad_arguments, ambiguous, no_walk, unpublishable, bad_input, input_failed, output_failed}
 use Rattle.guppy_command.specs.Command.{Command}
+use Rattle.guppy_program.specs.Meant.{Means}
 use Rattle.guppy_program.specs.Format.{Format, IsUnclear}
 use Rattle.guppy.specs.Graph.{GraphData}
 use Rattle.guppy.specs.Verified.{TellsVerifyFault, IsVerifyFault as IsGraphFault}
 use Rattle.guppy_data.specs.declared.texts.fault.VerifyFault.{VerifyFault}
 use Rattle.guppy_data.specs.declared.texts.fault.VerifyFault.TheVariants.{TargetKind, Version, NoSection, Cycle}
-use Rattle.guppy_program.specs.Answer.{Means, IsClear, IsWordFault, IsVerifyFault, IsVerifyTold, IsToldAs, TellsCycle, IsCommandFault, words_of}
+use Rattle.guppy_program.specs.Answer.{IsClear, IsWordFault, IsVerifyFault, IsVerifyTold, IsToldAs, TellsCycle, IsCommandFault, words_of}
 
 clear_at : (meant : List ℕ → List (List ℕ)) (words ids : List (List ℕ)) → AllZip (Means meant) words ids → (k : ℕ) (d : List ℕ) → k < length words → IsClear meant (get_or words k d)
 clear_at meant [] ids means k d within = absurd (omega arith)

@@ -35,6 +35,7 @@ use Rattle.guppy_command.specs.Cause.{Cause, library, ambiguous, no_walk, unpubl
 use Rattle.guppy_command.specs.Command.{BuildRequest, Command, reach, depends, why, order, roots, links, cycles, duplicates, built, features, why_feature, verify, publish_order, dot, affected}
 use Rattle.guppy_dot.specs.Dot.{Drawing, IsDrawing, IsDrawn, IsNamed, among}
 use Rattle.guppy_built.specs.Asked.{Choice}
+use Rattle.guppy_built.specs.Features.{AreFeatures, FeatureData}
 use Rattle.guppy_built.specs.Names.{StepData}
 use Rattle.guppy_built.specs.Rows.{AreBuilt, Row}
 use Rattle.guppy_built.specs.Why.{IsWhy}
@@ -46,8 +47,8 @@ use Rattle.guppy_program.specs.Steps.{AreSteps}
 
 -- an answer, each package in it by its ID: a set of packages, packages in an order, rows of packages
 -- in an order, as the ends of links or cycles, rows of a package and those that need it, the packages of a walk, each
--- with the kinds of the link that leads to it, what Cargo builds, why a feature is on, whether something holds, that all
--- is well, or packages and links as they are drawn
+-- with the kinds of the link that leads to it, what Cargo builds, why a feature is on, the features that are on, whether
+-- something holds, that all is well, or packages and links as they are drawn
 pub data Answer : Type 0 where
   package_set : List (List ℕ) → Answer
   package_list : List (List ℕ) → Answer
@@ -56,6 +57,7 @@ pub data Answer : Type 0 where
   package_steps : List (List ℕ × Kinds) → Answer
   built_rows : List Row → Answer
   reasons : List StepData → Answer
+  feature_rows : List FeatureData → Answer
   truth : Bool → Answer
   all_well : Answer
   drawing : Drawing → Answer
@@ -196,6 +198,17 @@ pub record IsBuiltAnswer (places : Places) (g : GraphData) (meant : List ℕ →
   pub exact : AreBuilt g choice rows
   pub told : answer ≡ built_rows rows
 
+-- the features of the package that the word means that are on there
+pub record IsFeaturesAnswer (places : Places) (g : GraphData) (meant : List ℕ → List (List ℕ))
+    (request : BuildRequest) (word : List ℕ) (answer : Answer) : Type 0 where
+  pub choice : Choice
+  pub chosen : IsChosen places g meant request choice
+  pub id : List ℕ
+  pub is_meant : Means meant word id
+  pub rows : List FeatureData
+  pub exact : AreFeatures g choice id rows
+  pub told : answer ≡ feature_rows rows
+
 -- why the feature of the package that the word means is on there
 pub record IsWhyFeatureAnswer (places : Places) (g : GraphData) (meant : List ℕ → List (List ℕ))
     (request : BuildRequest) (word name : List ℕ) (answer : Answer) : Type 0 where
@@ -226,6 +239,8 @@ IsAnswer meant _ g answer = ⊥
 -- and to one of what Cargo builds on these platforms
 abbrev pub IsAnswerOn : Places → (List ℕ → List (List ℕ)) → Command → GraphData → Answer → Type 0
 IsAnswerOn places meant (built request) g answer = IsBuiltAnswer places g meant request answer
+IsAnswerOn places meant (features request word) g answer =
+    IsFeaturesAnswer places g meant request word answer
 IsAnswerOn places meant (why_feature request word name) g answer =
     IsWhyFeatureAnswer places g meant request word name answer
 IsAnswerOn places meant command g answer = IsAnswer meant command g answer

@@ -3,6 +3,8 @@ pub mod Format
 pub mod Loaded
 pub mod Steps
 pub mod Publish
+pub mod Meant
+pub mod Builds
 pub mod Answer
 pub mod Printed
 pub mod Run

@@ -1,5 +1,5 @@
 -- The package graph of the records that an input says, with the links that are asked for.
-use Rattle.std.specs.Prelude.{◌≡◌, ◌↔◌, ℕ, Bool, true, false, ◌||◌, List, Contains}
+use Rattle.std.specs.Prelude.{◌≡◌, ◌↔◌, ℕ, Bool, true, false, ◌||◌, List, Contains, if◌then◌else◌}
 use Rattle.guppy_data.specs.declared.records.PackageRecord.{PackageRecord}
 use Rattle.guppy_data.specs.declared.records.LinkRecord.{LinkRecord}
 use Rattle.guppy_data.specs.declared.records.WorkspaceRecord.{WorkspaceRecord}
@@ -9,8 +9,10 @@ use Rattle.guppy.specs.Graph.{GraphData, Holds}
 use Rattle.guppy.specs.Refused.{IsRefusal}
 use Rattle.guppy_command.specs.Cause.{Cause, library, bad_input, OrMemory}
 use Rattle.guppy_command.specs.Asked.{Asked}
-use Rattle.guppy_command.specs.Command.{Command, publish_order, affected}
+use Rattle.guppy_command.specs.Command.{Command, built, features, why_feature, publish_order, affected}
 use Rattle.guppy_command.specs.Options.{kept_links}
+use Rattle.guppy_data.specs.Platform.{Question, OnAny}
+use Rattle.guppy_target.specs.Platform.{PlatformData}
 use Rattle.guppy_platforms.specs.Kept.{AreKept, are_named}
 use Rattle.guppy_publish.specs.Needs.{Pair, AreNeeds}
 use Rattle.guppy_program.specs.Format.{Format}
@@ -26,14 +28,25 @@ AreAskedOf format (publish_order publishable) input links asked_of =
     (declared : List Pair) × AreDeclared format input declared × AreNeeds declared links asked_of
 AreAskedOf format _ input links asked_of = asked_of ≡ links
 
--- whether the command asks for build targets, which say where sources lie
+-- whether the command asks what Cargo builds
+abbrev pub asks_for_builds : Command → Bool
+asks_for_builds (built request) = true
+asks_for_builds (features request word) = true
+asks_for_builds (why_feature request word name) = true
+asks_for_builds _ = false
+
+-- whether the command asks for build targets, which say where sources lie, and what is built
 abbrev pub asks_for_targets : Command → Bool
 asks_for_targets (affected ignored paths) = true
-asks_for_targets _ = false
+asks_for_targets command = asks_for_builds command
 
 -- whether records are read with details: for build targets, which also say what runs on the host
 abbrev pub reads_details : Asked → Bool
 reads_details asked = are_named asked.question || asks_for_targets asked.command
+
+-- the platforms on which links count: any where it is asked what Cargo builds, which looks at each itself
+abbrev pub counted_on : Asked → Question PlatformData
+counted_on asked = if asks_for_builds asked.command then OnAny else asked.question
 
 module _ {Fault : Type 0} (format : Format Fault) (asked : Asked) (input : List ℕ) where
   -- the input says records, and P holds of them with what counts of their links on the platforms in question or, of what
@@ -44,7 +57,7 @@ module _ {Fault : Type 0} (format : Format Fault) (asked : Asked) (input : List 
     pub workspace : WorkspaceRecord
     pub said : format.says (reads_details asked) input packages links workspace
     pub counting : List LinkRecord
-    pub counted : AreKept asked.question asked.host packages links counting
+    pub counted : AreKept (counted_on asked) asked.host packages links counting
     pub asked_links : List LinkRecord
     pub are_asked : AreAskedOf format asked.command input (kept_links asked.options.kinds counting) asked_links
     pub holds : P packages asked_links workspace

@@ -3,18 +3,23 @@ use Rattle.std.specs.Prelude.{◌≡◌, ◌⊎◌, ℕ, Bool, List, ◌++◌, O
 use Rattle.std.specs.Io.KnownBytes.{IsAtEnd, Appends}
 use Rattle.guppy.specs.Graph.{GraphData}
 use Rattle.guppy_command.specs.Asked.{Asked}
-use Rattle.guppy_command.specs.Cause.{Cause, library, bad_arguments, ambiguous, no_walk, unpublishable, bad_input, input_failed, output_failed, OrMemory, caused, is_input_fault, is_output_fault}
+use Rattle.guppy_command.specs.Cause.{Cause, library, bad_arguments, ambiguous, no_walk, unpublishable, build, bad_input, input_failed, output_failed, OrMemory, caused, is_input_fault, is_output_fault}
 use Rattle.guppy_program.specs.Format.{Format}
 use Rattle.guppy_program.specs.Loaded.{IsLoaded, AreRefused, reads_details}
-use Rattle.guppy_program.specs.Answer.{Answer, IsAnswer, IsCommandFault, shown}
+use Rattle.guppy_program.specs.Answer.{Answer, IsAnswerOn, IsFaultOn, shown}
+use Rattle.guppy_program.specs.Builds.{Places}
 use Rattle.guppy_program.specs.Printed.{IsPrinted, called}
+
+-- the platforms that are asked about
+abbrev pub places_of : Asked → Places
+places_of asked = record { target = asked.question; host = asked.host }
 
 -- the output is an answer to what is asked, of this graph: of the command's answer it has what the
 -- options have shown, each package as they have it called
 pub record IsAnswerOf {Fault : Type 0} (format : Format Fault) (asked : Asked) (g : GraphData)
     (output : List ℕ) : Type 0 where
   pub answer : Answer
-  pub answers : IsAnswer (format.meant g.packages) asked.command g answer
+  pub answers : IsAnswerOn (places_of asked) (format.meant g.packages) asked.command g answer
   pub printed : IsPrinted (called asked.options (format.text g.packages))
       (shown asked.options g.packages answer) output
 
@@ -28,7 +33,7 @@ IsAnswerTo format asked input output = (g : GraphData)
 abbrev pub IsRefusedOf : {Fault : Type 0} → Format Fault → Asked → List ℕ → Fault → Cause → Type 0
 IsRefusedOf format asked input fault cause = (g : GraphData)
     × IsLoaded format asked input g
-    × IsCommandFault format (called asked.options (format.text g.packages)) asked.command g fault cause
+    × IsFaultOn format (places_of asked) (called asked.options (format.text g.packages)) asked.command g fault cause
 
 -- the fault, with this cause, is one of the input, or of the command on this graph
 abbrev pub IsFaultOf : {Fault : Type 0} → Format Fault → Asked → List ℕ → Fault → Cause → Type 0
@@ -42,6 +47,8 @@ IsFaultOf format asked input fault (no_walk from to) =
     IsRefusedOf format asked input fault (no_walk from to)
 IsFaultOf format asked input fault (unpublishable member needed) =
     IsRefusedOf format asked input fault (unpublishable member needed)
+IsFaultOf format asked input fault (build cause) =
+    IsRefusedOf format asked input fault (build cause)
 IsFaultOf format asked input fault _ = ⊥
 
 -- the source has come to its end, and P holds of what was read, which is all that it had where that

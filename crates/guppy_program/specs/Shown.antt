@@ -2,9 +2,12 @@
 use Rattle.std.specs.Prelude.{ℕ, List as ListOf, map, ◌∷◌, []}
 use Rattle.guppy_command.specs.declared.options.Kinds.{Kinds}
 use Rattle.guppy_program.specs.declared.answer.Answer.{Answer as GivenAnswer}
-use Rattle.guppy_program.specs.declared.answer.Answer.TheVariants.{Set, List, Pairs, Rows, Needs, Steps, Truth, AllWell, Drawing}
+use Rattle.guppy_program.specs.declared.answer.Answer.TheVariants.{Set, List, Pairs, Rows, Needs, Steps, Built, Reasons, Features, Truth, AllWell, Drawing}
 use Rattle.guppy_program.specs.declared.answer.Step.{Step}
-use Rattle.guppy_program.specs.Answer.{Answer, package_set, package_list, package_rows, package_needs, package_steps, truth, all_well, drawing}
+use Rattle.guppy_program.specs.Answer.{Answer, package_set, package_list, package_rows, package_needs, package_steps, built_rows, reasons, feature_rows, truth, all_well, drawing}
+use Rattle.guppy_built.specs.Features.{feature_shown}
+use Rattle.guppy_built.specs.Names.{step_shown as reason_shown}
+use Rattle.guppy_built.specs.Rows.{row_of}
 use Rattle.guppy_dot.specs.Dot.{drawing_shown}
 
 -- the package by its ID, and the kinds
@@ -18,6 +21,9 @@ answer_shown (Pairs pairs) = package_rows (map (λ pair. pair.0.now ∷ pair.1.n
 answer_shown (Rows rows) = package_rows (map (λ row. map (λ id. id.now) row.items) rows.items)
 answer_shown (Needs rows) = package_needs (map (λ row. map (λ id. id.now) row.items) rows.items)
 answer_shown (Steps steps) = package_steps (map step_shown steps.items)
+answer_shown (Built rows) = built_rows (map row_of rows.items)
+answer_shown (Reasons steps) = reasons (map reason_shown steps.items)
+answer_shown (Features rows) = feature_rows (map feature_shown rows.items)
 answer_shown (Truth holds) = truth holds
 answer_shown AllWell = all_well
 answer_shown (Drawing drawn) = drawing (drawing_shown drawn)

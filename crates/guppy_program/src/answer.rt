@@ -7,11 +7,14 @@ ghost use Rattle.guppy.specs.Query.{IncludesId};
 ghost use Rattle.guppy.specs.Refused.{NamesId, IsFirstUnknown};
 ghost use Rattle.guppy.specs.Views.{link_data};
 ghost use Rattle.guppy_command.specs.Cause.{Cause, library};
-ghost use Rattle.guppy_program.specs.Answer.{Means, IsReached, AreReached, IsReachAnswer, TellsDependence, IsDependsAnswer, IsOrderAnswer, IsRootsAnswer, IsLinksAnswer, IsCyclesAnswer, IsDuplicatesAnswer, IsVerifyAnswer, IsDotAnswer, IsAffectedAnswer, IsAnswer, IsWordFault, IsVerifyTold, IsCommandFault, end_ids};
+ghost use Rattle.guppy_program.specs.Answer.{IsReached, AreReached, IsReachAnswer, TellsDependence, IsDependsAnswer, IsOrderAnswer, IsRootsAnswer, IsLinksAnswer, IsCyclesAnswer, IsDuplicatesAnswer, IsVerifyAnswer, IsDotAnswer, IsAffectedAnswer, IsAnswerOn, IsFaultOn, IsWordFault, IsVerifyTold, end_ids};
+ghost use Rattle.guppy_program.specs.Meant.{Means};
 ghost use Rattle.guppy_program.specs.Printed.{called};
-ghost use Rattle.guppy_command.specs.Shown.{command_shown, texts};
+ghost use Rattle.guppy_program.specs.Run.{places_of};
+ghost use Rattle.guppy_command.specs.Shown.{asked_shown, command_shown, texts};
 ghost use Rattle.guppy_program.specs.Shown.{answer_shown};
 
+use crate::builds::{built, features, why_on};
 use crate::format::Format;
 use crate::publish::published;
 use crate::verify::verified;
@@ -19,8 +22,9 @@ use crate::why::why;
 use guppy::graph::DependencyDirection;
 use guppy::{CycleIds, Error, PackageGraph, PackageId, PackageLink, PackageSet};
 use guppy_affected::affected;
+use guppy_built::{BuiltPackage, FeatureOn, NamedReason};
 use guppy_command::fault::{passed_on, want_of_memory};
-use guppy_command::{Command, Kinds, Options, ProgramFault};
+use guppy_command::{Asked, Command, Kinds, Options, ProgramFault};
 use guppy_dot::{Drawing, drawing_of};
 use guppy_extras::duplicates;
 use std::alloc::{AllocError, Global};
@@ -49,6 +53,12 @@ pub enum Answer<'g> {
     Needs(Vec<Vec<&'g PackageId>>),
     /// The packages of a walk.
     Steps(Vec<Step<'g>>),
+    /// What Cargo builds.
+    Built(Vec<BuiltPackage<'g>>),
+    /// Why a feature is on.
+    Reasons(Vec<NamedReason<'g>>),
+    /// The features that are on.
+    Features(Vec<FeatureOn<'g>>),
     /// Whether something holds.
     Truth(bool),
     /// All is well.
@@ -57,8 +67,8 @@ pub enum Answer<'g> {
     Drawing(Drawing<'g>),
 }
 
-// The IDs of the packages that the words mean, where each means one.
-fn all_meant<F: Format>(
+/// The IDs of the packages that the words mean, where each means one.
+pub(crate) fn all_meant<F: Format>(
     alloc: Global,
     graph: &PackageGraph,
     names: &F::Names,
@@ -289,7 +299,8 @@ fn tested<'g>(
 /// The first word of the command that means no package, or may mean several, is told, and for `why` that no links lead
 /// from one package to the other. For `verify` and `publish-order` alone it is told what the graph's `verify` refuses, a
 /// cycle by what its packages are called as the options have it, and of the members that can be published, where these
-/// alone are asked for, the first that needs one that can't.
+/// alone are asked for, the first that needs one that can't. Of what Cargo builds it is told which feature Cargo refuses,
+/// and for `why-feature` that the package has no such feature, or that it is on nowhere.
 ///
 /// Takes memory for the answer, and for some numbers a package and a link. Time grows with packages and
 /// links.
@@ -297,18 +308,18 @@ pub fn answer_of<'g, F: Format>(
     alloc: Global,
     graph: &'g PackageGraph,
     names: &F::Names,
-    options: &Options,
-    command: &Command<'_>,
+    asked: &'g Asked<'_>,
 ) -> Result<Answer<'g>, F::Fault>
     requires names { F.are_names names.now graph.now.packages }
     requires distinct { DistinctBelow graph.now.packages (length graph.now.packages) }
-    ensures ok { IfOk result (λ answer. IsAnswer (F.format.meant graph.now.packages)
-        (command_shown command.now) graph.now (answer_shown answer)) }
-    ensures err { IfErr result (λ fault. IsCommandFault F.format
-        (called options.now (F.format.text graph.now.packages)) (command_shown command.now) graph.now
+    ensures ok { IfOk result (λ answer. IsAnswerOn (places_of (asked_shown asked.now))
+        (F.format.meant graph.now.packages) (command_shown asked.now.command) graph.now (answer_shown answer)) }
+    ensures err { IfErr result (λ fault. IsFaultOn F.format (places_of (asked_shown asked.now))
+        (called asked.now.options (F.format.text graph.now.packages)) (command_shown asked.now.command) graph.now
         fault (F.Fault.cause fault)) }
 {
-    match command {
+    let options = &asked.options;
+    match &asked.command {
         Command::Reach(direction, words) => { reach::<F>(alloc, graph, names, *direction, words) }
         Command::Depends(from, to) => depends::<F>(alloc, graph, names, from, to),
         Command::Why(from, to) => why::<F>(alloc, graph, names, from, to),
@@ -317,6 +328,13 @@ pub fn answer_of<'g, F: Format>(
         Command::Links(direction) => passed_on(links(alloc, graph, *direction)),
         Command::Cycles => passed_on(cycles(alloc, graph)),
         Command::Duplicates => passed_on(repeated(graph)),
+        Command::Built(request) => built::<F>(alloc, graph, names, asked, request),
+        Command::Features(request, word) => {
+            features::<F>(alloc, graph, names, asked, request, word)
+        }
+        Command::WhyFeature(request, word, name) => {
+            why_on::<F>(alloc, graph, names, asked, request, word, name)
+        }
         Command::Verify => verify::<F>(alloc, graph, names, options),
         Command::PublishOrder { publishable } => {
             published::<F>(alloc, graph, names, options, *publishable)

@@ -7,19 +7,22 @@
 //! - `format`: what differs between programs: what they are asked, how they read their input and what they call
 //!   packages;
 //! - `answer`: what a command answers of a package graph; `publish`: of the order in which members can be
-//!   published; `why`: of how one package depends on another; `verify`: what is told of a graph that isn't verified;
+//!   published; `why`: of how one package depends on another; `builds`: of what Cargo builds; `verify`: what is told of
+//!   a graph that isn't verified;
 //! - `members`: the members of the workspace in that;
-//! - `print`: how it is printed;
+//! - `print`: how it is printed; `print_builds`: what Cargo builds;
 //! - `program`: a program;
 //! - `process`: a program with its fault told and its status.
 #![tactic(auto)]
 
 pub mod answer;
+mod builds;
 pub mod dot_text;
 pub mod files;
 pub mod format;
 pub mod members;
 pub mod print;
+mod print_builds;
 pub mod process;
 pub mod program;
 mod publish;

@@ -2,11 +2,14 @@
 ghost use Rattle.std.specs.Prelude.{◌≡◌, ◌&&◌, ◌∷◌, [], IfOk, IsOkUnless, map};
 ghost use Rattle.std.specs.List.{filter, list_all};
 ghost use Rattle.guppy_program.specs.Answer.{AreMembers, is_member, is_of, of_members, shown};
+ghost use Rattle.guppy_built.specs.Names.{step_shown as reason_shown};
+ghost use Rattle.guppy_built.specs.Rows.{row_of};
 ghost use Rattle.guppy_dot.specs.Dot.{edge_shown, node_shown};
 ghost use Rattle.guppy_program.specs.Shown.{answer_shown, step_shown};
 
 use crate::answer::{Answer, Step};
 use guppy::{Error, PackageGraph, PackageId, PackageSet};
+use guppy_built::{BuiltPackage, NamedReason};
 use guppy_command::Options;
 use guppy_dot::{Edge, Node};
 
@@ -91,6 +94,25 @@ fn keep_steps(members: &PackageSet<'_>, steps: &mut Vec<Step<'_>>)
 }
 
 // Leaves the other packages out.
+fn keep_built(members: &PackageSet<'_>, rows: &mut Vec<BuiltPackage<'_>>)
+    requires { AreMembers members.now }
+    ensures { map row_of rows.new.items
+        ≡ filter (λ row. is_member members.now.graph.packages row.id) (map row_of rows.old.items) }
+{
+    rows.retain(|row| is_member(members, row.id));
+}
+
+// Leaves out what is said of other packages.
+fn keep_reasons(members: &PackageSet<'_>, steps: &mut Vec<NamedReason<'_>>)
+    requires { AreMembers members.now }
+    ensures { map reason_shown steps.new.items
+        ≡ filter (λ step. is_member members.now.graph.packages step.fact.id)
+        (map reason_shown steps.old.items) }
+{
+    steps.retain(|step| is_member(members, step.fact.id));
+}
+
+// Leaves the other packages out.
 fn keep_nodes(members: &PackageSet<'_>, nodes: &mut Vec<Node<'_>>)
     requires { AreMembers members.now }
     ensures { map node_shown nodes.new.items
@@ -141,11 +163,20 @@ fn among<'g>(members: &PackageSet<'_>, answer: Answer<'g>) -> Answer<'g>
             keep_steps(members, &mut steps);
             Answer::Steps(steps)
         }
+        Answer::Built(mut rows) => {
+            keep_built(members, &mut rows);
+            Answer::Built(rows)
+        }
+        Answer::Reasons(mut steps) => {
+            keep_reasons(members, &mut steps);
+            Answer::Reasons(steps)
+        }
         Answer::Drawing(mut drawing) => {
             keep_nodes(members, &mut drawing.nodes);
             keep_edges(members, &mut drawing.edges);
             Answer::Drawing(drawing)
         }
+        Answer::Features(rows) => Answer::Features(rows),
         Answer::Truth(holds) => Answer::Truth(holds),
         Answer::AllWell => Answer::AllWell,
     }

@@ -8,6 +8,7 @@ ghost use Rattle.guppy_program.specs.Shown.{answer_shown, step_shown};
 use crate::answer::{Answer, Step};
 use crate::dot_text::dot_text;
 use crate::format::Format;
+use crate::print_builds::{lines_of_built, lines_of_features, lines_of_reasons};
 use guppy::{PackageId, SortedSet};
 use guppy_command::Options;
 use guppy_command::print::{lines_of, push_pair, push_step, truth_line};
@@ -29,9 +30,9 @@ pub(crate) fn text_of<'a, F: Format>(
     }
 }
 
-// What is printed for the packages with these IDs. To sort these texts reads no records, which lie far
-// apart.
-fn texts_of<'a, F: Format>(
+/// What is printed for the packages with these IDs. To sort these texts reads no records, which lie far
+/// apart.
+pub(crate) fn texts_of<'a, F: Format>(
     alloc: Global,
     options: &Options,
     names: &'a F::Names,
@@ -157,6 +158,9 @@ pub fn printed<F: Format>(
         Answer::Rows(rows) => lines_of_rows::<F>(alloc, options, names, rows.as_slice()),
         Answer::Needs(rows) => lines_of_rows::<F>(alloc, options, names, rows.as_slice()),
         Answer::Steps(steps) => lines_of_steps::<F>(alloc, options, names, steps.as_slice()),
+        Answer::Built(rows) => lines_of_built::<F>(alloc, options, names, rows.as_slice()),
+        Answer::Features(rows) => { lines_of_features::<F>(alloc, options, names, rows.as_slice()) }
+        Answer::Reasons(steps) => lines_of_reasons::<F>(alloc, options, names, steps.as_slice()),
         Answer::Truth(holds) => String::from_str(alloc, truth_line(*holds)),
         Answer::Drawing(drawing) => dot_text::<F>(alloc, options, names, drawing),
         Answer::AllWell => String::from_str(alloc, "ok\n"),

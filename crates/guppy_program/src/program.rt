@@ -4,11 +4,12 @@ ghost use Rattle.std.specs.Io.KnownBytes.{Appends};
 ghost use Rattle.guppy.specs.Ids.{DistinctBelow};
 ghost use Rattle.guppy_data.specs.declared.texts.error.Error.TheVariants.{OutOfMemory};
 ghost use Rattle.guppy_command.specs.Cause.{Cause, library, bad_arguments, output_failed, caused, is_input_fault, is_output_fault};
-ghost use Rattle.guppy_program.specs.Loaded.{AreAskedOf, IsLoaded, IsLoadFault, reads_details};
-ghost use Rattle.guppy_program.specs.Answer.{IsAnswer, IsCommandFault};
+ghost use Rattle.guppy_program.specs.Loaded.{AreAskedOf, IsLoaded, IsLoadFault, asks_for_builds, counted_on, reads_details};
+ghost use Rattle.guppy_program.specs.Answer.{IsFaultOn};
 ghost use Rattle.guppy_program.specs.Printed.{IsPrinted, called};
 ghost use Rattle.guppy_command.specs.Shown.{asked_shown, command_shown};
-ghost use Rattle.guppy_program.specs.Run.{IsAnswerTo, IsAnswerOf, IsAnswerFault, IsFaultOf, IsSourceFault, IsAnswered, IsBegun, IsRun, IsRunFault, OfWholeInput, WritesNothing};
+ghost use Rattle.guppy_platforms.specs.Kept.{AreKept};
+ghost use Rattle.guppy_program.specs.Run.{IsAnswerTo, IsAnswerOf, IsAnswerFault, IsFaultOf, IsSourceFault, IsAnswered, IsBegun, IsRun, IsRunFault, OfWholeInput, WritesNothing, places_of};
 
 use crate::answer::answer_of;
 use crate::format::Format;
@@ -19,7 +20,7 @@ use guppy_command::fault::{passed_on, want_of_memory};
 use guppy_command::options::keep_links;
 use guppy_command::transfer::{read_all, write_text};
 use guppy_command::{Asked, Command, Files, Sink, Source};
-use guppy_data::LinkRecord;
+use guppy_data::{LinkRecord, PackageRecord, PlatformSpec};
 use guppy_platforms::{are_named, keep_counting};
 use guppy_publish::add_declared;
 use std::alloc::Global;
@@ -49,11 +50,48 @@ fn keep_asked<F: Format>(
     }
 }
 
-// Whether records are read with details: for build targets, which say where sources lie, and what runs on the host.
+// Whether the command asks what Cargo builds.
+fn asks_for_builds(command: &Command<'_>) -> bool
+    ensures { result ≡ asks_for_builds (command_shown command.now) }
+{
+    matches!(
+        command,
+        Command::Built(_) | Command::Features(..) | Command::WhyFeature(..)
+    )
+}
+
+// Whether records are read with details: for build targets, which say where sources lie, what is built, and what runs on
+// the host.
 fn reads_details(asked: &Asked<'_>) -> bool
     ensures { result ≡ reads_details (asked_shown asked.now) }
 {
-    are_named(&asked.platforms) || matches!(asked.command, Command::Affected { .. })
+    are_named(&asked.platforms)
+        || matches!(asked.command, Command::Affected { .. })
+        || asks_for_builds(&asked.command)
+}
+
+// Leaves out the links that count on none of the platforms that are asked about, but where it is asked what Cargo builds,
+// which looks at each itself.
+fn keep_counted<F: Format>(
+    alloc: Global,
+    asked: &Asked<'_>,
+    packages: &[PackageRecord],
+    links: &mut Vec<LinkRecord>,
+) -> Result<(), F::Fault>
+    ensures ok { OnOk result (AreKept (counted_on (asked_shown asked.now)) (asked_shown asked.now).host packages.now
+        links.old.items links.new.items) }
+    ensures err { IfErr result (λ fault. F.Fault.cause fault ≡ library OutOfMemory) }
+{
+    let any = PlatformSpec::Any;
+    let platforms = if asks_for_builds(&asked.command) {
+        &any
+    } else {
+        &asked.platforms
+    };
+    match keep_counting(alloc, platforms, &asked.host, packages, links) {
+        Ok(()) => Ok(()),
+        Err(_) => Err(want_of_memory()),
+    }
 }
 
 // The graph of the records that the input says, with the links that the options keep and the command asks about, and the
@@ -69,15 +107,12 @@ fn load<F: Format>(
         fault (F.Fault.cause fault)) }
 {
     let mut records = F::records_of(alloc, input, reads_details(asked))?;
-    let Ok(()) = keep_counting(
+    keep_counted::<F>(
         alloc,
-        &asked.platforms,
-        &asked.host,
+        asked,
         records.packages.as_slice(),
         &mut records.links,
-    ) else {
-        return Err(want_of_memory());
-    };
+    )?;
     keep_links(asked.options.kinds, &mut records.links);
     keep_asked::<F>(alloc, &asked.command, input, &mut records.links)?;
     let Ok(names) = F::names_of(alloc, records.packages.as_slice()) else {
@@ -98,11 +133,11 @@ fn answer_text<F: Format>(
     requires distinct { DistinctBelow graph.now.packages (length graph.now.packages) }
     ensures ok { IfOk result (λ text. IsAnswerOf F.format (asked_shown asked.now) graph.now
         (string_bytes text)) }
-    ensures err { IfErr result (λ fault. IsCommandFault F.format
+    ensures err { IfErr result (λ fault. IsFaultOn F.format (places_of (asked_shown asked.now))
         (called (asked_shown asked.now).options (F.format.text graph.now.packages))
         (asked_shown asked.now).command graph.now fault (F.Fault.cause fault)) }
 {
-    let answer = answer_of::<F>(alloc, graph, names, &asked.options, &asked.command)?;
+    let answer = answer_of::<F>(alloc, graph, names, asked)?;
     let answer = passed_on(shown(graph, asked.options, answer))?;
     match printed::<F>(alloc, &asked.options, names, &answer) {
         Ok(text) => Ok(text),

@@ -1,0 +1,171 @@
+//! Which features of a package are on, and who asks for them.
+ghost use Rattle.std.specs.Prelude.{◌≡◌, ◌++◌, ◌<◌, All, IfErr, IfOk, IfSome, OnOk, None, List, length, map};
+ghost use Rattle.std.specs.List.{filter_map};
+ghost use Rattle.guppy_graph.specs.Ids.{IsKnown};
+ghost use Rattle.guppy_features.specs.Facts.{feature_fact};
+ghost use Rattle.guppy_features.specs.Reasons.{grounds};
+ghost use Rattle.guppy_built.specs.Asked.{IsChoiceFault, choice_of};
+ghost use Rattle.guppy_built.specs.Features.{AreAskers, AreFeatures, AreOnSide, FeatureData, IsFeature, feature_shown, id_at, needed_positions};
+
+use crate::asked::options_of;
+use crate::fault::BuiltFault;
+use crate::features::features_on;
+use crate::members::{chosen_members, position_of};
+use crate::question::BuildQuestion;
+use guppy_data::{PackageId, SortedSet};
+use guppy_features::{BuildPlatform, CargoSet, Fact, Reason};
+use guppy_graph::RecordGraph;
+use std::alloc::{AllocError, Global};
+
+/// A feature that is on.
+#[derive(Debug, Drop)]
+pub struct FeatureOn<'a> {
+    /// The side on which it is on.
+    pub side: BuildPlatform,
+    /// Its name.
+    pub name: &'a str,
+    /// The packages that ask for it, by position: those of which something holds from which it follows. A chosen package
+    /// that is asked for it by the command line alone has none.
+    pub askers: Vec<&'a PackageId>,
+}
+
+// Adds the positions of the packages of all that the way needs.
+fn add_positions(positions: &mut Vec<usize>, way: &Reason) -> Result<(), AllocError>
+    ensures { OnOk result (positions.new.items ≡ positions.old.items
+        ++ map (λ f. f.position) (grounds way.now)) }
+{
+    if let Some(fact) = way.first {
+        positions.push(fact.position)?;
+    }
+    if let Some(fact) = way.second {
+        positions.push(fact.position)?;
+    }
+    Ok(())
+}
+
+// The positions of the packages of all that the ways need.
+fn needed_positions(alloc: Global, ways: &[Reason]) -> Result<Vec<usize>, AllocError>
+    ensures { IfOk result (λ positions. positions.items ≡ needed_positions ways.now) }
+{
+    let mut positions = Vec::new(alloc);
+    for way in ways {
+        add_positions(&mut positions, way)?;
+    }
+    Ok(positions)
+}
+
+// The IDs of the packages at these positions.
+fn ids_at<'a>(
+    alloc: Global,
+    graph: &'a RecordGraph,
+    positions: &[usize],
+) -> Result<Vec<&'a PackageId>, AllocError>
+    ensures { IfOk result (λ ids. map (λ id. id.now) ids.items ≡ filter_map (id_at graph.now) positions.now) }
+{
+    let mut ids = Vec::new(alloc);
+    for position in positions {
+        if let Some(package) = graph.dep_graph().nodes().get(*position) {
+            ids.push(&package.id)?;
+        }
+    }
+    Ok(ids)
+}
+
+// The packages that ask for the fact.
+fn askers_of<'a>(
+    alloc: Global,
+    graph: &'a RecordGraph,
+    set: &CargoSet<'_>,
+    fact: Fact,
+) -> Result<Vec<&'a PackageId>, AllocError>
+    requires { set.now.graph ≡ graph.now }
+    ensures { IfOk result (λ ids. AreAskers set.now fact (map (λ id. id.now) ids.items)) }
+{
+    let ways = set.ways(alloc, fact)?;
+    let positions = SortedSet::new(needed_positions(alloc, ways.as_slice())?);
+    ids_at(alloc, graph, positions.as_slice())
+}
+
+// The package's feature of the name on the side, which it has, with who asks for it.
+fn feature_on<'a>(
+    alloc: Global,
+    graph: &'a RecordGraph,
+    set: &CargoSet<'_>,
+    position: usize,
+    side: BuildPlatform,
+    name: &'a str,
+) -> Result<Option<FeatureOn<'a>>, AllocError>
+    requires graph { set.now.graph ≡ graph.now }
+    requires within { position < length graph.now.packages }
+    ensures on { IfOk result (λ found. IfSome found
+        (λ on. IsFeature set.now position side name.now (feature_shown on))) }
+    ensures lacks { IfOk result (λ found. found ≡ None
+        → feature_fact graph.now.packages position side name.now ≡ None) }
+{
+    let Some(fact) = set.asked().feature(position, side, name) else {
+        return Ok(None);
+    };
+    Ok(Some(FeatureOn {
+        side,
+        name,
+        askers: askers_of(alloc, graph, set, fact)?,
+    }))
+}
+
+// Adds the features of the package that are on on the side.
+fn add_features<'a>(
+    rows: &mut Vec<FeatureOn<'a>>,
+    alloc: Global,
+    graph: &'a RecordGraph,
+    set: &CargoSet<'_>,
+    position: usize,
+    side: BuildPlatform,
+) -> Result<(), AllocError>
+    requires graph { set.now.graph ≡ graph.now }
+    requires within { position < length graph.now.packages }
+    ensures { OnOk result ((more : List FeatureData) × AreOnSide set.now position side more
+        × (map feature_shown rows.new.items ≡ map feature_shown rows.old.items ++ more)) }
+{
+    let package = graph.package_at(position);
+    for name in features_on(alloc, set, position, side, package)? {
+        if let Some(on) = feature_on(alloc, graph, set, position, side, name)? {
+            rows.push(on)?;
+        }
+    }
+    Ok(())
+}
+
+/// The features of the package with the ID that are on where Cargo builds the choice, those on the target's side first,
+/// each side in the order of the record, and who asks for each.
+///
+/// The members' IDs, and this one, have to be known. Fails with `UnknownFeature`, with the place of the first of the
+/// features that Cargo refuses, and else with `OutOfMemory` only where there is none. Takes the time and memory of
+/// [`CargoSet::new`], and of [`CargoSet::ways`] for each feature that is on.
+pub fn features_of<'a>(
+    alloc: Global,
+    graph: &'a RecordGraph,
+    question: &BuildQuestion<'_, '_>,
+    id: &PackageId,
+) -> Result<Vec<FeatureOn<'a>>, BuiltFault>
+    requires members { All (IsKnown graph.now.packages) question.now.members.now }
+    requires package { IsKnown graph.now.packages id.now }
+    ensures ok { IfOk result (λ rows. AreFeatures graph.now (choice_of question.now) id.now
+        (map feature_shown rows.items)) }
+    ensures err { IfErr result (IsChoiceFault graph.now (choice_of question.now)) }
+{
+    let position = position_of(graph, id);
+    let members = chosen_members(alloc, graph, question.members)?;
+    let options = options_of(alloc, graph, question, members.as_slice())?;
+    let set = CargoSet::new(graph, &options)?;
+    let mut rows = Vec::new(alloc);
+    add_features(
+        &mut rows,
+        alloc,
+        graph,
+        &set,
+        position,
+        BuildPlatform::Target,
+    )?;
+    add_features(&mut rows, alloc, graph, &set, position, BuildPlatform::Host)?;
+    Ok(rows)
+}

@@ -1,0 +1,136 @@
+//! What is answered of what Cargo builds.
+ghost use Rattle.std.specs.Prelude.{◌≡◌, ◌⊎◌, ℕ, List, All, IfErr, IfOk, IsSomeAnd, slice_get};
+ghost use Rattle.std.specs.List.{AllZip};
+ghost use Rattle.guppy.specs.Graph.{GraphData};
+ghost use Rattle.guppy.specs.Ids.{IsKnown};
+ghost use Rattle.guppy_built.specs.Asked.{choice_of};
+ghost use Rattle.guppy_command.specs.Cause.{library, build, unknown_feature};
+ghost use Rattle.guppy_command.specs.Command.{built, features, why_feature};
+ghost use Rattle.guppy_command.specs.Shown.{asked_shown, request_shown};
+ghost use Rattle.guppy_data.specs.declared.texts.error.Error.TheVariants.{OutOfMemory};
+ghost use Rattle.guppy_program.specs.Answer.{IsBuiltAnswer, IsFaultOn, IsFeaturesAnswer, IsWhyFeatureAnswer};
+ghost use Rattle.guppy_program.specs.Builds.{IsChosen};
+ghost use Rattle.guppy_program.specs.Meant.{Means};
+ghost use Rattle.guppy_program.specs.Run.{places_of};
+ghost use Rattle.guppy_program.specs.Shown.{answer_shown};
+
+use crate::answer::{Answer, all_meant};
+use crate::format::Format;
+use guppy::{PackageGraph, PackageId};
+use guppy_built::{BuildQuestion, BuiltFault, built_packages, features_of, why_feature};
+use guppy_command::fault::{feature_off, lacks_feature, unknown_feature, want_of_memory};
+use guppy_command::{Asked, BuildRequest};
+use std::alloc::Global;
+
+// What is asked of Cargo, of these members on the platforms that are asked about.
+fn question_of<'q, 'p>(
+    asked: &'p Asked<'_>,
+    request: &'q BuildRequest<'_>,
+    members: &'q [PackageId],
+) -> BuildQuestion<'q, 'p>
+    ensures chosen { (g : GraphData) → (meant : List ℕ → List (List ℕ))
+        → AllZip (Means meant) (request_shown request.now).members members.now
+        → All (IsKnown g.packages) members.now
+        → IsChosen (places_of (asked_shown asked.now)) g meant (request_shown request.now) (choice_of result) }
+    ensures members { result.members.now ≡ members.now }
+{
+    BuildQuestion {
+        members,
+        features: request.features.as_slice(),
+        standard: request.standard,
+        tests: request.tests,
+        resolver: request.resolver,
+        target_platform: &asked.platforms,
+        host_platform: &asked.host,
+    }
+}
+
+// That Cargo refuses the feature at the place.
+fn refused<F: Format>(alloc: Global, request: &BuildRequest<'_>, place: usize) -> F::Fault
+    ensures { (F.Fault.cause result ≡ library OutOfMemory) ⊎ IsSomeAnd (slice_get (request_shown request.now).features place)
+        (λ text. F.Fault.cause result ≡ build (unknown_feature text)) }
+{
+    match request.features.get(place) {
+        Some(text) => unknown_feature(alloc, text),
+        None => want_of_memory(),
+    }
+}
+
+/// What Cargo builds by the request.
+pub(crate) fn built<'g, F: Format>(
+    alloc: Global,
+    graph: &'g PackageGraph,
+    names: &F::Names,
+    asked: &'g Asked<'_>,
+    request: &BuildRequest<'_>,
+) -> Result<Answer<'g>, F::Fault>
+    requires { F.are_names names.now graph.now.packages }
+    ensures ok { IfOk result (λ answer. IsBuiltAnswer (places_of (asked_shown asked.now)) graph.now
+        (F.format.meant graph.now.packages) (request_shown request.now) (answer_shown answer)) }
+    ensures err { (call : List ℕ → List ℕ) → IfErr result (λ fault. IsFaultOn F.format
+        (places_of (asked_shown asked.now)) call (built (request_shown request.now)) graph.now fault
+        (F.Fault.cause fault)) }
+{
+    let members = all_meant::<F>(alloc, graph, names, request.members.as_slice())?;
+    let question = question_of(asked, request, members.as_slice());
+    match built_packages(alloc, graph.records(), &question) {
+        Ok(rows) => Ok(Answer::Built(rows)),
+        Err(BuiltFault::UnknownFeature(place)) => Err(refused::<F>(alloc, request, place)),
+        Err(_) => Err(want_of_memory()),
+    }
+}
+
+/// The features of the package that the word means that are on where Cargo builds the request.
+pub(crate) fn features<'g, F: Format>(
+    alloc: Global,
+    graph: &'g PackageGraph,
+    names: &F::Names,
+    asked: &'g Asked<'_>,
+    request: &BuildRequest<'_>,
+    word: &str,
+) -> Result<Answer<'g>, F::Fault>
+    requires { F.are_names names.now graph.now.packages }
+    ensures ok { IfOk result (λ answer. IsFeaturesAnswer (places_of (asked_shown asked.now)) graph.now
+        (F.format.meant graph.now.packages) (request_shown request.now) word.now (answer_shown answer)) }
+    ensures err { (call : List ℕ → List ℕ) → IfErr result (λ fault. IsFaultOn F.format
+        (places_of (asked_shown asked.now)) call (features (request_shown request.now) word.now) graph.now fault
+        (F.Fault.cause fault)) }
+{
+    let members = all_meant::<F>(alloc, graph, names, request.members.as_slice())?;
+    let id = F::find(alloc, graph, names, word)?;
+    let question = question_of(asked, request, members.as_slice());
+    match features_of(alloc, graph.records(), &question, &id) {
+        Ok(rows) => Ok(Answer::Features(rows)),
+        Err(BuiltFault::UnknownFeature(place)) => Err(refused::<F>(alloc, request, place)),
+        Err(_) => Err(want_of_memory()),
+    }
+}
+
+/// Why the feature of the package that the word means is on where Cargo builds the request.
+pub(crate) fn why_on<'g, F: Format>(
+    alloc: Global,
+    graph: &'g PackageGraph,
+    names: &F::Names,
+    asked: &'g Asked<'_>,
+    request: &BuildRequest<'_>,
+    word: &str,
+    name: &str,
+) -> Result<Answer<'g>, F::Fault>
+    requires { F.are_names names.now graph.now.packages }
+    ensures ok { IfOk result (λ answer. IsWhyFeatureAnswer (places_of (asked_shown asked.now)) graph.now
+        (F.format.meant graph.now.packages) (request_shown request.now) word.now name.now (answer_shown answer)) }
+    ensures err { (call : List ℕ → List ℕ) → IfErr result (λ fault. IsFaultOn F.format
+        (places_of (asked_shown asked.now)) call (why_feature (request_shown request.now) word.now name.now) graph.now
+        fault (F.Fault.cause fault)) }
+{
+    let members = all_meant::<F>(alloc, graph, names, request.members.as_slice())?;
+    let id = F::find(alloc, graph, names, word)?;
+    let question = question_of(asked, request, members.as_slice());
+    match why_feature(alloc, graph.records(), &question, &id, name) {
+        Ok(steps) => Ok(Answer::Reasons(steps)),
+        Err(BuiltFault::UnknownFeature(place)) => Err(refused::<F>(alloc, request, place)),
+        Err(BuiltFault::LacksFeature) => Err(lacks_feature(alloc, word, name)),
+        Err(BuiltFault::FeatureOff) => Err(feature_off(alloc, word, name)),
+        Err(BuiltFault::OutOfMemory) => Err(want_of_memory()),
+    }
+}
