@@ -7,6 +7,9 @@ prints `part NAME VERSION SIDE`, `feature NAME VERSION SIDE FEATURE` and `built 
 Without arguments this judges the program as built; else the first names one, and further ones from which to which
 number workspaces are drawn. `--keep NUMBER FOLDER` writes a drawn workspace to a folder, and prints its questions.
 
+`--commands` asks guppy-cargo, or the program that is named behind it, by the command `built` in the same way, of fewer
+workspaces.
+
 `--own` in the program's place tries the judge: `built.py` has the definition in Python, and wrong definitions, one a
 rule, are planted in it, of which each must be told. The last line is 'N passed, M failed'.
 """
@@ -27,9 +30,13 @@ import built
 from drawn import BUILT_FOR, OverCrates, Workspace, installed, write_alone, written
 
 HERE = os.path.dirname(os.path.realpath(__file__))
-PROGRAM = os.path.join(os.path.dirname(HERE), "crates", "guppy_features_tests", "out", "guppy_features_tests")
+CRATES = os.path.join(os.path.dirname(HERE), "crates")
+PROGRAM = os.path.join(CRATES, "guppy_features_tests", "out", "guppy_features_tests")
+GUPPY_CARGO = os.path.join(CRATES, "guppy_cargo_main", "out", "guppy_cargo_main")
 # So many workspaces are drawn, so many to try the judge itself, with so many questions each.
 DRAWN, OWN, ASKED = 150, 40, 6
+# Of so many guppy-cargo is asked by its command.
+BY_COMMAND = 25
 # So many are drawn over crates of Debian's, where some are installed.
 OVER_CRATES = 20
 SECONDS = 120
@@ -284,6 +291,34 @@ def told_by_program(program):
     return tell
 
 
+def built_by_command(program, asked, world):
+    """What `guppy-cargo built` says is built."""
+    words, given = words_of(asked, world), []
+    while words:
+        word = words.pop(0)
+        if word in ("--platform", "--host"):
+            triple, _, cfgs = words.pop(0), words.pop(0), words.pop(0)
+            file = os.path.join(world.room, f"cfgs {triple}")
+            with open(file, "w", encoding="utf-8") as it:
+                it.write(cfgs.replace(" ", "\n"))
+            given += [word, triple, "--host-cfgs" if word == "--host" else "--cfgs", file]
+        else:
+            given.append(word)
+    ways = {"input": json.dumps(asked.metadata), "capture_output": True, "text": True, "timeout": SECONDS, "check": False}
+    ran = subprocess.run([program, "built", *given], **ways)
+    if ran.returncode != 0 and not asked.limit:
+        sys.exit(f"features: {asked}: {ran.stderr}")
+    called = {it["id"]: (it["name"], it["version"]) for it in asked.metadata["packages"]}
+    for name, version in list(called.values()):
+        called[f"{name}@{version}"] = called[name] = name, version
+    found = set()
+    for line in ran.stdout.splitlines():
+        word, platform, *features = line.split(" ")
+        side, triple = (HOST, world.host) if platform == "host" else (TARGET, platform)
+        found.add((*called[word], side, triple, tuple(sorted(features))))
+    return found
+
+
 def told_by(definition):
     """What a definition in Python tells."""
     return lambda asked, world: definition.answer(asked.metadata, words_of(asked, world))
@@ -324,6 +359,19 @@ def judge(tell, world, questions):
     for limit in [None, *LIMITS]:
         print(f"features: {limit or 'no limit'}: {counts[limit, True]} as cargo says, {counts[limit, False]} not")
     return counts[None, True], len(failures)
+
+
+def judge_command(program, world, questions):
+    """How many questions guppy-cargo answers as cargo does, and how many it doesn't, of those without a limit."""
+    passed = failed = 0
+    for asked in questions:
+        if not asked.limit:
+            wrong = difference(asked.cargo, built_by_command(program, asked, world))
+            passed, failed = passed + (not wrong), failed + bool(wrong)
+            if wrong:
+                print(f"features: {asked}: FAILED: {wrong}")
+    print(f"features: by command: {passed} as cargo says, {failed} not")
+    return passed, failed
 
 
 def wrong_definitions():
@@ -367,6 +415,8 @@ def main(words):
         world = World(room)
         if program == "--keep":
             passed, failed = keep(world, int(numbers[0]), numbers[1])
+        elif program == "--commands":
+            passed, failed = judge_command(numbers[0] if numbers else GUPPY_CARGO, world, ask_all(world, range(BY_COMMAND)))
         elif program == "--own":
             passed, failed = try_own(world, range(*map(int, numbers)) if numbers else range(OWN))
         elif os.access(program, os.X_OK):
