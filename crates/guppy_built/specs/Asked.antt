@@ -53,9 +53,9 @@ AreChosen g (id ∷ ids) positions = AllZip (HasId g.packages) (id ∷ ids) posi
 
 -- the choice is of these members, and asks for these values, with this package at the root
 pub record IsChoice (g : GraphData) (c : Choice) (members : List ℕ) (root : Option ℕ) (values : List NamedFeatureDep) : Type 0 where
-  pub members : AreChosen g c.members members
-  pub root : IsRootFor g c.resolver root
-  pub values : AllZip IsFeature c.features values
+  pub members_are : AreChosen g c.members members
+  pub root_is : IsRootFor g c.resolver root
+  pub values_are : AllZip IsFeature c.features values
 
 -- what Cargo is asked by the choice, of these members
 pub record IsAsked (g : GraphData) (c : Choice) (options : CargoOptions) (members : List ℕ) : Type 0 where

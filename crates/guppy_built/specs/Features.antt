@@ -63,7 +63,7 @@ pub record AreOnSide (q : Question) (p : ℕ) (s : BuildPlatform) (rows : List F
   pub found : slice_get q.graph.packages p ≡ Some record_is
   pub names : List (List ℕ)
   pub those : AreThose (IsFeatureOn q p s) (feature_names record_is) names
-  pub rows : AllZip (IsFeature q p s) names rows
+  pub rows_are : AllZip (IsFeature q p s) names rows
 
 -- those of the package with the ID for the choice, the target's side first
 pub record AreFeatures (g : GraphData) (c : Choice) (id : List ℕ) (rows : List FeatureData) : Type 0 where

@@ -79,7 +79,7 @@ pub record AreRows (b : Builds) (rows : List Row) : Type 0 where
   pub built : List Build
   pub exact : (x : Build) → Contains built x ↔ HoldsBy (BuildsFor b.question b.members) x
   pub order : IsStrictlySortedBy build_cmp built
-  pub rows : AllZip (IsRow b) (filter (has_row b.question.graph) built) rows
+  pub rows_are : AllZip (IsRow b) (filter (has_row b.question.graph) built) rows
 
 -- the rows of what Cargo builds by the choice
 pub record AreBuilt (g : GraphData) (c : Choice) (rows : List Row) : Type 0 where

@@ -31,7 +31,7 @@ pub record AreStepsTo (q : Question) (f : Fact) (steps : List StepData) : Type 0
 pub record IsWhyOn (q : Question) (p : ℕ) (s : BuildPlatform) (name : List ℕ) (steps : List StepData) : Type 0 where
   pub fact : Fact
   pub is : feature_fact q.graph.packages p s name ≡ Some fact
-  pub steps : AreStepsTo q fact steps
+  pub steps_are : AreStepsTo q fact steps
 
 -- why it is on on the target's side or, where it isn't on there, on the host's
 pub data IsWhyFeature (q : Question) (p : ℕ) (name : List ℕ) (steps : List StepData) : Type 0 where

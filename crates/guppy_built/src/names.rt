@@ -1,5 +1,5 @@
 //! What facts say, by names.
-ghost use Rattle.std.specs.Prelude.{◌≡◌, IfOk, map, option_map, option_map_or};
+ghost use Rattle.std.specs.Prelude.{◌≡◌, IfOk, map, option_map};
 ghost use Rattle.std.specs.List.{filter_map};
 ghost use Rattle.std.specs.Option.{option_and_then};
 ghost use Rattle.guppy_built.specs.Names.{fact_shown, named, named_step, said_by, said_shown, step_shown};
