@@ -1,18 +1,19 @@
 -- A derivation's clauses as steps.
-use Rattle.std.proofs.Common.{◌≡◌, ◌⊎◌, ℕ, ◌+◌, ◌<◌, List, [], ◌∷◌, ◌++◌, length, get_or, take, Option, Some, None, inl, inr, refl, ap, sym, subst, ◌∙◌}
+use Rattle.std.proofs.Common.{◌≡◌, ◌⊎◌, ◌↔◌, Bool, true, false, IsTrue, ℕ, ◌+◌, ◌<◌, List, [], ◌∷◌, ◌++◌, length, get_or, take, Option, Some, None, inl, inr, refl, ap, sym, subst, ◌∙◌}
 use Rattle.std.specs.Prelude.{Contains, All, option_map, option_to_list, slice_get}
-use Rattle.std.proofs.lemmas.List.Elements.{Contains-append_left, Contains-append_right, Contains-append_cases, All-nil, All-push}
+use Rattle.std.proofs.lemmas.List.Elements.{Contains-append_left, Contains-append_right, Contains-append_cases, Contains-push, Contains-push_cases, All-nil, All-push}
 use Rattle.std.proofs.lemmas.List.{flat_map_more, take_more}
 use Rattle.std.proofs.lemmas.Option.{slice_get_within, slice_get-get_or}
 use Rattle.guppy_search.proofs.Lists.{nothing_in, Contains-first, Contains-later, Contains-cons_cases, EachAfter-nil, EachAfter-push, EachAfter-along}
 use Rattle.guppy_closure.specs.declared.clause.Clause.{Clause}
+use Rattle.guppy_closure.specs.Clauses.{InBody, Holds}
 use Rattle.guppy_closure.specs.Derived.{IsDerived, IsDerivation, Follows, EndsWith, AreNeeded as AreClausesNeeded}
 use Rattle.guppy_closure.specs.Relations.{AreClausesOf}
-use Rattle.guppy_closure.proofs.Relations.{in_body_of}
+use Rattle.guppy_closure.proofs.Relations.{in_body_of, holds_by}
 use Rattle.guppy_closure.proofs.Places.{contains_at}
 use Rattle.guppy_features.specs.declared.fact.Fact.{Fact}
 use Rattle.guppy_features.specs.declared.reason.Reason.{Reason}
-use Rattle.guppy_features.specs.Reasons.{grounds, IsReached, IsReason, AreReasons, EndsIn, AreNeeded, reason_of, reasons_of}
+use Rattle.guppy_features.specs.Reasons.{grounds, IsReached, IsReason, AreReasons, IsWay, AreWays, EndsIn, AreNeeded, Leads, IsLeading, AreLeading, reason_of, reasons_of}
 use Rattle.guppy_features.proofs.Adding.{in_body}
 
 of_option : (o : Option (Clause Fact)) (r : Reason) → Contains (option_to_list (option_map reason_of o)) r → (c : Clause Fact) × (o ≡ Some c) × (reason_of c ≡ r)
@@ -21,6 +22,38 @@ of_option (Some c) r h = elim (Contains-cons_cases (reason_of c) r [] h) as (λ 
   | inl e ↦ (c, refl, e)
   | inr none ↦ absurd (nothing_in r none)
 ]
+
+module _ (clauses : List (Clause Fact)) (f : Fact) where
+  -- the steps of one clause more, which leads to the fact
+  one_leads : (looked : List (Clause Fact)) (steps : List Reason) (c : Clause Fact) → AreLeading looked clauses f steps → Leads clauses f c → AreLeading (looked ++ c ∷ []) clauses f (steps ++ reason_of c ∷ [])
+  one_leads looked steps c are leads r = (
+    λ h. elim (Contains-push_cases steps (reason_of c) r h) as (λ _. IsLeading (looked ++ c ∷ []) clauses f r) [
+      | inl old ↦ let w = (are r).0 old in (w.0, Contains-append_left looked (c ∷ []) w.0 w.1, w.2, w.3)
+      | inr last ↦ (c, Contains-push looked c, last, leads)
+    ],
+    λ w. elim (Contains-push_cases looked c w.0 w.1) as (λ _. Contains (steps ++ reason_of c ∷ []) r) [
+      | inl old ↦ Contains-append_left steps (reason_of c ∷ []) r ((are r).1 (w.0, old, w.2, w.3))
+      | inr last ↦ subst (Contains (steps ++ reason_of c ∷ [])) (ap reason_of last ∙ w.2) (Contains-push steps (reason_of c))
+    ],
+  )
+
+  -- and of one that does not
+  one_other : (looked : List (Clause Fact)) (steps : List Reason) (c : Clause Fact) → AreLeading looked clauses f steps → ¬ Leads clauses f c → AreLeading (looked ++ c ∷ []) clauses f steps
+  one_other looked steps c are other r = (
+    λ h. let w = (are r).0 h in (w.0, Contains-append_left looked (c ∷ []) w.0 w.1, w.2, w.3),
+    λ w. elim (Contains-push_cases looked c w.0 w.1) as (λ _. Contains steps r) [
+      | inl old ↦ (are r).1 (w.0, old, w.2, w.3)
+      | inr last ↦ absurd (other (subst (Leads clauses f) (sym last) w.3))
+    ],
+  )
+
+  -- and as a loop finds them
+  module _ (all : List (Clause Fact)) (i : ℕ) (d : Clause Fact) (steps : List Reason) (b : Bool) (below : i < length all) (are : AreLeading (take i all) clauses f steps) (leads : IsTrue b ↔ Leads clauses f (get_or all i d)) where
+    pub leading_more : b ≡ true → AreLeading (take (i + 1) all) clauses f (steps ++ reason_of (get_or all i d) ∷ [])
+    leading_more is = rw (take_more all i d below) (one_leads (take i all) steps (get_or all i d) are (leads.0 is))
+
+    pub leading_other : b ≡ false → AreLeading (take (i + 1) all) clauses f steps
+    leading_other is = rw (take_more all i d below) (one_other (take i all) steps (get_or all i d) are (λ h. let so = leads.1 h in cc))
 
 module _ (clauses : List (Clause Fact)) where
   -- the step of the number
@@ -72,6 +105,24 @@ module _ (clauses : List (Clause Fact)) where
       follows = are.sound follows.clause (contains_at clauses follows.clause n follows.found);
       reached = λ g h. reached before g (follows.body g (in_body_of follows.clause g h));
       new = λ h. follows.new (derived before follows.clause.head h);
+    }
+
+    -- what leads to the fact is a way
+    a_way : (f : Fact) (c : Clause Fact) (r : Reason) → Contains clauses c → reason_of c ≡ r → Leads clauses f c → IsWay C f r
+    a_way f c r among is leads = subst (IsWay C f) is (record {
+      fact = leads.0;
+      follows = are.sound c among;
+      holds = λ g h. (holds_by C clauses are g).1 (leads.1 g (in_body_of c g h));
+    })
+
+    -- and of each way one that needs no more leads there
+    pub are_ways : (f : Fact) (ways : List Reason) → AreLeading clauses clauses f ways → AreWays C f ways
+    are_ways f ways are_leading = record {
+      sound = λ r h. let w = (are_leading r).0 h in a_way f w.0 r w.1 w.2 w.3;
+      whole = λ body follows holds.
+          let w = are.whole body f follows in
+          let met : (b : Fact) → InBody w.0 b → Holds clauses b = λ b i. (holds_by C clauses are b).0 (holds b (w.3 b i)) in
+          (reason_of w.0, (are_leading (reason_of w.0)).1 (w.0, w.1, refl, (w.2, met)), λ g h. w.3 g (in_body_of w.0 g h));
     }
 
     -- each step is a reason, by those before it

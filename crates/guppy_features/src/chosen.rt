@@ -160,12 +160,9 @@ impl Chosen<'_> {
         ensures { result ≡ list_any (λ p. is_some (taken self.entry.graph.now p (seen_value feature.now)))
             self.entry.members.now }
     {
-        for position in self.members {
-            if taken(self.graph, *position, feature).is_some() {
-                return true;
-            }
-        }
-        false
+        self.members
+            .iter()
+            .any(|position| taken(self.graph, *position, feature).is_some())
     }
 
     // Whether one hides it.
@@ -174,12 +171,9 @@ impl Chosen<'_> {
         ensures { result ≡ list_any (λ p. hides self.entry.graph.now p (seen_value feature.now))
             self.entry.members.now }
     {
-        for position in self.members {
-            if hides(self.graph, *position, feature) {
-                return true;
-            }
-        }
-        false
+        self.members
+            .iter()
+            .any(|position| hides(self.graph, *position, feature))
     }
 
     // Whether Cargo accepts it where the package at the root is asked for all.
@@ -218,12 +212,9 @@ impl Chosen<'_> {
         requires { AreWithin (chosen_of self) }
         ensures { result ≡ is_beside (chosen_of self.entry) root name.now }
     {
-        for position in self.members {
-            if self.is_other(root, name, *position) {
-                return true;
-            }
-        }
-        false
+        self.members
+            .iter()
+            .any(|position| self.is_other(root, name, *position))
     }
 
     // Whether one that is called so has the feature.
@@ -231,12 +222,9 @@ impl Chosen<'_> {
         requires { AreWithin (chosen_of self) }
         ensures { result ≡ is_beside_with (chosen_of self.entry) root name.now feature.now }
     {
-        for position in self.members {
-            if self.is_other(root, name, *position) && has_feature(self.graph, *position, feature) {
-                return true;
-            }
-        }
-        false
+        self.members.iter().any(|position| {
+            self.is_other(root, name, *position) && has_feature(self.graph, *position, feature)
+        })
     }
 
     // The chosen members with what each is asked for, and behind them the package that is asked for all.

@@ -7,12 +7,12 @@ ghost use Rattle.guppy_features.specs.FactOrder.{fact_cmp};
 ghost use Rattle.guppy_features.specs.declared.fact.Fact.{Fact};
 ghost use Rattle.guppy_features.specs.Questions.{question, question_of};
 ghost use Rattle.guppy_features.specs.Follows.{FollowsFor};
-ghost use Rattle.guppy_features.specs.Reasons.{AreReasons, EndsIn, AreNeeded};
+ghost use Rattle.guppy_features.specs.Reasons.{AreReasons, AreWays, EndsIn, AreNeeded};
 
 use crate::fact::Fact;
 use crate::options::CargoOptions;
 use crate::question::Asked;
-use crate::reason::{Reason, reasons_of};
+use crate::reason::{Reason, reasons_of, ways_of};
 use guppy_closure::{ClosureFault, Known};
 use guppy_graph::RecordGraph;
 use std::alloc::{AllocError, Global};
@@ -32,10 +32,11 @@ impl<'a> Model for CargoSet<'a> {
     ghost use Rattle.guppy_graph.specs.contracts.graph.RecordGraph as of_graph;
     ghost use Rattle.guppy_features.specs.contracts.options.CargoOptions as of_options;
     ghost use Rattle.std.specs.Coded.{codes};
+    ghost use denote.Signature.{static_lft};
 
     ghost Value = { Question };
 
-    ghost coded = { Prim.hlevel (codes, of_graph.the_row.coded, of_options.the_row.coded) };
+    ghost coded = { Prim.hlevel (codes, of_graph.the_row.coded, (of_options.the_row static_lft).coded) };
 
     ghost view = { λ s. question_of s.asked };
 
@@ -100,6 +101,18 @@ impl<'a> CargoSet<'a> {
         };
         let steps = reasons_of(alloc, self.known.clauses(), numbers.as_slice())?;
         Ok(Some(steps))
+    }
+
+    /// All ways in which the fact follows from facts that hold: who asks for it. Each is told as a step, in the order of
+    /// the clauses, one that stands there twice twice; one with nothing that it follows from is asked for of a chosen
+    /// package. There are none where the fact doesn't hold.
+    ///
+    /// Time grows with all clauses, and for those whose head is the fact with the logarithm of the facts that are named.
+    /// Takes memory for the ways, and fails only where there is none.
+    pub fn ways(&self, alloc: Global, fact: Fact) -> Result<Vec<Reason>, AllocError>
+        ensures { IfOk result (λ ways. AreWays (FollowsFor self.now) fact ways.items) }
+    {
+        ways_of(alloc, &self.known, fact)
     }
 
     /// The facts that hold, ascending, each once. Takes memory for them, and fails only where there is none.
