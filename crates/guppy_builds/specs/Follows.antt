@@ -4,7 +4,7 @@ use Rattle.std.specs.List.{list_any}
 use Rattle.std.specs.Option.{option_map_or}
 use Rattle.guppy_data.specs.declared.records.BuildTargetRecord.{BuildTargetRecord}
 use Rattle.guppy_data.specs.declared.records.OwnedBuildTargetId.{OwnedBuildTargetId}
-use Rattle.guppy_data.specs.declared.records.OwnedBuildTargetId.TheVariants.{Library, BuildScript, Binary, Example, Test, Benchmark}
+use Rattle.guppy_data.specs.declared.records.OwnedBuildTargetId.TheVariants.{BuildScript, Binary, Example}
 use Rattle.guppy_features.specs.Dependencies.{DependencyData}
 use Rattle.guppy_features.specs.Questions.{Question, is_library, is_macro, is_macro_library, is_build, is_development, use_of}
 use Rattle.guppy_features.specs.Follows.{IsDependency}
@@ -21,27 +21,15 @@ targets_of q p = option_map_or (λ r. r.build_targets.items) (slice_get q.graph.
 
 abbrev pub is_binary : OwnedBuildTargetId → Bool
 is_binary (Binary name) = true
-is_binary Library = false
-is_binary BuildScript = false
-is_binary (Example name) = false
-is_binary (Test name) = false
-is_binary (Benchmark name) = false
+is_binary _ = false
 
 abbrev pub is_example : OwnedBuildTargetId → Bool
 is_example (Example name) = true
-is_example Library = false
-is_example BuildScript = false
-is_example (Binary name) = false
-is_example (Test name) = false
-is_example (Benchmark name) = false
+is_example _ = false
 
 abbrev pub is_script : OwnedBuildTargetId → Bool
 is_script BuildScript = true
-is_script Library = false
-is_script (Binary name) = false
-is_script (Example name) = false
-is_script (Test name) = false
-is_script (Benchmark name) = false
+is_script _ = false
 
 -- whether the target of a chosen member is to be built: the library and binaries, and with tests in their place what
 -- is tested, and examples

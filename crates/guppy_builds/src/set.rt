@@ -30,10 +30,11 @@ impl<'a> Model for BuildSet<'a> {
     ghost use Rattle.guppy_graph.specs.contracts.graph.RecordGraph as of_graph;
     ghost use Rattle.guppy_features.specs.contracts.options.CargoOptions as of_options;
     ghost use Rattle.std.specs.Coded.{codes};
+    ghost use denote.Signature.{static_lft};
 
     ghost Value = { Builds };
 
-    ghost coded = { Prim.hlevel (codes, of_graph.the_row.coded, of_options.the_row.coded) };
+    ghost coded = { Prim.hlevel (codes, of_graph.the_row.coded, (of_options.the_row static_lft).coded) };
 
     ghost view = { λ s. builds (question_of s.asked) s.members.now };
 

@@ -103,9 +103,9 @@ impl<'a> CargoSet<'a> {
         Ok(Some(steps))
     }
 
-    /// All ways in which the fact follows from facts that hold: who asks for it. Each is told as a step, in the order of
-    /// the clauses, one that stands there twice twice; one with nothing that it follows from is asked for of a chosen
-    /// package. There are none where the fact doesn't hold.
+    /// All ways in which the fact follows from facts that hold: who asks for it. Each is told as a step, and more than
+    /// once if more than one clause says it. A step whose fact follows from nothing is asked for of a chosen package.
+    /// There are none where the fact doesn't hold.
     ///
     /// Time grows with all clauses, and for those whose head is the fact with the logarithm of the facts that are named.
     /// Takes memory for the ways, and fails only where there is none.
