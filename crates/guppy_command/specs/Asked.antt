@@ -5,12 +5,17 @@ use Rattle.std.specs.Option.{option_map_or}
 use Rattle.std.specs.Str.{bytes_eq}
 use Rattle.std.specs.Str.Lines.{lines}
 use Rattle.guppy_data.specs.Platform.{Question, OnAny, OnPlatforms}
+use Rattle.guppy_features.specs.declared.options.CargoResolverVersion.{CargoResolverVersion}
+use Rattle.guppy_features.specs.declared.options.CargoResolverVersion.TheVariants.{V2}
+use Rattle.guppy_features.specs.declared.options.StandardFeatures.{StandardFeatures}
+use Rattle.guppy_features.specs.declared.options.StandardFeatures.TheVariants.{None as NoFeatures, Default, All}
 use Rattle.guppy_target.specs.Platform.{PlatformData, IsFirstFault}
 use Rattle.guppy_command.specs.declared.options.Kinds.{Kinds}
 use Rattle.guppy_command.specs.declared.options.Options.{Options}
-use Rattle.guppy_command.specs.declared.table.TheConstants.{KINDS, PLATFORM, CFGS, HOST, HOST_CFGS, WORKSPACE, IDS, PUBLISHABLE, IGNORE, PATHS_FROM}
-use Rattle.guppy_command.specs.Grammar.{OptionRow, Program, Argument, option, word, Misread, not_taken, repeated, no_command, unknown_command, bad_words, bad_kinds, lone_platform, lone_host, all_ignored, no_paths, cfgs_failed, bad_cfg, paths_failed, unended_paths, called, Reads}
-use Rattle.guppy_command.specs.Command.{Command, affected, command_of, from_root}
+use Rattle.guppy_command.specs.declared.table.TheConstants.{KINDS, PLATFORM, CFGS, HOST, HOST_CFGS, WORKSPACE, IDS, PUBLISHABLE, IGNORE, PATHS_FROM, MEMBER, FEATURES, ALL_FEATURES, NO_DEFAULT_FEATURES, TESTS, RESOLVER}
+use Rattle.guppy_command.specs.Grammar.{OptionRow, Program, Argument, option, word, Misread, not_taken, repeated, no_command, unknown_command, bad_words, bad_kinds, bad_resolver, lone_platform, lone_host, all_ignored, no_paths, cfgs_failed, bad_cfg, paths_failed, unended_paths, called, Reads}
+use Rattle.guppy_command.specs.Builds.{features_of, resolver_of}
+use Rattle.guppy_command.specs.Command.{BuildRequest, Command, affected, build_command_of, command_of, from_root}
 use Rattle.guppy_command.specs.Options.{kinds_of}
 use Rattle.guppy_command.specs.Paths.{are_ended, paths_of}
 use Rattle.guppy_command.specs.Platforms.{IsPlatform}
@@ -142,9 +147,40 @@ affected_of given paths = if not (has_paths given paths) then Err no_paths
     else option_map_or (λ folder. Err (all_ignored folder)) (find is_all (values_of IGNORE.now given))
     (Ok (affected (map from_root (values_of IGNORE.now given)) (map from_root paths)))
 
+-- which features of the members beside those that are named
+abbrev pub standard_in : List Argument → StandardFeatures
+standard_in given = if has ALL_FEATURES.now given then All
+    else (if has NO_DEFAULT_FEATURES.now given then NoFeatures else Default)
+
+-- the resolver that is named, or the second
+abbrev pub resolver_in : List (List ℕ) → Result CargoResolverVersion Misread
+resolver_in [] = Ok V2
+resolver_in (value ∷ values) =
+    option_map_or (λ resolver. Ok resolver) (resolver_of value) (Err (bad_resolver value))
+
+-- what Cargo is asked to build
+abbrev pub request_in : List Argument → Result BuildRequest Misread
+request_in given = resolver_in (values_of RESOLVER.now given) >>= λ resolver. Ok (record {
+  members = values_of MEMBER.now given;
+  features = flat_map features_of (values_of FEATURES.now given);
+  standard = standard_in given;
+  tests = has TESTS.now given;
+  resolver = resolver;
+})
+
+-- the command asks what Cargo builds
+abbrev pub is_of_builds : List ℕ → Bool
+is_of_builds command = is_among (codes "built" ∷ codes "features" ∷ codes "why-feature" ∷ []) command
+
+-- what such a command asks with these words behind it
+abbrev pub asked_of_builds : List Argument → List ℕ → List (List ℕ) → Result Command Misread
+asked_of_builds given command words = request_in given >>= λ request. option_map_or (λ asked. Ok asked)
+    (build_command_of request command words) (Err (bad_words command))
+
 -- what the command asks with these words behind it
 abbrev pub asked_by : List Argument → List ℕ → List (List ℕ) → Result Command Misread
 asked_by given command words = if bytes_eq command (codes "affected") then affected_of given words
+    else if is_of_builds command then asked_of_builds given command words
     else option_map_or (λ asked. Ok asked) (command_of (has PUBLISHABLE.now given) command words) (Err (bad_words command))
 
 -- what these arguments ask, or why they ask nothing

@@ -3,10 +3,18 @@ use Rattle.std.specs.Prelude.{ℕ, List, Bool, true, false, Option, Some, None, 
 use Rattle.guppy_data.specs.declared.texts.error.Error.{Error}
 use Rattle.guppy_data.specs.declared.texts.error.Error.TheVariants.{OutOfMemory}
 
+-- why there is no answer on what Cargo builds: it refuses this of a command line's features; the package, the first
+-- word, has no feature that the second one names, or has it on nowhere; or its optional dependency isn't resolved
+pub data BuildCause : Type 0 where
+  unknown_feature : List ℕ → BuildCause
+  lacks_feature : List ℕ → List ℕ → BuildCause
+  feature_off : List ℕ → List ℕ → BuildCause
+  unresolved : List ℕ → List ℕ → BuildCause
+
 -- an error of the library, which also tells that memory ran out; the arguments, or that they could not
 -- be had; a word, and a text that tells what it may mean; two words, from whose first package no links
 -- lead to the second one's; what a member is called that can be published by itself, and one that it
--- needs and that can't; what the input says; the source; the sink.
+-- needs and that can't; why there is no answer on what Cargo builds; what the input says; the source; the sink.
 -- A program says which of its faults is blamed on what, and `IsRun` when each comes
 pub data Cause : Type 0 where
   library : Error → Cause
@@ -14,6 +22,7 @@ pub data Cause : Type 0 where
   ambiguous : List ℕ → List ℕ → Cause
   no_walk : List ℕ → List ℕ → Cause
   unpublishable : List ℕ → List ℕ → Cause
+  build : BuildCause → Cause
   bad_input : Cause
   input_failed : Cause
   output_failed : Cause

@@ -3,11 +3,23 @@ use Rattle.std.specs.Prelude.{ℕ, Bool, true, List, [], ◌∷◌, take, drop, 
 use Rattle.std.specs.Str.{bytes_eq}
 use Rattle.guppy_search.specs.declared.ix.direction.DependencyDirection.{DependencyDirection}
 use Rattle.guppy_search.specs.declared.ix.direction.DependencyDirection.TheVariants.{Forward, Reverse}
+use Rattle.guppy_features.specs.declared.options.CargoResolverVersion.{CargoResolverVersion}
+use Rattle.guppy_features.specs.declared.options.StandardFeatures.{StandardFeatures}
 use Rattle.guppy_command.specs.declared.table.TheConstants.{PUBLISHABLE}
+
+-- what Cargo is asked to build: the chosen members, or by default those that it takes by itself, what `--features`
+-- names and which features beside, whether tests are built, too, and by which resolver
+pub record BuildRequest : Type 0 where
+  pub members : List (List ℕ)
+  pub features : List (List ℕ)
+  pub standard : StandardFeatures
+  pub tests : Bool
+  pub resolver : CargoResolverVersion
 
 -- the packages that these reach in a direction, whether the first depends on the second, why it does,
 -- the packages in their order, the roots of all packages or the links walked from them in a direction,
--- the cycles, the packages that are there more than once, whether the graph is a verified one, the
+-- the cycles, the packages that are there more than once, what Cargo builds, which features of a
+-- package are on there, or why the second word's is, whether the graph is a verified one, the
 -- members in an order to publish them, all or those alone that can be published, what these reach or
 -- all as it is drawn, or, with folders to leave out, the members that changes at some paths affect
 pub data Command : Type 0 where
@@ -19,6 +31,9 @@ pub data Command : Type 0 where
   links : DependencyDirection → Command
   cycles : Command
   duplicates : Command
+  built : BuildRequest → Command
+  features : BuildRequest → List ℕ → Command
+  why_feature : BuildRequest → List ℕ → List ℕ → Command
   verify : Command
   publish_order : Bool → Command
   dot : List (List ℕ) → Command
@@ -73,6 +88,15 @@ command_of publishable word words = if bytes_eq word (codes "reach") then reach_
     else (if bytes_eq word (codes "publish-order") then publish_of publishable words
     else (if bytes_eq word (codes "dot") then Some (dot words)
     else plain_command_of word words))))))
+
+-- `built`, `features PACKAGE` or `why-feature PACKAGE FEATURE`
+abbrev pub build_command_of : BuildRequest → List ℕ → List (List ℕ) → Option Command
+build_command_of request word [] = if bytes_eq word (codes "built") then Some (built request) else None
+build_command_of request word (id ∷ []) =
+    if bytes_eq word (codes "features") then Some (features request id) else None
+build_command_of request word (id ∷ feature ∷ []) =
+    if bytes_eq word (codes "why-feature") then Some (why_feature request id feature) else None
+build_command_of request word _ = None
 
 -- the path without a `./` at its front
 abbrev pub from_root : List ℕ → List ℕ

@@ -25,7 +25,7 @@ pub data Argument : Type 0 where
 
 -- why arguments ask nothing: no option is called so; the option lacks its value, takes none, comes again,
 -- or is not the command's; there is no command, or none is called so; the words behind the command don't fit it, or the
--- value no kinds; a platform has no file with what is set there, or a file no platform; so of the host; the folder to
+-- value no kinds, or no resolver; a platform has no file with what is set there, or a file no platform; so of the host; the folder to
 -- leave out is all; no path is given; the file of a platform can't be read, or has a bad line behind so many; a file
 -- with paths can't be read, or one of them isn't ended
 pub data Misread : Type 0 where
@@ -38,6 +38,7 @@ pub data Misread : Type 0 where
   unknown_command : List ℕ → Misread
   bad_words : List ℕ → Misread
   bad_kinds : List ℕ → Misread
+  bad_resolver : List ℕ → Misread
   lone_platform : Misread
   lone_host : Misread
   all_ignored : List ℕ → Misread

@@ -1,11 +1,13 @@
 pub mod Device
 pub mod Cause
+pub mod BuildFault
 pub mod Ids
 pub mod Grammar
 pub mod Platforms
 pub mod Options
 pub mod Command
 pub mod Text
+pub mod Builds
 pub mod Paths
 pub mod Asked
 pub mod Shown

@@ -6,18 +6,20 @@ use Rattle.guppy_data.specs.Platform.{question_of}
 use Rattle.guppy_command.specs.declared.grammar.Argument.{Argument as GivenArgument}
 use Rattle.guppy_command.specs.declared.grammar.Argument.TheVariants.{Option as GivenOption, Word}
 use Rattle.guppy_command.specs.declared.grammar.Misread.{Misread as GivenMisread}
-use Rattle.guppy_command.specs.declared.grammar.Misread.TheVariants.{NoOption, NoValue, NeedlessValue, Repeated, NotTaken, NoCommand, UnknownCommand, BadWords, BadKinds, LonePlatform, LoneHost, AllIgnored, NoPaths, CfgsFailed, BadCfg, PathsFailed, UnendedPaths, OutOfMemory}
+use Rattle.guppy_command.specs.declared.grammar.Misread.TheVariants.{NoOption, NoValue, NeedlessValue, Repeated, NotTaken, NoCommand, UnknownCommand, BadWords, BadKinds, BadResolver, LonePlatform, LoneHost, AllIgnored, NoPaths, CfgsFailed, BadCfg, PathsFailed, UnendedPaths, OutOfMemory}
 use Rattle.guppy_command.specs.declared.grammar.Program.{Program as GivenProgram}
+use Rattle.guppy_command.specs.declared.command.BuildRequest.{BuildRequest as GivenRequest}
 use Rattle.guppy_command.specs.declared.command.Command.{Command as GivenCommand}
-use Rattle.guppy_command.specs.declared.command.Command.TheVariants.{Reach, Depends, Why, Order, Roots, Links, Cycles, Duplicates, Verify, PublishOrder, Dot, Affected}
+use Rattle.guppy_command.specs.declared.command.Command.TheVariants.{Reach, Depends, Why, Order, Roots, Links, Cycles, Duplicates, Built, Features, WhyFeature, Verify, PublishOrder, Dot, Affected}
 use Rattle.guppy_command.specs.declared.asked.Asked.{Asked as GivenAsked}
 use Rattle.guppy_command.specs.declared.asked.Wanted.{Wanted as GivenWanted}
 use Rattle.guppy_command.specs.declared.fault.Fault.{Fault}
-use Rattle.guppy_command.specs.declared.fault.Fault.TheVariants.{Library, BadArguments, NoWalk, Unpublishable, InputFailed, OutputFailed}
-use Rattle.guppy_command.specs.Grammar.{OptionRow, Program, Argument, option, word, Misread, no_option, no_value, needless_value, repeated, not_taken, no_command, unknown_command, bad_words, bad_kinds, lone_platform, lone_host, all_ignored, no_paths, cfgs_failed, bad_cfg, paths_failed, unended_paths}
+use Rattle.guppy_command.specs.declared.fault.Fault.TheVariants.{Library, BadArguments, NoWalk, Unpublishable, Build, InputFailed, OutputFailed}
+use Rattle.guppy_command.specs.Grammar.{OptionRow, Program, Argument, option, word, Misread, no_option, no_value, needless_value, repeated, not_taken, no_command, unknown_command, bad_words, bad_kinds, bad_resolver, lone_platform, lone_host, all_ignored, no_paths, cfgs_failed, bad_cfg, paths_failed, unended_paths}
 use Rattle.guppy_command.specs.Asked.{Asked, Wanted}
-use Rattle.guppy_command.specs.Cause.{Cause, library, bad_arguments, no_walk, unpublishable, input_failed, output_failed}
-use Rattle.guppy_command.specs.Command.{Command, reach, depends, why, order, roots, links, cycles, duplicates, verify, publish_order, dot, affected}
+use Rattle.guppy_command.specs.BuildFault.{build_cause_of}
+use Rattle.guppy_command.specs.Cause.{Cause, library, bad_arguments, no_walk, unpublishable, build, input_failed, output_failed}
+use Rattle.guppy_command.specs.Command.{BuildRequest, Command, reach, depends, why, order, roots, links, cycles, duplicates, built, features, why_feature, verify, publish_order, dot, affected}
 
 abbrev pub texts : List (Bor (List ℕ)) → List (List ℕ)
 texts words = map (λ text. text.now) words
@@ -41,6 +43,15 @@ abbrev pub argument_shown : GivenArgument → Argument
 argument_shown (GivenOption name value) = option name.now (option_map (λ text. text.now) value)
 argument_shown (Word text) = word text.now
 
+abbrev pub request_shown : GivenRequest → BuildRequest
+request_shown request = record {
+  members = texts request.members.items;
+  features = texts request.features.items;
+  standard = request.standard;
+  tests = request.tests;
+  resolver = request.resolver;
+}
+
 abbrev pub command_shown : GivenCommand → Command
 command_shown (Reach direction ids) = reach direction (texts ids.items)
 command_shown (Depends from to) = depends from.now to.now
@@ -50,6 +61,9 @@ command_shown (Roots direction) = roots direction
 command_shown (Links direction) = links direction
 command_shown Cycles = cycles
 command_shown Duplicates = duplicates
+command_shown (Built request) = built (request_shown request)
+command_shown (Features request id) = features (request_shown request) id.now
+command_shown (WhyFeature request id feature) = why_feature (request_shown request) id.now feature.now
 command_shown Verify = verify
 command_shown (PublishOrder publishable) = publish_order publishable
 command_shown (Dot words) = dot (texts words.items)
@@ -83,6 +97,7 @@ misread_shown NoCommand = Some no_command
 misread_shown (UnknownCommand text) = Some (unknown_command text.now)
 misread_shown (BadWords command) = Some (bad_words command.now)
 misread_shown (BadKinds value) = Some (bad_kinds value.now)
+misread_shown (BadResolver value) = Some (bad_resolver value.now)
 misread_shown LonePlatform = Some lone_platform
 misread_shown LoneHost = Some lone_host
 misread_shown (AllIgnored folder) = Some (all_ignored folder.now)
@@ -107,5 +122,6 @@ cause_shown (Library error) = library error
 cause_shown BadArguments = bad_arguments
 cause_shown (NoWalk from to) = no_walk (string_bytes from) (string_bytes to)
 cause_shown (Unpublishable member needed) = unpublishable (string_bytes member) (string_bytes needed)
+cause_shown (Build fault) = build (build_cause_of fault)
 cause_shown InputFailed = input_failed
 cause_shown OutputFailed = output_failed

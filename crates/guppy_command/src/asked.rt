@@ -1,17 +1,21 @@
 //! What arguments ask.
 ghost use Rattle.std.specs.Prelude.{◌≡◌, map, string_bytes, option_map, IfOk};
-ghost use Rattle.std.specs.List.{filter_map, find, zip};
-ghost use Rattle.guppy_command.specs.Asked.{word_of, value_for, picked, is_option, values_of, has, is_among, takes, may_repeat, command_in, judged, all_judged, kinds_in, pairs_in, platforms_in, host_in, options_in, has_paths, affected_of, asked_by, wanted_of, is_all};
+ghost use Rattle.std.specs.List.{filter_map, find, flat_map, zip};
+ghost use Rattle.guppy_command.specs.Asked.{word_of, value_for, picked, is_option, values_of, has, is_among, takes, may_repeat, command_in, judged, all_judged, kinds_in, pairs_in, platforms_in, host_in, options_in, has_paths, affected_of, standard_in, resolver_in, request_in, is_of_builds, asked_of_builds, asked_by, wanted_of, is_all};
+ghost use Rattle.guppy_command.specs.Builds.{features_of};
 ghost use Rattle.guppy_command.specs.Command.{from_root};
-ghost use Rattle.guppy_command.specs.Shown.{argument_shown, row_shown, program_shown, command_shown, wanted_shown, texts, Gives};
+ghost use Rattle.guppy_command.specs.Shown.{argument_shown, row_shown, program_shown, command_shown, request_shown, wanted_shown, texts, Gives};
 
-use crate::command::{Command, command_of, from_root};
+use crate::builds::{add_features, resolver_of};
+use crate::command::{BuildRequest, Command, build_command_of, command_of, from_root};
 use crate::grammar::{Argument, Misread, OptionRow, Program, called};
 use crate::options::{Kinds, Options, kinds_of};
 use crate::table::{
-    CFGS, HOST, HOST_CFGS, IDS, IGNORE, KINDS, PATHS_FROM, PLATFORM, PUBLISHABLE, WORKSPACE,
+    ALL_FEATURES, CFGS, FEATURES, HOST, HOST_CFGS, IDS, IGNORE, KINDS, MEMBER, NO_DEFAULT_FEATURES,
+    PATHS_FROM, PLATFORM, PUBLISHABLE, RESOLVER, TESTS, WORKSPACE,
 };
 use guppy_data::PlatformSpec;
+use guppy_features::{CargoResolverVersion, StandardFeatures};
 use guppy_target::Platform;
 use std::alloc::{AllocError, Global};
 
@@ -349,6 +353,84 @@ fn affected_of<'a>(
     })
 }
 
+// What `--features` names.
+fn features_in<'a>(alloc: Global, values: &[&'a str]) -> Result<Vec<&'a str>, AllocError>
+    ensures { IfOk result (λ features. texts features.items
+        ≡ flat_map features_of (texts values.now)) }
+{
+    let mut features = Vec::new(alloc);
+    for value in values {
+        add_features(&mut features, value)?;
+    }
+    Ok(features)
+}
+
+// Which features of the members beside those that are named.
+fn standard_in(given: &[Argument<'_>]) -> StandardFeatures
+    ensures { result ≡ standard_in (map argument_shown given.now) }
+{
+    if has(ALL_FEATURES, given) {
+        StandardFeatures::All
+    } else if has(NO_DEFAULT_FEATURES, given) {
+        StandardFeatures::None
+    } else {
+        StandardFeatures::Default
+    }
+}
+
+// The resolver that is named, or the second.
+fn resolver_in<'a>(values: &[&'a str]) -> Result<CargoResolverVersion, Misread<'a>>
+    ensures { Gives (λ resolver. resolver) (resolver_in (texts values.now)) result }
+{
+    let [value, ..] = values else {
+        return Ok(CargoResolverVersion::V2);
+    };
+    match resolver_of(value) {
+        Some(resolver) => Ok(resolver),
+        None => Err(Misread::BadResolver(value)),
+    }
+}
+
+// What Cargo is asked to build.
+fn request_in<'a>(alloc: Global, given: &[Argument<'a>]) -> Result<BuildRequest<'a>, Misread<'a>>
+    ensures { Gives request_shown (request_in (map argument_shown given.now)) result }
+{
+    let resolvers = values_of(alloc, RESOLVER, given)?;
+    let resolver = resolver_in(resolvers.as_slice())?;
+    let features = values_of(alloc, FEATURES, given)?;
+    Ok(BuildRequest {
+        members: values_of(alloc, MEMBER, given)?,
+        features: features_in(alloc, features.as_slice())?,
+        standard: standard_in(given),
+        tests: has(TESTS, given),
+        resolver,
+    })
+}
+
+// Whether the command asks what Cargo builds.
+fn is_of_builds(command: &str) -> bool
+    ensures { result ≡ is_of_builds command.now }
+{
+    matches!(command, "built" | "features" | "why-feature")
+}
+
+// What such a command asks with these words behind it.
+fn asked_of_builds<'a>(
+    alloc: Global,
+    given: &[Argument<'a>],
+    command: &'a str,
+    words: &[&'a str],
+) -> Result<Command<'a>, Misread<'a>>
+    ensures { Gives command_shown
+        (asked_of_builds (map argument_shown given.now) command.now (texts words.now)) result }
+{
+    let request = request_in(alloc, given)?;
+    match build_command_of(request, command, words) {
+        Some(asked) => Ok(asked),
+        None => Err(Misread::BadWords(command)),
+    }
+}
+
 // What the command asks with these words behind it.
 fn asked_by<'a>(
     alloc: Global,
@@ -361,6 +443,9 @@ fn asked_by<'a>(
 {
     if command == "affected" {
         return affected_of(alloc, given, words);
+    }
+    if is_of_builds(command) {
+        return asked_of_builds(alloc, given, command, words);
     }
     match command_of(alloc, has(PUBLISHABLE, given), command, words)? {
         Some(asked) => Ok(asked),

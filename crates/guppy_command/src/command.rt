@@ -1,11 +1,27 @@
 //! The commands.
 ghost use Rattle.std.specs.Prelude.{◌≡◌, option_map, IfOk};
-ghost use Rattle.guppy_command.specs.Command.{roots, links, command_of, direction_of, lone_direction_of, reach_of, depends_of, why_of, plain_command_of, publish_of, from_root};
-ghost use Rattle.guppy_command.specs.Shown.{command_shown, texts};
+ghost use Rattle.guppy_command.specs.Command.{roots, links, build_command_of, command_of, direction_of, lone_direction_of, reach_of, depends_of, why_of, plain_command_of, publish_of, from_root};
+ghost use Rattle.guppy_command.specs.Shown.{command_shown, request_shown, texts};
 
 use crate::table::PUBLISHABLE;
+use guppy_features::{CargoResolverVersion, StandardFeatures};
 use guppy_search::DependencyDirection;
 use std::alloc::{AllocError, Global};
+
+/// What Cargo is asked to build.
+#[derive(Debug, Drop)]
+pub struct BuildRequest<'a> {
+    /// The chosen members; where none is, those that Cargo takes by default.
+    pub members: Vec<&'a str>,
+    /// What `--features` names.
+    pub features: Vec<&'a str>,
+    /// Which features of the members beside these.
+    pub standard: StandardFeatures,
+    /// Whether tests are built, too.
+    pub tests: bool,
+    /// The resolver of features.
+    pub resolver: CargoResolverVersion,
+}
 
 /// What is asked of a graph.
 #[derive(Debug, Drop)]
@@ -26,6 +42,12 @@ pub enum Command<'a> {
     Cycles,
     /// The packages whose name another one has, too, each with those that need it.
     Duplicates,
+    /// The packages that Cargo builds, each with its features that are on.
+    Built(BuildRequest<'a>),
+    /// The features of the package that are on, each with what asks for it.
+    Features(BuildRequest<'a>, &'a str),
+    /// Why the feature of the package, the second word, is on.
+    WhyFeature(BuildRequest<'a>, &'a str, &'a str),
     /// Whether the graph is a verified graph.
     Verify,
     /// The members of the workspace, each after those that it needs.
@@ -170,6 +192,26 @@ pub fn command_of<'a>(
     } else {
         plain_command_of(word, words)
     })
+}
+
+/// The command that is called so with these words behind it, if it asks what Cargo builds and takes them. Takes time
+/// linear in the word's length, and no memory.
+pub fn build_command_of<'a>(
+    request: BuildRequest<'a>,
+    word: &str,
+    words: &[&'a str],
+) -> Option<Command<'a>>
+    ensures { option_map command_shown result
+        ≡ build_command_of (request_shown request.entry) word.now (texts words.now) }
+{
+    match words {
+        [] if word == "built" => Some(Command::Built(request)),
+        [package] if word == "features" => Some(Command::Features(request, package)),
+        [package, feature] if word == "why-feature" => {
+            Some(Command::WhyFeature(request, package, feature))
+        }
+        _ => None,
+    }
 }
 
 /// The path without a `./` at its front. Takes constant time, and no memory.

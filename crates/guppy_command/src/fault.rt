@@ -2,12 +2,69 @@
 ghost use Rattle.std.specs.Prelude.{◌≡◌, ◌⊎◌, ℕ, Ok, Err, IfOk, IfErr};
 ghost use Rattle.guppy_data.specs.declared.texts.error.Error.{Error};
 ghost use Rattle.guppy_data.specs.declared.texts.error.Error.TheVariants.{OutOfMemory};
-ghost use Rattle.guppy_command.specs.Cause.{Cause, library, no_walk, unpublishable};
+ghost use Rattle.guppy_command.specs.Cause.{Cause, library, no_walk, unpublishable, build, unknown_feature, lacks_feature, feature_off, unresolved};
 ghost use Rattle.guppy_command.specs.Shown.{cause_shown};
 
 use guppy_data::Error;
 use std::alloc::Global;
 use std::fmt;
+
+/// Why there is no answer on what Cargo builds.
+#[derive(Debug, Drop)]
+pub enum BuildFault {
+    /// Cargo refuses this of the command line's features: no chosen package has it.
+    UnknownFeature(String),
+    /// The package has no feature of this name.
+    LacksFeature {
+        /// What the package is called.
+        package: String,
+        /// The feature.
+        feature: String,
+    },
+    /// The package's feature is on nowhere.
+    FeatureOff {
+        /// What the package is called.
+        package: String,
+        /// The feature.
+        feature: String,
+    },
+    /// The package has an optional dependency that the metadata don't resolve.
+    Unresolved {
+        /// What the package is called.
+        package: String,
+        /// The dependency's name.
+        dependency: String,
+    },
+}
+
+impl fmt::Display for BuildFault {
+    ghost use Rattle.std.specs.Prelude.{Some};
+    ghost use Rattle.guppy_command.specs.BuildFault.{build_fault_text};
+
+    ghost output = { λ fault. Some (build_fault_text fault) };
+
+    fn fmt<W: fmt::Write>(&self, f: &mut fmt::Formatter<W>) -> fmt::Result {
+        match self {
+            BuildFault::UnknownFeature(text) => {
+                write!(f, "no chosen package has the feature {text}")
+            }
+            BuildFault::LacksFeature { package, feature } => {
+                write!(f, "{package} has no feature {feature}")
+            }
+            BuildFault::FeatureOff { package, feature } => {
+                write!(f, "the feature {feature} of {package} isn't on")
+            }
+            BuildFault::Unresolved {
+                package,
+                dependency,
+            } => write!(
+                f,
+                "{package}'s optional dependency {dependency} isn't resolved: \
+                 make the metadata with `cargo metadata --all-features`"
+            ),
+        }
+    }
+}
 
 /// Why a program gives no answer, whatever its input looks like.
 #[derive(Debug, Drop)]
@@ -30,6 +87,8 @@ pub enum Fault {
         /// What the one is called that it needs.
         needed: String,
     },
+    /// There is no answer on what Cargo builds.
+    Build(BuildFault),
     /// The input could not be read.
     InputFailed,
     /// The output could not be written.
@@ -98,4 +157,60 @@ pub fn unpublishable<F: ProgramFault>(alloc: Global, member: &str, needed: &str)
         return want_of_memory();
     };
     F::of(Fault::Unpublishable { member, needed })
+}
+
+/// That Cargo refuses this of a command line's features, unless memory is wanted. Takes memory for a copy of it.
+pub fn unknown_feature<F: ProgramFault>(alloc: Global, text: &str) -> F
+    ensures { (F.cause result ≡ build (unknown_feature text.now)) ⊎ (F.cause result ≡ library OutOfMemory) }
+{
+    match String::from_str(alloc, text) {
+        Ok(text) => F::of(Fault::Build(BuildFault::UnknownFeature(text))),
+        Err(_) => want_of_memory(),
+    }
+}
+
+/// That the package has no such feature, unless memory is wanted. Takes memory for copies of what they are called.
+pub fn lacks_feature<F: ProgramFault>(alloc: Global, package: &str, feature: &str) -> F
+    ensures { (F.cause result ≡ build (lacks_feature package.now feature.now))
+        ⊎ (F.cause result ≡ library OutOfMemory) }
+{
+    let Ok(package) = String::from_str(alloc, package) else {
+        return want_of_memory();
+    };
+    let Ok(feature) = String::from_str(alloc, feature) else {
+        return want_of_memory();
+    };
+    F::of(Fault::Build(BuildFault::LacksFeature { package, feature }))
+}
+
+/// That the package's feature is on nowhere, unless memory is wanted. Takes memory for copies of what they are called.
+pub fn feature_off<F: ProgramFault>(alloc: Global, package: &str, feature: &str) -> F
+    ensures { (F.cause result ≡ build (feature_off package.now feature.now))
+        ⊎ (F.cause result ≡ library OutOfMemory) }
+{
+    let Ok(package) = String::from_str(alloc, package) else {
+        return want_of_memory();
+    };
+    let Ok(feature) = String::from_str(alloc, feature) else {
+        return want_of_memory();
+    };
+    F::of(Fault::Build(BuildFault::FeatureOff { package, feature }))
+}
+
+/// That the package's optional dependency isn't resolved, unless memory is wanted. Takes memory for copies of what they
+/// are called.
+pub fn unresolved<F: ProgramFault>(alloc: Global, package: &str, dependency: &str) -> F
+    ensures { (F.cause result ≡ build (unresolved package.now dependency.now))
+        ⊎ (F.cause result ≡ library OutOfMemory) }
+{
+    let Ok(package) = String::from_str(alloc, package) else {
+        return want_of_memory();
+    };
+    let Ok(dependency) = String::from_str(alloc, dependency) else {
+        return want_of_memory();
+    };
+    F::of(Fault::Build(BuildFault::Unresolved {
+        package,
+        dependency,
+    }))
 }

@@ -57,6 +57,8 @@ pub enum Misread<'a> {
     BadWords(&'a str),
     /// These are no kinds of links.
     BadKinds(&'a str),
+    /// This is no resolver.
+    BadResolver(&'a str),
     /// There is a platform without a file that has what is set there, or such a file without a platform.
     LonePlatform,
     /// The host has no file with what is set there, or there is such a file without a host.

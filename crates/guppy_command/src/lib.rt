@@ -10,6 +10,7 @@
 //! - `grammar`: arguments, read from front to end: options with their values, and other words;
 //! - `options`: what is asked of every command: which links count, by their kinds, and how its answer is shown;
 //! - `command`: the commands;
+//! - `builds`: what is said of builds;
 //! - `asked`: what arguments ask;
 //! - `files`: the files that arguments name; `found`: what arguments ask, with what these have;
 //! - `process`: what a process is given, and how it ends;
@@ -18,6 +19,7 @@
 #![tactic(auto)]
 
 pub mod asked;
+pub mod builds;
 pub mod command;
 pub mod device;
 pub mod fault;
@@ -32,9 +34,9 @@ pub mod table;
 pub mod transfer;
 
 pub use asked::{Asked, Wanted};
-pub use command::Command;
+pub use command::{BuildRequest, Command};
 pub use device::{DeviceFault, IoSink, IoSource, Sink, Source};
-pub use fault::{Fault, ProgramFault};
+pub use fault::{BuildFault, Fault, ProgramFault};
 pub use files::{FileFault, Files, NoFiles};
 pub use grammar::{Argument, Misread, OptionRow, Program};
 pub use options::{Kinds, Options};

@@ -20,3 +20,15 @@ pub const PUBLISHABLE: &str = "--publishable";
 pub const IGNORE: &str = "--ignore";
 /// A file that has more paths.
 pub const PATHS_FROM: &str = "--paths-from";
+/// A member that Cargo builds.
+pub const MEMBER: &str = "-p";
+/// Features that Cargo is asked for.
+pub const FEATURES: &str = "--features";
+/// All features of these members are asked for.
+pub const ALL_FEATURES: &str = "--all-features";
+/// Their `default` isn't asked for.
+pub const NO_DEFAULT_FEATURES: &str = "--no-default-features";
+/// Tests are built, too.
+pub const TESTS: &str = "--tests";
+/// The resolver of features.
+pub const RESOLVER: &str = "--resolver";
