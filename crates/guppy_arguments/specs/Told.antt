@@ -4,12 +4,12 @@ use Rattle.std.specs.declared.alloc.Global.{Global}
 use Rattle.std.specs.Fmt.{decimal}
 use Rattle.guppy_data.specs.declared.texts.error.Error.TheVariants.{OutOfMemory}
 use Rattle.guppy_command.specs.declared.fault.Fault.TheVariants.{Library}
-use Rattle.guppy_command.specs.Grammar.{Misread, no_option, no_value, needless_value, repeated, not_taken, no_command, unknown_command, bad_words, bad_kinds, lone_platform, lone_host, all_ignored, no_paths, cfgs_failed, bad_cfg, paths_failed, unended_paths}
+use Rattle.guppy_command.specs.Grammar.{Misread, no_option, no_value, needless_value, repeated, not_taken, no_command, unknown_command, bad_words, bad_kinds, bad_resolver, lone_platform, lone_host, all_ignored, no_paths, cfgs_failed, bad_cfg, paths_failed, unended_paths}
 use Rattle.guppy_command.specs.Asked.{IsMisread}
 use Rattle.guppy_arguments.specs.declared.fault.CargoFault.{CargoFault}
 use Rattle.guppy_arguments.specs.declared.fault.CargoFault.TheVariants.{Program, Arguments}
 use Rattle.guppy_arguments.specs.declared.told.ArgumentsFault.{ArgumentsFault}
-use Rattle.guppy_arguments.specs.declared.told.ArgumentsFault.TheVariants.{NoOption, NoValue, NeedlessValue, Repeated, NotTaken, NoCommand, UnknownCommand, BadWords, BadKinds, LonePlatform, LoneHost, AllIgnored, NoPaths, CfgsFailed, BadCfg, PathsFailed, UnendedPaths}
+use Rattle.guppy_arguments.specs.declared.told.ArgumentsFault.TheVariants.{NoOption, NoValue, NeedlessValue, Repeated, NotTaken, NoCommand, UnknownCommand, BadWords, BadKinds, BadResolver, LonePlatform, LoneHost, AllIgnored, NoPaths, CfgsFailed, BadCfg, PathsFailed, UnendedPaths}
 use Rattle.guppy_arguments.specs.Nearest.{IsFar, IsNearest}
 use Rattle.guppy_arguments.specs.Table.{cargo_program, command_names, option_names, usage_of}
 
@@ -23,6 +23,7 @@ misread_of NoCommand = no_command
 misread_of (UnknownCommand word nearest) = unknown_command (string_bytes word)
 misread_of (BadWords command) = bad_words (string_bytes command)
 misread_of (BadKinds value) = bad_kinds (string_bytes value)
+misread_of (BadResolver value) = bad_resolver (string_bytes value)
 misread_of LonePlatform = lone_platform
 misread_of LoneHost = lone_host
 misread_of (AllIgnored folder) = all_ignored (string_bytes folder)
@@ -66,6 +67,7 @@ arguments_text (BadWords command) =
     string_bytes command ++ (codes " takes other words: give " ++ usage_of (string_bytes command))
 arguments_text (BadKinds value) =
     string_bytes value ++ codes " is no kind: give some of normal,build,dev, separated by commas"
+arguments_text (BadResolver value) = string_bytes value ++ codes " is no resolver: give 1, 2 or 3"
 arguments_text LonePlatform = codes "give --cfgs FILE behind each --platform TRIPLE"
 arguments_text LoneHost = codes "give both --host TRIPLE and --host-cfgs FILE"
 arguments_text (AllIgnored folder) =

@@ -62,6 +62,7 @@ impl fmt::Display for CargoFault {
                 f,
                 "{member} can't be published: it needs {needed}, which isn't publishable"
             ),
+            CargoFault::Program(Fault::Build(fault)) => write!(f, "{fault}"),
             CargoFault::Ambiguous { word, choices } => {
                 write!(f, "ambiguous package {word}: give {choices}")
             }
@@ -96,7 +97,10 @@ impl ProgramFault for CargoFault {
     fn ending(&self) -> u8 {
         match self {
             CargoFault::Program(
-                Fault::Library(_) | Fault::NoWalk { .. } | Fault::Unpublishable { .. },
+                Fault::Library(_)
+                | Fault::NoWalk { .. }
+                | Fault::Unpublishable { .. }
+                | Fault::Build(_),
             ) => 1,
             CargoFault::Program(_) | CargoFault::Arguments(_) => 2,
             _ => 1,

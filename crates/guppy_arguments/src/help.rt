@@ -26,7 +26,9 @@ The scripts also take, before the command or behind it:
   --features F, -F F, --all-features, --no-default-features,
   --filter-platform TRIPLE, --locked, --offline, --frozen
                             passed on to cargo; affected and publish-order ask for
-                            all features unless some are named
+                            all features unless some are named, and built, features
+                            and why-feature always, which say by those options what
+                            is built
 ";
 
 const VERSION: &str = "guppy-cargo of guppy 0.19.1, proved\n";
@@ -44,7 +46,7 @@ fn add_option(text: &mut String, row: &OptionRow) -> Result<(), AllocError> {
     }
 }
 
-// Adds the options that every command takes, and those of the command.
+// Adds the options that the command takes.
 fn add_options(text: &mut String, command: &str) -> Result<(), AllocError> {
     for row in OPTIONS {
         if takes(OPTIONS, command, row.0) {
@@ -64,14 +66,14 @@ fn help_on(alloc: Global, command: &str) -> Result<Option<String>, AllocError> {
     Ok(Some(text))
 }
 
-// What it says of all commands.
+// What it says of all commands, with the options that `order` takes, as most do.
 fn help(alloc: Global) -> Result<String, AllocError> {
     let mut text = String::from_str(alloc, FRONT)?;
     for (_, usage, help) in USAGES {
         write!(text, "  {usage}\n      {help}\n")?;
     }
     text.push('\n')?;
-    add_options(&mut text, "")?;
+    add_options(&mut text, "order")?;
     text.push_str(BEHIND)?;
     Ok(text)
 }

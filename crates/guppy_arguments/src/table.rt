@@ -5,8 +5,28 @@ ghost use Rattle.guppy_arguments.specs.Table.{cargo_program, usage_of};
 
 use guppy_command::grammar::{OptionRow, Program};
 use guppy_command::table::{
-    CFGS, HOST, HOST_CFGS, IDS, IGNORE, KINDS, PATHS_FROM, PLATFORM, PUBLISHABLE, WORKSPACE,
+    ALL_FEATURES, CFGS, FEATURES, HOST, HOST_CFGS, IDS, IGNORE, KINDS, MEMBER, NO_DEFAULT_FEATURES,
+    PATHS_FROM, PLATFORM, PUBLISHABLE, RESOLVER, TESTS, WORKSPACE,
 };
+
+// The commands that ask about links.
+const OF_LINKS: &[&str] = &[
+    "affected",
+    "publish-order",
+    "depends",
+    "why",
+    "reach",
+    "order",
+    "roots",
+    "links",
+    "cycles",
+    "duplicates",
+    "dot",
+    "verify",
+];
+
+// The commands that ask what Cargo builds.
+const OF_BUILDS: &[&str] = &["built", "features", "why-feature"];
 
 /// The options, each with its value, whether it may come again, the commands that take it, where not all do, and its
 /// help.
@@ -15,7 +35,7 @@ pub const OPTIONS: &[OptionRow] = &[
         KINDS,
         Some("KINDS"),
         false,
-        None,
+        Some(OF_LINKS),
         "of links with a section of these kinds alone: some of normal,build,dev,\n      separated by commas",
     ),
     (
@@ -76,6 +96,49 @@ pub const OPTIONS: &[OptionRow] = &[
         Some(&["affected"]),
         "adds the paths in this file, each ended by a NUL, as git writes them with -z;\n      to the scripts - is standard input",
     ),
+    (
+        MEMBER,
+        Some("MEMBER"),
+        true,
+        Some(OF_BUILDS),
+        "where this member is built, or several are; else those that cargo builds by itself",
+    ),
+    (
+        FEATURES,
+        Some("LIST"),
+        true,
+        Some(OF_BUILDS),
+        "with these features, separated by commas or spaces",
+    ),
+    (
+        ALL_FEATURES,
+        None,
+        false,
+        Some(OF_BUILDS),
+        "with all features of these members",
+    ),
+    (
+        NO_DEFAULT_FEATURES,
+        None,
+        false,
+        Some(OF_BUILDS),
+        "without their default features",
+    ),
+    (
+        TESTS,
+        None,
+        false,
+        Some(OF_BUILDS),
+        "with their tests, as cargo test builds them",
+    ),
+    (
+        RESOLVER,
+        Some("N"),
+        false,
+        Some(OF_BUILDS),
+        "by this resolver, 1, 2 or 3, which is the 2nd where none is given; the scripts read it\n      \
+         from the workspace's Cargo.toml",
+    ),
 ];
 
 /// What the commands are called.
@@ -90,6 +153,9 @@ pub const COMMANDS: &[&str] = &[
     "links",
     "cycles",
     "duplicates",
+    "built",
+    "features",
+    "why-feature",
     "dot",
     "verify",
 ];
@@ -144,6 +210,21 @@ pub const USAGES: &[(&str, &str, &str)] = &[
         "duplicates",
         "duplicates",
         "packages whose name another one has, too, each with those that need it, on a\n      line",
+    ),
+    (
+        "built",
+        "built",
+        "the packages that cargo builds, each with where it runs and its features that are on",
+    ),
+    (
+        "features",
+        "features PACKAGE",
+        "its features that are on there, each with where it runs and what asks for it",
+    ),
+    (
+        "why-feature",
+        "why-feature PACKAGE FEATURE",
+        "why this feature of the package is on there, step by step",
     ),
     (
         "dot",

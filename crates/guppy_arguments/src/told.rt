@@ -49,6 +49,8 @@ pub enum ArgumentsFault {
     BadWords(String),
     /// These are no kinds of links.
     BadKinds(String),
+    /// This is no resolver.
+    BadResolver(String),
     /// There is a platform without a file that has what is set there, or such a file without a platform.
     LonePlatform,
     /// The host has no file with what is set there, or there is such a file without a host.
@@ -110,6 +112,9 @@ impl fmt::Display for ArgumentsFault {
                 f,
                 "{value} is no kind: give some of normal,build,dev, separated by commas"
             ),
+            ArgumentsFault::BadResolver(value) => {
+                write!(f, "{value} is no resolver: give 1, 2 or 3")
+            }
             ArgumentsFault::LonePlatform => {
                 f.write_str("give --cfgs FILE behind each --platform TRIPLE")
             }
@@ -179,6 +184,7 @@ fn told(alloc: Global, misread: Misread<'_>) -> Result<ArgumentsFault, AllocErro
         }),
         Misread::BadWords(command) => Ok(ArgumentsFault::BadWords(copy(command)?)),
         Misread::BadKinds(value) => Ok(ArgumentsFault::BadKinds(copy(value)?)),
+        Misread::BadResolver(value) => Ok(ArgumentsFault::BadResolver(copy(value)?)),
         Misread::LonePlatform => Ok(ArgumentsFault::LonePlatform),
         Misread::LoneHost => Ok(ArgumentsFault::LoneHost),
         Misread::AllIgnored(folder) => Ok(ArgumentsFault::AllIgnored(copy(folder)?)),

@@ -4,7 +4,7 @@ ghost use Rattle.guppy_data.specs.declared.texts.error.Error.TheVariants.{OutOfM
 ghost use Rattle.guppy_lines.specs.declared.fault.RunFault.TheVariants.{Library};
 ghost use Rattle.guppy_lines.specs.RunFault.{cause_of, fault_text, status_of};
 
-use guppy_command::{Fault, ProgramFault};
+use guppy_command::{BuildFault, Fault, ProgramFault};
 use guppy_data::Error;
 use std::alloc::{AllocError, AllocFailed};
 use std::fmt;
@@ -30,6 +30,8 @@ pub enum RunFault {
         /// The ID of the one that it needs.
         needed: String,
     },
+    /// There is no answer on what Cargo builds.
+    Build(BuildFault),
     /// This line is the first bad one, where all lines are counted from 1.
     BadLine(u64),
     /// The input could not be read.
@@ -40,12 +42,16 @@ pub enum RunFault {
 
 impl RunFault {
     /// The status that the program ends with: 1 for a fault of the library, where no links lead from one package to
-    /// another, and where a member can't be published, else 2. Takes constant time.
+    /// another, where a member can't be published, and where there is no answer on what Cargo builds, else 2. Takes
+    /// constant time.
     pub fn status(&self) -> u8
         ensures { result ≡ status_of self.now }
     {
         match self {
-            RunFault::Library(_) | RunFault::NoWalk { .. } | RunFault::Unpublishable { .. } => 1,
+            RunFault::Library(_)
+            | RunFault::NoWalk { .. }
+            | RunFault::Unpublishable { .. }
+            | RunFault::Build(_) => 1,
             _ => 2,
         }
     }
@@ -65,6 +71,7 @@ impl fmt::Display for RunFault {
                     "{member} can't be published: it needs {needed}, which isn't publishable"
                 )
             }
+            RunFault::Build(fault) => write!(f, "{fault}"),
             RunFault::BadLine(number) => write!(f, "bad line {number}"),
             RunFault::InputFailed => write!(f, "input failed"),
             RunFault::OutputFailed => write!(f, "output failed"),
@@ -85,6 +92,7 @@ impl ProgramFault for RunFault {
             Fault::BadArguments => RunFault::BadArguments,
             Fault::NoWalk { from, to } => RunFault::NoWalk { from, to },
             Fault::Unpublishable { member, needed } => RunFault::Unpublishable { member, needed },
+            Fault::Build(fault) => RunFault::Build(fault),
             Fault::InputFailed => RunFault::InputFailed,
             Fault::OutputFailed => RunFault::OutputFailed,
         }

@@ -10,22 +10,49 @@ use crate::input::records_of;
 use crate::records::id_of;
 use guppy::{Error, PackageGraph, PackageId};
 use guppy_command::found::asked_of;
-use guppy_command::table::{CFGS, HOST, HOST_CFGS, IDS, KINDS, PLATFORM, WORKSPACE};
+use guppy_command::table::{
+    ALL_FEATURES, CFGS, FEATURES, HOST, HOST_CFGS, IDS, KINDS, MEMBER, NO_DEFAULT_FEATURES,
+    PLATFORM, RESOLVER, TESTS, WORKSPACE,
+};
 use guppy_command::{Asked, Files, Misread, OptionRow, Program};
 use guppy_data::{PackageRecord, Records, VerifyFault};
 use guppy_program::Format;
 use guppy_program::format::has_package;
 use std::alloc::{AllocError, Global};
 
+// The commands that ask about links.
+const OF_LINKS: &[&str] = &[
+    "reach",
+    "depends",
+    "why",
+    "order",
+    "roots",
+    "links",
+    "cycles",
+    "duplicates",
+    "verify",
+    "publish-order",
+    "dot",
+];
+
+// The commands that ask what Cargo builds.
+const OF_BUILDS: &[&str] = &["built", "features", "why-feature"];
+
 // What stands in front of a command. There is no help.
 const OPTIONS: &[OptionRow] = &[
-    (KINDS, Some("KINDS"), false, None, ""),
+    (KINDS, Some("KINDS"), false, Some(OF_LINKS), ""),
     (PLATFORM, Some("TRIPLE"), true, None, ""),
     (CFGS, Some("FILE"), true, None, ""),
     (HOST, Some("TRIPLE"), false, None, ""),
     (HOST_CFGS, Some("FILE"), false, None, ""),
     (WORKSPACE, None, false, None, ""),
     (IDS, None, false, None, ""),
+    (MEMBER, Some("MEMBER"), true, Some(OF_BUILDS), ""),
+    (FEATURES, Some("LIST"), true, Some(OF_BUILDS), ""),
+    (ALL_FEATURES, None, false, Some(OF_BUILDS), ""),
+    (NO_DEFAULT_FEATURES, None, false, Some(OF_BUILDS), ""),
+    (TESTS, None, false, Some(OF_BUILDS), ""),
+    (RESOLVER, Some("N"), false, Some(OF_BUILDS), ""),
 ];
 
 const COMMANDS: &[&str] = &[
@@ -37,6 +64,9 @@ const COMMANDS: &[&str] = &[
     "links",
     "cycles",
     "duplicates",
+    "built",
+    "features",
+    "why-feature",
     "verify",
     "publish-order",
     "dot",
