@@ -15,7 +15,7 @@ RESOLVERS = [
     ('[package]\nname = "x"\nedition = "2018"\n', 1),
     ('[package]\nname = "x"\n', 1),
     ('[package]\nname = "x"\nedition = "2021"\n', 2),
-    ('[ package ]\nname = "x"\n"edition" = "2024"\n[[bin]]\nname = "y"\nedition = "2015"\n', 3),
+    ('[ package ]\nname = "x"\n"edition" = "2024"\n[[bin]]\nname = "y"\npath = "src/y.rs"\nedition = "2015"\n', 3),
     ('[package]\nname = "x"\nedition = "2021"\nresolver = "1"\n', 1),
     ('[package]\nname = "x"\nedition.workspace = true\n[workspace.package]\nedition = "2024"\n', 3),
     ('[workspace.package]\nedition = "2021"\n[workspace]\n[package]\nname = "x"\nedition = { workspace = true }\n', 2),
@@ -89,13 +89,13 @@ def try_told(world):
         yield f"{words}, what the program is told", is_right and is_asked, (ran, asked)
     ran = world.run(["guppy-cargo", "built", "--features", "a b, c"], where=top)
     yield "features in one word", "--features=a b, c --resolver=2\n" in ran[1], ran
+    (top / "src").mkdir()
+    for it in ("lib.rs", "main.rs", "y.rs"):
+        (top / "src" / it).touch()
     for manifest, wanted in RESOLVERS:
         (top / "Cargo.toml").write_text(manifest)
-        root = subprocess.run(["cargo", "locate-project", "--workspace"], cwd=top, capture_output=True, text=True, check=True).stdout
-        # (metadata need not be had of each)
-        quiet = script(world.room / "quiet", f"[ \"$1\" = metadata ] || exec cargo \"$@\"\n")
-        ran = world.run(["guppy-cargo", "built"], where=top, environment={"CARGO": quiet})
-        yield f"the resolver of {manifest!r}", ran[0] == 0 and ran[1].endswith(f" --resolver={wanted}\n"), (ran, root)
+        ran = world.run(["guppy-cargo", "built"], where=top)
+        yield f"the resolver of {manifest!r}", ran[0] == 0 and ran[1].endswith(f" --resolver={wanted}\n"), ran
     yield "no file is left", not world.left(), world.left()
 
 
