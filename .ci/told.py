@@ -7,11 +7,11 @@ from metadata import is_told, lines, make, metadata_of, script
 
 # Manifests of a workspace's root, and the resolver by which cargo resolves features there.
 RESOLVERS = [
-    ('[workspace]\nresolver = "3" # of its own\n', 3),
-    ("[workspace]\nmembers = [\n]\nresolver = '1'\n", 1),
-    ("[workspace]\n", 1),
-    ('[workspace.package]\nedition = "2021"\n[workspace]\n', 1),
-    ('workspace.resolver = "2"\n', 2),
+    ('[workspace]\nmembers = ["a"]\nresolver = "3" # of its own\n', 3),
+    ("[workspace]\nmembers = [\n 'a'\n]\nresolver = '1'\n", 1),
+    ('[workspace]\nmembers = ["a"]\n', 1),
+    ('[workspace.package]\nedition = "2021"\n[workspace]\nmembers = ["a"]\n', 1),
+    ('workspace.resolver = "2"\nworkspace.members = ["a"]\n', 2),
     ('[package]\nname = "x"\nedition = "2018"\n', 1),
     ('[package]\nname = "x"\n', 1),
     ('[package]\nname = "x"\nedition = "2021"\n', 2),
@@ -36,9 +36,9 @@ TOLD = [
     ("built --resolver 1", ["built --resolver 1", *OWN]),
     ("built --resolver=3 --locked", ["built --resolver 3", *OWN]),
     (f"built --platform {WINDOWS}", ["built", f"--host {LINUX}", f"--platform {WINDOWS}", "--resolver=2"]),
-    (f"built --platform x --cfgs y", ["built --platform x --cfgs y --resolver=2"]),
+    ("built --platform x --cfgs y", ["built --platform x --cfgs y --resolver=2"]),
     (f"built --host {WINDOWS}", ["built", f"--platform {WINDOWS}", f"--host {WINDOWS}", "--resolver=2"]),
-    (f"built --host x --host-cfgs y --platform z --cfgs y", ["built --host-cfgs y --platform z --cfgs y --host x --resolver=2"]),
+    ("built --host x --host-cfgs y --platform z --cfgs y", ["built --host-cfgs y --platform z --cfgs y --host x --resolver=2"]),
     ("order", ["order"]),
     ("order --tests", ["order --tests"]),
 ]
