@@ -21,6 +21,7 @@ from pathlib import Path
 from metadata import try_asked, try_declared, try_flags, try_given, try_host, try_metadata_refused, try_platforms, try_publishable
 from since import try_since, try_since_answers, try_since_locked, try_since_refused
 from tested import try_tests, try_tests_on_branches, try_tests_refused
+from told import try_told, try_told_of_hosts
 
 HERE = Path(__file__).resolve().parent
 TOP = HERE.parent
@@ -355,7 +356,7 @@ def try_installed(world):
     yield "no workspace", ran[0] == 3 and ran[2].endswith("metadata by --metadata FILE\n"), ran
     left = sorted(str(it.relative_to(prefix)) for it in prefix.rglob("*") if it.is_file())
     wanted = ["bin/cargo-guppy", "bin/guppy-cargo", "bin/guppy-run", "libexec/guppy/guppy-cargo", "libexec/guppy/guppy-run"]
-    wanted += [f"libexec/guppy/{it}.sh" for it in ("metadata", "platforms", "since", "start", "tests", "words")]
+    wanted += [f"libexec/guppy/{it}.sh" for it in ("builds", "metadata", "platforms", "since", "start", "tests", "words")]
     yield "nothing else is there", left == wanted and not world.left(), (left, world.left())
     metadata = world.room / "metadata.json"
     metadata.write_text("{}")
@@ -447,6 +448,8 @@ PARTS = {
     "flags that cargo gives": (try_flags, []),
     "members on a platform": (try_platforms, []),
     "members on the host": (try_host, []),
+    "what cargo builds": (try_told, []),
+    "what cargo builds for": (try_told_of_hosts, []),
     "metadata": (try_given, []),
     "metadata, refusals": (try_metadata_refused, []),
     "quick tests": (try_quick, []),

@@ -105,8 +105,10 @@ take_options() {
     while [ $# -gt 0 ]; do
         case $1 in
         --platform=?* | --host=?*) take_platform "${1%%=*}" "${1#*=}" "${2-}" ;;
-        --*=* | --workspace | --ids) platforms=$platforms$(quote "$1") ;;
-        --?*)
+        --*=* | -p=* | --workspace | --ids | --all-features | --no-default-features | --tests)
+            platforms=$platforms$(quote "$1")
+            ;;
+        -p | --?*)
             [ $# -gt 1 ] || break
             case $1,$2 in
             --platform,?* | --host,?*) take_platform "$1" "$2" "${3-}" ;;

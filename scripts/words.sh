@@ -16,22 +16,27 @@ tell() {
 # Prints lines that sort the words: each says of what kind its words are (asked: options of the program), and has the second word as "${2}", for which
 # the shell puts that word. (A list that grows word by word would take minutes with some thousand paths.)
 sort_words() {
-    at=0 option= given= for_cargo= input= platform= host= host_cfgs=
+    at=0 option= given= for_cargo= input= platform= host= host_cfgs= first=
     for word do
         at=$((at + 1))
         case $option,$word in ,--cfgs | ,--cfgs=*) ;; ,*) name_platform ;; esac
         case $option,$word in
         ,--metadata | ,--since | ,--manifest-path | ,--filter-platform | ,--features | ,-F | ,--paths-from | ,--kinds | \
-            ,--platform | ,--cfgs | ,--host | ,--host-cfgs)
+            ,--platform | ,--cfgs | ,--host | ,--host-cfgs | ,-p | ,--resolver)
             option=$word
             ;;
         ,--metadata=* | ,--since=* | ,--manifest-path=* | ,--filter-platform=* | ,--features=* | ,-F=* | ,--paths-from=* | \
-            ,--kinds=* | ,--platform=* | ,--cfgs=* | ,--host=* | ,--host-cfgs=*)
+            ,--kinds=* | ,--platform=* | ,--cfgs=* | ,--host=* | ,--host-cfgs=* | ,-p=* | ,--resolver=*)
             sort_option "${word%%=*}" "${word#*=}" "\"\${$at#*=}\""
             ;;
         ,-F?*) sort_option -F "${word#-F}" "\"\${$at#-F}\"" ;;
-        ,--locked | ,--offline | ,--frozen | ,--all-features | ,--no-default-features | ,--workspace | ,--ids) sort_option "$word" ;;
-        ,*) echo "left \"\${$at}\"" ;;
+        ,--locked | ,--offline | ,--frozen | ,--all-features | ,--no-default-features | ,--workspace | ,--ids | ,--tests)
+            sort_option "$word"
+            ;;
+        ,*)
+            echo "left \"\${$at}\""
+            first=${first:-$word}
+            ;;
         *,-?*) break ;;
         *)
             sort_option "$option" "$word" "\"\${$at}\""
@@ -42,9 +47,18 @@ sort_words() {
     [ -z "$option" ] || refuse "$option needs a value"
     name_platform
     name_host
-    [ -z "$for_cargo" ] || [ "$given" = "${given#*--metadata}" ] ||
-        refuse "--metadata can't be used with $for_cargo: cargo is not asked then"
+    case $given in *--metadata*) need_no_cargo ;; esac
     case $input in ?*' '?*) refuse "standard input can't be read for $input" ;; esac
+}
+
+# Ends where one of the options is for cargo. Where it is asked what cargo builds, those of features are the program's.
+need_no_cargo() {
+    for it in $for_cargo; do
+        case $it in
+        --features | -F | --all-features | --no-default-features) ! is_of_builds "$first" || continue ;;
+        esac
+        refuse "--metadata can't be used with $it: cargo is not asked then"
+    done
 }
 
 # Prints the line for a platform behind which no --cfgs stands, where there is one.
@@ -73,7 +87,7 @@ sort_option() {
         echo "left $1 $value"
         return
         ;;
-    --kinds)
+    --kinds | -p | --resolver)
         echo "asked $1 $value"
         return
         ;;
@@ -97,7 +111,7 @@ sort_option() {
         host_cfgs="asked --host"
         return
         ;;
-    --workspace | --ids)
+    --workspace | --ids | --tests)
         echo "asked $1"
         return
         ;;
@@ -114,7 +128,7 @@ sort_option() {
     --all-features | --no-default-features) echo "features $1" ;;
     *) echo "others $1" ;;
     esac
-    for_cargo=${for_cargo:-$1}
+    for_cargo="$for_cargo $1"
 }
 
 # The words of this kind, in sorted.
@@ -152,6 +166,10 @@ names_host() {
 ask_rustc() {
     platforms= named=$(of_kind named)
     [ -z "$named" ] || names_host || eval "take_own_host $named"
+    if eval "needs_platform $(of_kind left)"; then
+        eval "take_host_as_platform $(of_kind host)"
+        return
+    fi
     eval "take_hosts $(of_kind host)"
     eval "take_platforms $named"
 }
@@ -172,6 +190,10 @@ answer() {
     case $sorted in *"left --paths-from /dev/fd/3"* | *"cfgs /dev/fd/3"*) exec 3<&0 ;; esac
     [ "$metadata" = - ] || exec < /dev/null
     ! asks_for_help "$@" || run "$@"
+    if is_of_builds "${1-}"; then
+        eval "set -- \"\$@\" $features"
+        features=--all-features
+    fi
     root=
     if [ -n "$revision" ]; then
         [ "${1-}" = affected ] || refuse "--since goes with affected, as in: $name affected --since main"
@@ -182,6 +204,10 @@ answer() {
     ! refuses "$@" || run "$@"
     # Which members a change affects, and in which order they can be published, depends on optional dependencies too.
     case ${1-} in affected | publish-order) features=${features:---all-features} ;; esac
+    if is_of_builds "${1-}"; then
+        take_resolver
+        set -- "$@" $resolver
+    fi
     take_metadata
     if [ -n "$revision" ]; then
         take_changed

@@ -89,14 +89,26 @@ command_of publishable word words = if bytes_eq word (codes "reach") then reach_
     else (if bytes_eq word (codes "dot") then Some (dot words)
     else plain_command_of word words))))))
 
--- `built`, `features PACKAGE` or `why-feature PACKAGE FEATURE`
+-- no word behind it
+abbrev pub built_of : BuildRequest → List (List ℕ) → Option Command
+built_of request [] = Some (built request)
+built_of request _ = None
+
+-- `PACKAGE`
+abbrev pub features_of : BuildRequest → List (List ℕ) → Option Command
+features_of request (id ∷ []) = Some (features request id)
+features_of request _ = None
+
+-- `PACKAGE FEATURE`
+abbrev pub why_feature_of : BuildRequest → List (List ℕ) → Option Command
+why_feature_of request (id ∷ feature ∷ []) = Some (why_feature request id feature)
+why_feature_of request _ = None
+
+-- `built`, `features` or `why-feature` with these words behind it, if it takes them
 abbrev pub build_command_of : BuildRequest → List ℕ → List (List ℕ) → Option Command
-build_command_of request word [] = if bytes_eq word (codes "built") then Some (built request) else None
-build_command_of request word (id ∷ []) =
-    if bytes_eq word (codes "features") then Some (features request id) else None
-build_command_of request word (id ∷ feature ∷ []) =
-    if bytes_eq word (codes "why-feature") then Some (why_feature request id feature) else None
-build_command_of request word _ = None
+build_command_of request word words = if bytes_eq word (codes "built") then built_of request words
+    else (if bytes_eq word (codes "features") then features_of request words
+    else (if bytes_eq word (codes "why-feature") then why_feature_of request words else None))
 
 -- the path without a `./` at its front
 abbrev pub from_root : List ℕ → List ℕ

@@ -1,6 +1,6 @@
 //! The commands.
 ghost use Rattle.std.specs.Prelude.{◌≡◌, option_map, IfOk};
-ghost use Rattle.guppy_command.specs.Command.{roots, links, build_command_of, command_of, direction_of, lone_direction_of, reach_of, depends_of, why_of, plain_command_of, publish_of, from_root};
+ghost use Rattle.guppy_command.specs.Command.{roots, links, build_command_of, built_of, command_of, direction_of, lone_direction_of, reach_of, depends_of, features_of, why_of, why_feature_of, plain_command_of, publish_of, from_root};
 ghost use Rattle.guppy_command.specs.Shown.{command_shown, request_shown, texts};
 
 use crate::table::PUBLISHABLE;
@@ -194,6 +194,34 @@ pub fn command_of<'a>(
     })
 }
 
+fn built_of<'a>(request: BuildRequest<'a>, words: &[&'a str]) -> Option<Command<'a>>
+    ensures { option_map command_shown result ≡ built_of (request_shown request.entry) (texts words.now) }
+{
+    let [] = words else {
+        return None;
+    };
+    Some(Command::Built(request))
+}
+
+fn features_of<'a>(request: BuildRequest<'a>, words: &[&'a str]) -> Option<Command<'a>>
+    ensures { option_map command_shown result ≡ features_of (request_shown request.entry) (texts words.now) }
+{
+    let [package] = words else {
+        return None;
+    };
+    Some(Command::Features(request, package))
+}
+
+fn why_feature_of<'a>(request: BuildRequest<'a>, words: &[&'a str]) -> Option<Command<'a>>
+    ensures { option_map command_shown result
+        ≡ why_feature_of (request_shown request.entry) (texts words.now) }
+{
+    let [package, feature] = words else {
+        return None;
+    };
+    Some(Command::WhyFeature(request, package, feature))
+}
+
 /// The command that is called so with these words behind it, if it asks what Cargo builds and takes them. Takes time
 /// linear in the word's length, and no memory.
 pub fn build_command_of<'a>(
@@ -204,13 +232,14 @@ pub fn build_command_of<'a>(
     ensures { option_map command_shown result
         ≡ build_command_of (request_shown request.entry) word.now (texts words.now) }
 {
-    match words {
-        [] if word == "built" => Some(Command::Built(request)),
-        [package] if word == "features" => Some(Command::Features(request, package)),
-        [package, feature] if word == "why-feature" => {
-            Some(Command::WhyFeature(request, package, feature))
-        }
-        _ => None,
+    if word == "built" {
+        built_of(request, words)
+    } else if word == "features" {
+        features_of(request, words)
+    } else if word == "why-feature" {
+        why_feature_of(request, words)
+    } else {
+        None
     }
 }
 

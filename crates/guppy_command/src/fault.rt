@@ -170,11 +170,11 @@ pub fn unknown_feature<F: ProgramFault>(alloc: Global, text: &str) -> F
 }
 
 /// That the package has no such feature, unless memory is wanted. Takes memory for copies of what they are called.
-pub fn lacks_feature<F: ProgramFault>(alloc: Global, package: &str, feature: &str) -> F
-    ensures { (F.cause result ≡ build (lacks_feature package.now feature.now))
+pub fn lacks_feature<F: ProgramFault>(alloc: Global, owner: &str, feature: &str) -> F
+    ensures { (F.cause result ≡ build (lacks_feature owner.now feature.now))
         ⊎ (F.cause result ≡ library OutOfMemory) }
 {
-    let Ok(package) = String::from_str(alloc, package) else {
+    let Ok(package) = String::from_str(alloc, owner) else {
         return want_of_memory();
     };
     let Ok(feature) = String::from_str(alloc, feature) else {
@@ -184,11 +184,11 @@ pub fn lacks_feature<F: ProgramFault>(alloc: Global, package: &str, feature: &st
 }
 
 /// That the package's feature is on nowhere, unless memory is wanted. Takes memory for copies of what they are called.
-pub fn feature_off<F: ProgramFault>(alloc: Global, package: &str, feature: &str) -> F
-    ensures { (F.cause result ≡ build (feature_off package.now feature.now))
+pub fn feature_off<F: ProgramFault>(alloc: Global, owner: &str, feature: &str) -> F
+    ensures { (F.cause result ≡ build (feature_off owner.now feature.now))
         ⊎ (F.cause result ≡ library OutOfMemory) }
 {
-    let Ok(package) = String::from_str(alloc, package) else {
+    let Ok(package) = String::from_str(alloc, owner) else {
         return want_of_memory();
     };
     let Ok(feature) = String::from_str(alloc, feature) else {
@@ -199,11 +199,11 @@ pub fn feature_off<F: ProgramFault>(alloc: Global, package: &str, feature: &str)
 
 /// That the package's optional dependency isn't resolved, unless memory is wanted. Takes memory for copies of what they
 /// are called.
-pub fn unresolved<F: ProgramFault>(alloc: Global, package: &str, dependency: &str) -> F
-    ensures { (F.cause result ≡ build (unresolved package.now dependency.now))
+pub fn unresolved<F: ProgramFault>(alloc: Global, owner: &str, dependency: &str) -> F
+    ensures { (F.cause result ≡ build (unresolved owner.now dependency.now))
         ⊎ (F.cause result ≡ library OutOfMemory) }
 {
-    let Ok(package) = String::from_str(alloc, package) else {
+    let Ok(package) = String::from_str(alloc, owner) else {
         return want_of_memory();
     };
     let Ok(dependency) = String::from_str(alloc, dependency) else {
