@@ -10,7 +10,7 @@ use Rattle.guppy.specs.Targets.{AreTargetsById}
 use Rattle.guppy_folders.specs.Places.{resolved, MeetsOne}
 use Rattle.guppy_folders.specs.Touched.{IsIgnored, OfOne, AreCounted}
 use Rattle.guppy_folders.proofs.Elements.{Contains-map, from_map}
-use Rattle.guppy_affected.specs.Folders.{folder_at, place, place_above, Meets, OneElsewhere, HasTargetElsewhere, IsElsewhere}
+use Rattle.guppy_affected.specs.Folders.{folder_at, place, place_above, Meets, OneElsewhere, HasTargetElsewhere, IsElsewhere, Given, HasFolderGiven, IsAlso}
 use Rattle.guppy_affected.specs.Changed.{ArePlaces}
 use Rattle.guppy_affected.proofs.Local.{with_own}
 
@@ -73,4 +73,14 @@ module _ (g : GraphData) (paths ignored : List (List ℕ)) (places : List (List 
             (one.0, one.1.0, one.1.1, one.2),
         λ (path, there, counts, far). both_along (folder_at g.packages p) (slice_get g.packages p) (Found (at path)) (Found (λ folder. MeetsOne folder places))
             (λ own r found. (found.0, found.1, (found.2.0, (place root path, (lead (place root path)).1 (path, there, counts, refl), found.2.1)))) far,
+      )
+
+  -- so does one that is given to a package
+  pub given_touched : (also : List Given) → HasFolderGiven g also (λ folder. MeetsOne folder places) p ↔ OfOne paths ignored (λ path. IsAlso g also path p)
+  given_touched also =
+      let root = g.workspace.root in (
+        λ (given, is, its, there, lies, meets).
+            let path = (lead there).0 lies in
+            (path.0, path.1, path.2, (given, is, its, subst (Meets (place root given.0)) (sym path.3) meets)),
+        λ (path, there, counts, (given, is, its, meets)). (given, is, its, (place root path, (lead (place root path)).1 (path, there, counts, refl), meets)),
       )

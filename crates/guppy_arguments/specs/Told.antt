@@ -4,12 +4,12 @@ use Rattle.std.specs.declared.alloc.Global.{Global}
 use Rattle.std.specs.Fmt.{decimal}
 use Rattle.guppy_data.specs.declared.texts.error.Error.TheVariants.{OutOfMemory}
 use Rattle.guppy_command.specs.declared.fault.Fault.TheVariants.{Library}
-use Rattle.guppy_command.specs.Grammar.{Misread, no_option, no_value, needless_value, repeated, not_taken, no_command, unknown_command, bad_words, bad_kinds, lone_platform, lone_host, all_ignored, no_paths, cfgs_failed, bad_cfg, paths_failed, unended_paths}
+use Rattle.guppy_command.specs.Grammar.{Misread, no_option, no_value, needless_value, repeated, not_taken, no_command, unknown_command, bad_words, bad_kinds, lone_platform, lone_host, all_ignored, bad_also, no_paths, cfgs_failed, bad_cfg, paths_failed, unended_paths}
 use Rattle.guppy_command.specs.Asked.{IsMisread}
 use Rattle.guppy_arguments.specs.declared.fault.CargoFault.{CargoFault}
 use Rattle.guppy_arguments.specs.declared.fault.CargoFault.TheVariants.{Program, Arguments}
 use Rattle.guppy_arguments.specs.declared.told.ArgumentsFault.{ArgumentsFault}
-use Rattle.guppy_arguments.specs.declared.told.ArgumentsFault.TheVariants.{NoOption, NoValue, NeedlessValue, Repeated, NotTaken, NoCommand, UnknownCommand, BadWords, BadKinds, LonePlatform, LoneHost, AllIgnored, NoPaths, CfgsFailed, BadCfg, PathsFailed, UnendedPaths}
+use Rattle.guppy_arguments.specs.declared.told.ArgumentsFault.TheVariants.{NoOption, NoValue, NeedlessValue, Repeated, NotTaken, NoCommand, UnknownCommand, BadWords, BadKinds, LonePlatform, LoneHost, AllIgnored, BadAlso, NoPaths, CfgsFailed, BadCfg, PathsFailed, UnendedPaths}
 use Rattle.guppy_arguments.specs.Nearest.{IsFar, IsNearest}
 use Rattle.guppy_arguments.specs.Table.{cargo_program, command_names, option_names, usage_of}
 
@@ -26,6 +26,7 @@ misread_of (BadKinds value) = bad_kinds (string_bytes value)
 misread_of LonePlatform = lone_platform
 misread_of LoneHost = lone_host
 misread_of (AllIgnored folder) = all_ignored (string_bytes folder)
+misread_of (BadAlso text) = bad_also (string_bytes text)
 misread_of NoPaths = no_paths
 misread_of (CfgsFailed file) = cfgs_failed (string_bytes file)
 misread_of (BadCfg triple before) = bad_cfg (string_bytes triple) before
@@ -70,6 +71,8 @@ arguments_text LonePlatform = codes "give --cfgs FILE behind each --platform TRI
 arguments_text LoneHost = codes "give both --host TRIPLE and --host-cfgs FILE"
 arguments_text (AllIgnored folder) =
     codes "--ignore " ++ (string_bytes folder ++ codes " leaves out everything: give a folder")
+arguments_text (BadAlso text) =
+    string_bytes text ++ codes " is no folder of a package: give --also FOLDER=PACKAGE"
 arguments_text NoPaths = codes "affected needs a path, --paths-from FILE or, of the scripts, --since REVISION"
 arguments_text (CfgsFailed file) = string_bytes file ++ codes ": the cfgs in it can't be read"
 arguments_text (BadCfg triple before) = string_bytes triple ++ (codes ": line " ++ (decimal (before + 1)

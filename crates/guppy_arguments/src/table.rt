@@ -5,7 +5,7 @@ ghost use Rattle.guppy_arguments.specs.Table.{cargo_program, usage_of};
 
 use guppy_command::grammar::{OptionRow, Program};
 use guppy_command::table::{
-    CFGS, HOST, HOST_CFGS, IDS, IGNORE, KINDS, PATHS_FROM, PLATFORM, PUBLISHABLE, WORKSPACE,
+    ALSO, CFGS, HOST, HOST_CFGS, IDS, IGNORE, KINDS, PATHS_FROM, PLATFORM, PUBLISHABLE, WORKSPACE,
 };
 
 /// The options, each with its value, whether it may come again, the commands that take it, where not all do, and its
@@ -68,6 +68,14 @@ pub const OPTIONS: &[OptionRow] = &[
         true,
         Some(&["affected"]),
         "leaves out what lies in this folder",
+    ),
+    (
+        ALSO,
+        Some("FOLDER=PACKAGE"),
+        true,
+        Some(&["affected"]),
+        "what changed in this folder changes this package, too, as one whose build script\n      \
+         reads there",
     ),
     (
         PATHS_FROM,

@@ -55,6 +55,8 @@ pub enum ArgumentsFault {
     LoneHost,
     /// The folder to leave out is the whole workspace, or none.
     AllIgnored(String),
+    /// The value names no folder and package, parted by a `=`.
+    BadAlso(String),
     /// No path is given.
     NoPaths,
     /// The file with what is set on a platform can't be read.
@@ -119,6 +121,9 @@ impl fmt::Display for ArgumentsFault {
             ArgumentsFault::AllIgnored(folder) => {
                 write!(f, "--ignore {folder} leaves out everything: give a folder")
             }
+            ArgumentsFault::BadAlso(text) => {
+                write!(f, "{text} is no folder of a package: give --also FOLDER=PACKAGE")
+            }
             ArgumentsFault::NoPaths => f.write_str(
                 "affected needs a path, --paths-from FILE or, of the scripts, --since REVISION",
             ),
@@ -182,6 +187,7 @@ fn told(alloc: Global, misread: Misread<'_>) -> Result<ArgumentsFault, AllocErro
         Misread::LonePlatform => Ok(ArgumentsFault::LonePlatform),
         Misread::LoneHost => Ok(ArgumentsFault::LoneHost),
         Misread::AllIgnored(folder) => Ok(ArgumentsFault::AllIgnored(copy(folder)?)),
+        Misread::BadAlso(text) => Ok(ArgumentsFault::BadAlso(copy(text)?)),
         Misread::NoPaths => Ok(ArgumentsFault::NoPaths),
         Misread::CfgsFailed(file) => Ok(ArgumentsFault::CfgsFailed(copy(file)?)),
         Misread::BadCfg(triple, before) => Ok(ArgumentsFault::BadCfg {

@@ -9,7 +9,8 @@ use Rattle.guppy_command.specs.declared.table.TheConstants.{PUBLISHABLE}
 -- the packages in their order, the roots of all packages or the links walked from them in a direction,
 -- the cycles, the packages that are there more than once, whether the graph is a verified one, the
 -- members in an order to publish them, all or those alone that can be published, what these reach or
--- all as it is drawn, or, with folders to leave out, the members that changes at some paths affect
+-- all as it is drawn, or, with folders to leave out, and folders that belong to packages beside their own, the
+-- members that changes at some paths affect
 pub data Command : Type 0 where
   reach : DependencyDirection → List (List ℕ) → Command
   depends : List ℕ → List ℕ → Command
@@ -22,7 +23,7 @@ pub data Command : Type 0 where
   verify : Command
   publish_order : Bool → Command
   dot : List (List ℕ) → Command
-  affected : List (List ℕ) → List (List ℕ) → Command
+  affected : List (List ℕ) → List (List ℕ × List ℕ) → List (List ℕ) → Command
 
 -- `forward` or `reverse`
 abbrev pub direction_of : List ℕ → Option DependencyDirection

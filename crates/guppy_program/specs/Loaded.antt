@@ -28,7 +28,7 @@ AreAskedOf format _ input links asked_of = asked_of ≡ links
 
 -- whether the command asks for build targets, which say where sources lie
 abbrev pub asks_for_targets : Command → Bool
-asks_for_targets (affected ignored paths) = true
+asks_for_targets (affected ignored also paths) = true
 asks_for_targets _ = false
 
 -- whether records are read with details: for build targets, which also say what runs on the host

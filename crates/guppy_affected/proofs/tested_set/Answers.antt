@@ -11,5 +11,6 @@ returns-clause-graph c =
 
 pub returns-clause-tested : goal.returns-clause-tested
 returns-clause-tested c =
-    IfOk-along c.tested_with.result _ (AreTestedAfter c.args.graph.now (map string_bytes c.args.paths.now) (map string_bytes c.args.ignored.now))
+    IfOk-along c.tested_with.result _ (AreTestedAfter c.args.graph.now (map string_bytes c.args.paths.now) (map string_bytes c.args.ignored.now)
+    (map (λ given. (given.0.now, given.1)) c.args.also.now))
     (λ tested are. (c.in_ok-changed.changed, c.in_ok-changed.ensures.graph, c.in_ok-changed.ensures.changed, are)) c.tested_with.ensures.tested
