@@ -7,7 +7,8 @@
 //! - `given`: folders that are given to packages beside their own;
 //! - `touched`: the packages that changed themselves;
 //! - `tested`: the packages whose tests are built from changed ones;
-//! - the crate itself: the members among these.
+//! - the crate itself: the members among these;
+//! - `laws`: what folders that are given add.
 #![tactic(auto)]
 
 ghost use Rattle.std.specs.Prelude.{◌≡◌, map, string_bytes, IfOk, IsOkUnless};
@@ -18,6 +19,7 @@ ghost use Rattle.guppy_affected.specs.Tested.{AreTestedAfter};
 mod elsewhere;
 mod folders;
 mod given;
+pub mod laws;
 mod tested;
 mod touched;
 

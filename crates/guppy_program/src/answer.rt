@@ -286,8 +286,8 @@ fn given_folders<'a, F: Format>(
 {
     let mut given = Vec::new(alloc);
     for (folder, word) in also {
-        let id = F::find(alloc, graph, names, word)?;
-        let Ok(()) = given.push((*folder, id)) else {
+        let package = F::find(alloc, graph, names, word)?;
+        let Ok(()) = given.push((*folder, package)) else {
             return Err(want_of_memory());
         };
     }
