@@ -11,7 +11,7 @@ pub fn none_given()
         ↔ (Belongs g.packages path p ⊎ (IsBelow g.packages path p ⊎ IsElsewhere g path p)) }
 {}
 
-/// What is given adds members: those that changes affect where none is given they affect anyway.
+/// What is given takes no member away: those that changes affect where none is given they affect anyway.
 pub fn given_add()
     ensures { (g : GraphData) (paths ignored : List (List ℕ)) (also : List Given) (p : ℕ)
         → IsAffected g paths ignored [] p → IsAffected g paths ignored also p }
