@@ -32,12 +32,6 @@ pub fn is_of_scripts(name: &str) -> bool
 pub fn all_names(alloc: Global) -> Result<Vec<&'static str>, AllocError>
     ensures { IfOk result (λ names. map (λ name. name.now) names.items ≡ all_names) }
 {
-    let mut names = Vec::new(alloc);
-    for row in OPTIONS {
-        names.push(row.0)?;
-    }
-    for name in SCRIPT_OPTIONS {
-        names.push(*name)?;
-    }
-    Ok(names)
+    let own = OPTIONS.iter().map(|row| row.0);
+    own.chain(SCRIPT_OPTIONS.iter().copied()).collect(alloc)
 }

@@ -137,7 +137,10 @@ impl fmt::Display for ArgumentsFault {
                 write!(f, "--ignore {folder} leaves out everything: give a folder")
             }
             ArgumentsFault::BadAlso(text) => {
-                write!(f, "{text} is no folder of a package: give --also FOLDER=PACKAGE")
+                write!(
+                    f,
+                    "{text} is no folder of a package: give --also FOLDER=PACKAGE"
+                )
             }
             ArgumentsFault::NoPaths => f.write_str(
                 "affected needs a path, --paths-from FILE or, of the scripts, --since REVISION",

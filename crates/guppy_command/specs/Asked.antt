@@ -139,8 +139,8 @@ has_paths given paths = not (no_words paths) || has PATHS_FROM.now given
 
 -- the folder and the package that the text names, parted by its first `=`
 abbrev pub halves_of : List ℕ → Option (List ℕ × List ℕ)
-halves_of text = option_and_then (λ package. if is_empty (name_in text) || is_empty package then None
-    else Some (name_in text, package)) (value_in text)
+halves_of text = option_and_then (λ owner. if is_empty (name_in text) || is_empty owner then None
+    else Some (name_in text, owner)) (value_in text)
 
 -- it names none
 abbrev pub is_unparted : List ℕ → Bool

@@ -332,12 +332,12 @@ fn has_paths(given: &[Argument<'_>], paths: &[&str]) -> bool
 fn halves_of(text: &str) -> Option<(&str, &str)>
     ensures { option_map (λ both. (both.0.now, both.1.now)) result ≡ halves_of text.now }
 {
-    let (folder, package) = parts_of(text);
-    let package = package?;
-    if folder.is_empty() || package.is_empty() {
+    let (folder, owner) = parts_of(text);
+    let owner = owner?;
+    if folder.is_empty() || owner.is_empty() {
         return None;
     }
-    Some((folder, package))
+    Some((folder, owner))
 }
 
 // Whether the text names none.
@@ -355,10 +355,7 @@ fn first_unparted<'a>(values: &[&'a str]) -> Option<&'a str>
 }
 
 // The folders and the packages that the texts name.
-fn all_halves<'a>(
-    alloc: Global,
-    values: &[&'a str],
-) -> Result<Vec<(&'a str, &'a str)>, AllocError>
+fn all_halves<'a>(alloc: Global, values: &[&'a str]) -> Result<Vec<(&'a str, &'a str)>, AllocError>
     ensures { IfOk result (λ halves. map (λ both. (both.0.now, both.1.now)) halves.items
         ≡ filter_map halves_of (texts values.now)) }
 {

@@ -286,8 +286,8 @@ fn given_folders<'a, F: Format>(
 {
     let mut given = Vec::new(alloc);
     for (folder, word) in also {
-        let package = F::find(alloc, graph, names, word)?;
-        let Ok(()) = given.push((*folder, package)) else {
+        let owner = F::find(alloc, graph, names, word)?;
+        let Ok(()) = given.push((*folder, owner)) else {
             return Err(want_of_memory());
         };
     }
