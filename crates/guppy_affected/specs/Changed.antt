@@ -39,7 +39,8 @@ HasOtherFolder g also places p = HasTargetElsewhere g (λ folder. MeetsOne folde
     ⊎ HasFolderGiven g also (λ folder. MeetsOne folder places) p
 
 -- the one or the other holds of the package at the position
-abbrev pub IsChangedBy : GraphData → List Given → List (List Part) → List (List Part) → List (List Part) → ℕ → Type 0
+abbrev pub IsChangedBy : GraphData → List Given → List (List Part) → List (List Part) → List (List Part) → ℕ
+    → Type 0
 IsChangedBy g also folders paths places p =
     HasFolderIn g.packages folders paths p ⊎ HasOtherFolder g also places p
 

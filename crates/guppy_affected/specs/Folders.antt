@@ -1,5 +1,6 @@
 -- The folders of the packages of this machine, and to which of these packages a path belongs.
-use Rattle.std.specs.Prelude.{◌≡◌, ◌⊎◌, ℕ, ◌≤◌, List, length, Contains, Option, IsSomeAnd, slice_get}
+use Rattle.std.specs.Prelude.{◌≡◌, ◌⊎◌, ℕ, ◌≤◌, List, length, map, Contains, Option, IsSomeAnd, slice_get}
+use Rattle.std.specs.Borrow.{Bor}
 use Rattle.guppy.specs.Path.{Part, components}
 use Rattle.guppy.specs.DataTypes.records.BuildTargetRecord.{BuildTargetRecord}
 use Rattle.guppy.specs.DataTypes.records.PackageRecord.{PackageRecord}
@@ -63,6 +64,10 @@ IsElsewhere g path p =
 -- a folder that is given to a package beside its own, and the ID of that package
 abbrev pub Given : Type 0
 Given = List ℕ × List ℕ
+
+-- the folders that are given, each with the ID of its package
+abbrev pub given_in : List (Bor (List ℕ) × List ℕ) → List Given
+given_in = map (λ given. (given.0.now, given.1))
 
 -- the folder is given to the package at the position, with P of where it is
 abbrev pub IsGivenTo : GraphData → (List Part → Type 0) → ℕ → Given → Type 0

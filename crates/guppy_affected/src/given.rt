@@ -1,10 +1,10 @@
 //! Folders that are given to packages beside their own.
-ghost use Rattle.std.specs.Prelude.{◌≡◌, ◌↔◌, IsTrue, map, IfOk};
+ghost use Rattle.std.specs.Prelude.{◌≡◌, ◌↔◌, IsTrue, IfOk};
 ghost use Rattle.guppy.specs.Utf8Path.{path_text};
 ghost use Rattle.guppy.specs.Views.{graph_of, package_position};
 ghost use Rattle.guppy_folders.specs.Folders.{lists_in};
 ghost use Rattle.guppy_folders.specs.Places.{place, MeetsOne};
-ghost use Rattle.guppy_affected.specs.Folders.{IsGivenTo, HasFolderGiven};
+ghost use Rattle.guppy_affected.specs.Folders.{IsGivenTo, HasFolderGiven, given_in};
 
 use guppy::{Component, PackageId, PackageMetadata, Utf8Path};
 use guppy_folders::{meets_one, place_of};
@@ -48,8 +48,7 @@ pub(crate) fn has_folder_given(
     places: &[Vec<Component<'_>>],
 ) -> Result<bool, AllocError>
     ensures { IfOk result (λ has. IsTrue has ↔ HasFolderGiven (graph_of metadata.entry).now
-        (map (λ given. (given.0.now, given.1)) also.now) (λ folder. MeetsOne folder (lists_in places.now))
-        (package_position metadata.entry)) }
+        (given_in also.now) (λ folder. MeetsOne folder (lists_in places.now)) (package_position metadata.entry)) }
 {
     for (folder, id) in also {
         if is_given(metadata, *folder, id, places)? {

@@ -4,8 +4,8 @@ ghost use Rattle.guppy.specs.Graph.{GraphData};
 ghost use Rattle.guppy_affected.specs.Affected.{IsAffected};
 ghost use Rattle.guppy_affected.specs.Folders.{Given, Belongs, IsBelow, IsElsewhere, Changes};
 
-/// Where none is given, a path changes exactly the packages that it belongs to, that lie below it, and that name a target
-/// where it leads.
+/// Where none is given, a path changes exactly the packages that it belongs to, that lie below it, and that name a
+/// target where it leads.
 pub fn none_given()
     ensures { (g : GraphData) (path : List ℕ) (p : ℕ) → Changes g [] path p
         ↔ (Belongs g.packages path p ⊎ (IsBelow g.packages path p ⊎ IsElsewhere g path p)) }

@@ -14,6 +14,7 @@
 ghost use Rattle.std.specs.Prelude.{◌≡◌, map, string_bytes, IfOk, IsOkUnless};
 ghost use Rattle.guppy.specs.Query.{IsSetWhere};
 ghost use Rattle.guppy_affected.specs.Affected.{AreAffectedIds, IsAffected};
+ghost use Rattle.guppy_affected.specs.Folders.{given_in};
 ghost use Rattle.guppy_affected.specs.Tested.{AreTestedAfter};
 
 mod elsewhere;
@@ -37,7 +38,7 @@ fn tested_set<'g>(
 ) -> Result<PackageSet<'g>, Error>
     ensures graph { IfOk result (λ set. set.graph ≡ graph.now) }
     ensures tested { IfOk result (AreTestedAfter graph.now (map string_bytes paths.now)
-        (map string_bytes ignored.now) (map (λ given. (given.0.now, given.1)) also.now)) }
+        (map string_bytes ignored.now) (given_in also.now)) }
     ensures error { IsOkUnless result Error.OutOfMemory }
 {
     let changed = changed_packages(graph, paths, ignored, also)?;
@@ -53,8 +54,8 @@ fn affected_set<'g>(
 ) -> Result<PackageSet<'g>, Error>
     ensures graph { IfOk result (λ set. set.graph ≡ graph.now) }
     ensures members { IfOk result (λ set. IsSetWhere graph.now.packages
-        (IsAffected graph.now (map string_bytes paths.now) (map string_bytes ignored.now)
-        (map (λ given. (given.0.now, given.1)) also.now)) set.included) }
+        (IsAffected graph.now (map string_bytes paths.now) (map string_bytes ignored.now) (given_in also.now))
+        set.included) }
     ensures error { IsOkUnless result Error.OutOfMemory }
 {
     let tested = tested_set(graph, paths, ignored, also)?;
@@ -74,9 +75,10 @@ fn affected_set<'g>(
 /// also one of each package with a target whose source lies outside of the package's folder, where the path
 /// leads into the folder of that source, or holds it: from the workspace's root, with each `.` and `..`
 /// resolved as if there were no symbolic links; and one of each package to which such a folder is given in
-/// `also`, by the package's ID, as one with files that only its build script reads. It affects the members that are tested with these: the
-/// packages themselves, and those from which a link of any kind leads to a package from which links that
-/// aren't dev-only lead to one, since a package's dev-dependencies are built for its own tests alone.
+/// `also`, by the package's ID, as one with files that only its build script reads. It affects the members
+/// that are tested with these: the packages themselves, and those from which a link of any kind leads to a
+/// package from which links that aren't dev-only lead to one, since a package's dev-dependencies are built
+/// for its own tests alone.
 ///
 /// All members are affected by a path that no package's own folder holds, as `../x`, or only that of a
 /// package at the workspace's root, but for `build.rs` and what lies in `src`, `tests`, `examples` and
@@ -97,8 +99,7 @@ pub fn affected<'g>(
     also: &[(&str, PackageId)],
 ) -> Result<Vec<&'g PackageId>, Error>
     ensures answer { IfOk result (λ ids. AreAffectedIds graph.now (map string_bytes paths.now)
-        (map string_bytes ignored.now) (map (λ given. (given.0.now, given.1)) also.now)
-        (map (λ id. id.now) ids.items)) }
+        (map string_bytes ignored.now) (given_in also.now) (map (λ id. id.now) ids.items)) }
     ensures error { IsOkUnless result Error.OutOfMemory }
 {
     let members = affected_set(graph, paths, ignored, also)?;

@@ -7,6 +7,7 @@ ghost use Rattle.guppy.specs.Views.{graph_of, graph_packages, package_position};
 ghost use Rattle.guppy_folders.specs.Folders.{lists_in, HoldsOne};
 ghost use Rattle.guppy_folders.specs.Places.{resolved};
 ghost use Rattle.guppy_affected.specs.Changed.{AreChanged, HasFolderIn, HasOtherFolder, IsChangedBy, IsAdded};
+ghost use Rattle.guppy_affected.specs.Folders.{given_in};
 
 use crate::elsewhere::has_target_elsewhere;
 use crate::folders::{all_folders, folder_of};
@@ -52,7 +53,7 @@ fn has_other_folder(
     places: &[Vec<Component<'_>>],
 ) -> Result<bool, AllocError>
     ensures { IfOk result (λ has. IsTrue has ↔ HasOtherFolder (graph_of metadata.entry).now
-        (map (λ given. (given.0.now, given.1)) also.now) (lists_in places.now) (package_position metadata.entry)) }
+        (given_in also.now) (lists_in places.now) (package_position metadata.entry)) }
 {
     Ok(has_target_elsewhere(metadata, places)? || has_folder_given(metadata, also, places)?)
 }
@@ -67,7 +68,8 @@ fn is_changed<'a>(
     places: &[Vec<Component<'_>>],
 ) -> Result<bool, AllocError>
     ensures { IfOk result (λ is. IsTrue is ↔ IsChangedBy (graph_of metadata.entry).now
-        (map (λ given. (given.0.now, given.1)) also.now) (lists_in folders.now) (lists_in paths.now) (lists_in places.now) (package_position metadata.entry)) }
+        (given_in also.now) (lists_in folders.now) (lists_in paths.now) (lists_in places.now)
+        (package_position metadata.entry)) }
 {
     Ok(has_folder_in(metadata, folders, paths)? || has_other_folder(metadata, also, places)?)
 }
@@ -84,8 +86,8 @@ fn add_if_changed<'g>(
     requires same_graph { set.old.graph ≡ (graph_of metadata).now }
     ensures graph { IfOk result (λ _. set.new.graph ≡ set.old.graph) }
     ensures added { IfOk result (λ _. IsAdded (graph_of metadata.entry).now (IsChangedBy (graph_of metadata.entry).now
-        (map (λ given. (given.0.now, given.1)) also.now) (lists_in folders.now) (lists_in paths.now) (lists_in places.now)) (package_position metadata.entry)
-        set.old.included set.new.included) }
+        (given_in also.now) (lists_in folders.now) (lists_in paths.now) (lists_in places.now))
+        (package_position metadata.entry) set.old.included set.new.included) }
     ensures error { IsOkUnless result Error.OutOfMemory }
 {
     if is_changed(metadata, also, &*folders, &*paths, places)? {
@@ -104,8 +106,8 @@ fn packages_changed<'g>(
 ) -> Result<PackageSet<'g>, Error>
     ensures graph { IfOk result (λ set. set.graph ≡ graph.now) }
     ensures members { IfOk result (λ set. IsSetWhere graph.now.packages
-        (IsChangedBy graph.now (map (λ given. (given.0.now, given.1)) also.now) (lists_in folders.now)
-        (lists_in paths.now) (lists_in places.now)) set.included) }
+        (IsChangedBy graph.now (given_in also.now) (lists_in folders.now) (lists_in paths.now)
+        (lists_in places.now)) set.included) }
     ensures error { IsOkUnless result Error.OutOfMemory }
 {
     let mut all = graph.resolve_none()?;
@@ -137,8 +139,7 @@ pub(crate) fn changed_packages<'g>(
 ) -> Result<PackageSet<'g>, Error>
     ensures graph { IfOk result (λ set. set.graph ≡ graph.now) }
     ensures changed { IfOk result (λ set. AreChanged graph.now
-        (map string_bytes paths.now) (map string_bytes ignored.now)
-        (map (λ given. (given.0.now, given.1)) also.now) set.included) }
+        (map string_bytes paths.now) (map string_bytes ignored.now) (given_in also.now) set.included) }
     ensures error { IsOkUnless result Error.OutOfMemory }
 {
     let folders = all_folders(graph)?;

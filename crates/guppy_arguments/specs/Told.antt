@@ -66,7 +66,8 @@ hint None = codes "guppy-cargo help lists them"
 abbrev pub arguments_text : ArgumentsFault → List ℕ
 arguments_text (NoOption word nearest) = string_bytes word ++ (codes " is no option: " ++ hint nearest)
 arguments_text (OfScripts word nearest) =
-    string_bytes word ++ (codes " is no option of the program: the nearest is " ++ (string_bytes nearest ++ codes ", of the scripts"))
+    string_bytes word ++ (codes " is no option of the program: the nearest is "
+    ++ (string_bytes nearest ++ codes ", of the scripts"))
 arguments_text (NoValue name) = codes "a value is missing behind " ++ string_bytes name
 arguments_text (NeedlessValue name) = string_bytes name ++ codes " takes no value"
 arguments_text (Repeated name) = string_bytes name ++ codes " is given twice"

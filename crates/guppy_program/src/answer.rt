@@ -6,6 +6,7 @@ ghost use Rattle.guppy.specs.ListedCycles.{cycle_left};
 ghost use Rattle.guppy.specs.Query.{IncludesId};
 ghost use Rattle.guppy.specs.Refused.{NamesId, IsFirstUnknown};
 ghost use Rattle.guppy.specs.Views.{link_data};
+ghost use Rattle.guppy_affected.specs.Folders.{given_in};
 ghost use Rattle.guppy_command.specs.Cause.{Cause, library};
 ghost use Rattle.guppy_program.specs.Answer.{Means, IsReached, AreReached, IsReachAnswer, TellsDependence, IsDependsAnswer, IsOrderAnswer, IsRootsAnswer, IsLinksAnswer, IsCyclesAnswer, IsDuplicatesAnswer, IsVerifyAnswer, IsDotAnswer, AreGiven, TellsAffected, IsAffectedAnswer, IsAnswer, IsWordFault, IsVerifyTold, IsCommandFault, end_ids};
 ghost use Rattle.guppy_program.specs.Printed.{called};
@@ -280,7 +281,7 @@ fn given_folders<'a, F: Format>(
 ) -> Result<Vec<(&'a str, PackageId)>, F::Fault>
     requires { F.are_names names.now graph.now.packages }
     ensures given { IfOk result (λ given. AreGiven (F.format.meant graph.now.packages)
-        (map (λ both. (both.0.now, both.1.now)) also.now) (map (λ both. (both.0.now, both.1)) given.items)) }
+        (map (λ both. (both.0.now, both.1.now)) also.now) (given_in given.items)) }
     ensures err { IfErr result (λ fault. IsWordFault F.format graph.now.packages
         (map (λ both. both.1) (map (λ both. (both.0.now, both.1.now)) also.now)) fault (F.Fault.cause fault)) }
 {
@@ -302,7 +303,7 @@ fn tested<'g>(
     paths: &[String],
 ) -> Result<Answer<'g>, Error>
     ensures ok { IfOk result (λ answer. TellsAffected graph.now (map string_bytes ignored.now)
-        (map (λ both. (both.0.now, both.1)) given.now) (map string_bytes paths.now) (answer_shown answer)) }
+        (given_in given.now) (map string_bytes paths.now) (answer_shown answer)) }
     ensures err { IsOkUnless result Error.OutOfMemory }
 {
     Ok(Answer::List(affected(graph, paths, ignored, given)?))

@@ -3,14 +3,14 @@ use Rattle.guppy.specs.Graph.{GraphData}
 use Rattle.guppy.specs.Views.{graph_of, package_position}
 use Rattle.guppy_folders.specs.Folders.{lists_in}
 use Rattle.guppy_affected.specs.Changed.{IsChangedBy}
-use Rattle.guppy_affected.specs.Folders.{Given}
+use Rattle.guppy_affected.specs.Folders.{given_in}
 use Rattle.guppy_affected.proofs.Owners.{union_with_one}
 use Rattle.guppy_affected.proofs.touched.add_if_changed.Goals as goal
 use Rattle.guppy_affected.proofs.touched.add_if_changed.Goals.{then-branch+in_ok-to_package_set+in_ok-set, else-branch}
 
 pub returns-clause-added : goal.returns-clause-added
 returns-clause-added c =
-    let also = map {B = Given} (λ given. (given.0.now, given.1)) c.args.also.now in
+    let also = given_in c.args.also.now in
     let here = package_position c.args.metadata in
     let before = c.args.set.now in
     let has = c.in_ok-is_changed.ensures in

@@ -5,14 +5,14 @@ use Rattle.guppy.specs.Iterators.{packages_left}
 use Rattle.guppy.specs.Views.{package_seen}
 use Rattle.guppy_folders.specs.Folders.{lists_in}
 use Rattle.guppy_affected.specs.Changed.{IsChangedBy, IsAdded}
-use Rattle.guppy_affected.specs.Folders.{Given}
+use Rattle.guppy_affected.specs.Folders.{given_in}
 use Rattle.guppy_affected.proofs.Owners.{ArePicked, picked_none, picked_all, picked_graph, picked_added, count_added, changed_within}
 use Rattle.guppy_affected.proofs.touched.packages_changed.Goals as goal
 
 pub loop-package-init : goal.loop-package-init
 loop-package-init c =
     let g = c.args.graph in
-    let also = map {B = Given} (λ given. (given.0.now, given.1)) c.args.also.now in
+    let also = given_in c.args.also.now in
     let P = IsChangedBy g.now also (lists_in c.args.folders.now) (lists_in c.args.paths.now) (lists_in c.args.places.now) in
     record {
       same = c.in_ok-all.ensures.graph;
@@ -25,7 +25,7 @@ pub add_if_changed-requires : goal.add_if_changed-requires
 add_if_changed-requires c =
     let g = c.args.graph.now in
     let here = c.in-Some.package in
-    let also = map {B = Given} (λ given. (given.0.now, given.1)) c.args.also.now in
+    let also = given_in c.args.also.now in
     let P = IsChangedBy g also (lists_in c.args.folders.now) (lists_in c.args.paths.now) (lists_in c.args.places.now) in
     let picked = subst (λ (left : List (Bor GraphData × ℕ)). ArePicked g P left c.loop-package.all.included) c.in-Some.ensures.steps c.loop-package.invariant.picked in
     record { same_graph = c.loop-package.invariant.same ∙ sym (picked_graph g P c.loop-package.all.included (package_seen here) (packages_left c.next.new.self) picked) }
@@ -33,7 +33,7 @@ add_if_changed-requires c =
 pub loop-package-preserved : goal.loop-package-preserved
 loop-package-preserved c =
     let g = c.args.graph.now in
-    let also = map {B = Given} (λ given. (given.0.now, given.1)) c.args.also.now in
+    let also = given_in c.args.also.now in
     let P = λ (g : GraphData). IsChangedBy g also (lists_in c.args.folders.now) (lists_in c.args.paths.now) (lists_in c.args.places.now) in
     let before = c.loop-package.all.included in
     let after = c.add_if_changed.new.set.included in
@@ -50,7 +50,7 @@ loop-package-preserved c =
 pub returns-clause-members : goal.returns-clause-members
 returns-clause-members c =
     let g = c.args.graph.now in
-    let also = map {B = Given} (λ given. (given.0.now, given.1)) c.args.also.now in
+    let also = given_in c.args.also.now in
     let P = IsChangedBy g also (lists_in c.args.folders.now) (lists_in c.args.paths.now) (lists_in c.args.places.now) in
     record {
       count_is = c.loop-package.invariant.count;

@@ -1,6 +1,5 @@
-use Rattle.std.proofs.Common.{ap, map}
 use Rattle.std.proofs.lemmas.Result.{IfOk-weaker, err_from_is_err_and}
-use Rattle.guppy_affected.specs.Folders.{Given}
+use Rattle.guppy_affected.specs.Folders.{given_in}
 use Rattle.guppy_program.specs.Answer.{IsWordFault}
 use Rattle.guppy_program.proofs.GivenFolders.{words_in}
 use Rattle.guppy_program.proofs.Refusals.{passed_memory, passed_ok}
@@ -9,7 +8,7 @@ use Rattle.guppy_program.proofs.answer.tested_also.Goals as goal
 pub returns-clause-ok : goal.returns-clause-ok
 returns-clause-ok g c = passed_ok c.tested.result c.passed_on.result _
     (IfOk-weaker c.tested.result _ _ (λ answer exact. record {
-      given = map {B = Given} (λ both. (both.0.now, both.1)) c.in_ok-given.given.items;
+      given = given_in c.in_ok-given.given.items;
       named = c.in_ok-given.ensures.given;
       exact = rw c.as_slice.ensures.value at exact;
     }) c.tested.ensures.ok) c.passed_on.ensures.ok
