@@ -13,8 +13,8 @@ seen given = (given.0.now, given.1)
 
 pub returns-then-branch : goal.returns-then-branch
 returns-then-branch c =
-    let item = c.item.result in (
-      λ h. (seen item, there_mapped seen c.args.also.now c.loop-folder.folder-index item c.loop-folder-test.true c.item.is, c.in_ok-is_given.ensures.0 c.if-branch.true),
+    let item = c.loop-folder-item.result in (
+      λ h. (seen item, there_mapped seen c.args.also.now c.loop-folder.folder-index item c.loop-folder-test.true c.loop-folder-item.is, c.in_ok-is_given.ensures.0 c.if-branch.true),
       λ one. refl,
     )
 
@@ -25,8 +25,8 @@ loop-folder-preserved c = λ one.
     let P = λ (folder : List Part). MeetsOne folder (lists_in c.args.places.now) in
     let also = c.args.also.now in
     let i = c.loop-folder.folder-index in
-    let item = c.item.result in
-    let more = subst (λ (l : List Given). HasFolderGiven g l P p) (one_more_mapped seen also i item c.loop-folder-test.true c.item.is) one in
+    let item = c.loop-folder-item.result in
+    let more = subst (λ (l : List Given). HasFolderGiven g l P p) (one_more_mapped seen also i item c.loop-folder-test.true c.loop-folder-item.is) one in
     ⊎_elim c.loop-folder.invariant
     (λ (now : IsGivenTo g P p (seen item)). let is : c.in_ok-is_given.field-0 ≡ true = c.in_ok-is_given.ensures.1 now in absurd (cc))
     ((One-push (IsGivenTo g P p) (map seen (take i also)) (seen item)).0 more)
