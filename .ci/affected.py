@@ -1,7 +1,7 @@
 #!/usr/bin/env python3
 """Judges `guppy-cargo affected` by cargo itself. In workspaces that are made here all tests are built, a file is
 changed, and they are built again: the answer for the paths that changed must tell each member of which cargo built a
-test anew.
+test anew. Folders that only the compiler knows a package to read are given to it, and some are told for these alone.
 
 What is told beyond these is counted, by what was changed. After two minutes nothing more is changed, and what was tried
 counts. Needs cargo, git, and the program as built, or one that the first argument names; a second one says in how many
@@ -62,6 +62,8 @@ class Package:
         self.reads = drawn.choice(["", "", "", "data.txt", "ws/shared", "proto"])
         # A test of some lies in another folder, from the workspace's root.
         self.far = drawn.choice(["shared", "../far", "p0/tests", "crates/far"]) if drawn.random() < 0.3 else None
+        # Some include a file of a folder in another package.
+        self.borrows = os.path.join(drawn.choice(others).folder, "lent") if others and drawn.random() < 0.4 else None
 
     def manifest(self, root):
         """Its manifest; `root` is the workspace's table where it lies at the root."""
@@ -78,10 +80,17 @@ class Package:
     def path_to(self, other):
         return self.from_here(other.folder)
 
+    def given(self):
+        """What it reads outside of its folder, as an option each."""
+        shared = {"ws/shared": "shared", "proto": "../proto"}.get(self.reads)
+        return [f"--also={it}={self.name}" for it in (shared, self.borrows) if it]
+
     def files(self):
         above = "../" * len(os.path.normpath(os.path.join("ws", self.folder)).split("/"))
         read = self.reads if self.reads == "data.txt" else f"{above}{self.reads}/text.txt"
         source = f'pub const READ: &str = include_str!("../{read}");\n' if self.reads and not self.is_macro else ""
+        if self.borrows and not self.is_macro:
+            source += f'pub const BORROWED: &str = include_str!("../{self.from_here(self.borrows)}/text.txt");\n'
         found = {"src/lib.rs": f"mod part;\n{source}", "src/part.rs": "", "data.txt": "", "tests/all.rs": "", "notes.md": ""}
         if self.script is not None:
             found["build.rs"] = f'fn main() {{\n    println!("{self.script}");\n}}\n'
@@ -112,6 +121,8 @@ class Workspace:
                 write(self.root / it.folder / name, text)
             for name, text in FAR.items() if it.far else ():
                 write(self.root / it.far / it.name / name, text)
+            if it.borrows:
+                write(self.root / it.borrows / "text.txt", "")
             self.write_manifest(it)
         if not self.rooted:
             write(self.root / "Cargo.toml", self.table())
@@ -172,7 +183,8 @@ class Workspace:
         return kind
 
     def tries(self):
-        """What was changed in turn, the members of which a test was built anew, and those that were told."""
+        """What was changed in turn, the members of which a test was built anew, those that were told, and those that
+        are where no folder is given to a package."""
         self.build()
         for number in range(CHANGES):
             before = self.files()
@@ -181,7 +193,9 @@ class Workspace:
             after = self.files()
             changed = sorted(it for it in before.keys() | after.keys() if before.get(it) != after.get(it))
             paths = [self.told(it) for it in changed]
-            yield kind, paths, self.build(), affected(metadata, paths)
+            known = {it["name"] for it in json.loads(metadata)["packages"]}
+            given = [option for it in self.packages if it.name in known for option in it.given()]
+            yield kind, paths, self.build(), affected(metadata, [*given, *paths]), affected(metadata, paths)
 
     def told(self, path):
         """The path as git tells it: some folders count as one, as a submodule does."""
@@ -221,6 +235,13 @@ def change_far_test(workspace, package, number):
     return write(path, f"{path.read_text()}// {number}\n")
 
 
+def change_lent(workspace, package, number):
+    borrowing = [it for it in workspace.packages if it.borrows and it.is_member and not it.is_macro]
+    if not borrowing:
+        return change_test(workspace, package, number)
+    return write(workspace.root / workspace.drawn.choice(borrowing).borrows / "text.txt", f"{number}\n")
+
+
 def add_test(workspace, package, number):
     append(workspace, package, f"tests/more{number}.rs", "")
 
@@ -257,7 +278,7 @@ def change_settings(workspace, package, number):
     write(workspace.root / ".cargo/config.toml", f'[build]\nrustflags = ["--cfg", "x{number}"]\n')
 
 
-UNREAD = "a file that nobody reads"
+UNREAD, LENT = "a file that nobody reads", "what some include of another package"
 KINDS = {
     "a source": change_source,
     "a test": change_test,
@@ -268,17 +289,18 @@ KINDS = {
     "a version": raise_version,
     "a new dependency": ask_for_more,
     "what some include": change_shared,
+    LENT: change_lent,
     UNREAD: change_outside,
     "settings": change_settings,
 }
 
 
-def affected(metadata, paths):
+def affected(metadata, words):
     """The members that the program tells."""
     ways = {"input": metadata, "capture_output": True, "text": True, "timeout": time_left()}
-    ran = subprocess.run([PROGRAM, "affected", *paths], check=False, **ways)
+    ran = subprocess.run([PROGRAM, "affected", *words], check=False, **ways)
     if ran.returncode or ran.stderr:
-        sys.exit(f"affected: {paths}: status {ran.returncode}, {ran.stderr}")
+        sys.exit(f"affected: {words}: status {ran.returncode}, {ran.stderr}")
     return set(ran.stdout.split())
 
 
@@ -299,13 +321,15 @@ def tries_of(room, seed):
 def main():
     if not os.access(PROGRAM, os.X_OK):
         return f"affected: {PROGRAM} is not there"
-    passed = failed = beyond = whole = 0
+    passed = failed = beyond = whole = gained = 0
     counts = {it: [0, 0] for it in KINDS}
     with tempfile.TemporaryDirectory(ignore_cleanup_errors=True) as room, ThreadPoolExecutor(4) as workers:
         for seed, tried in workers.map(lambda it: tries_of(room, it), range(DRAWN)):
             whole += len(tried) == CHANGES
-            for kind, paths, built, answer in tried:
-                missed = built - answer
+            for kind, paths, built, answer, without in tried:
+                # What is told with no folder given to a package is told anyway.
+                missed = (built | without) - answer
+                gained += kind == LENT and len((built & answer) - without)
                 passed, failed, beyond = passed + (not missed), failed + bool(missed), beyond + len(answer - built)
                 counts[kind] = [counts[kind][0] + len(built), counts[kind][1] + len(answer)]
                 if missed:
@@ -318,6 +342,10 @@ def main():
         if not anew and kind != UNREAD and in_time:
             print(f"affected: {kind}: FAILED: cargo built no test anew, so nothing was judged")
             failed += 1
+    print(f"affected: {LENT}: {gained} of them are told for --also alone")
+    if not gained and in_time:
+        print("affected: --also: FAILED: cargo built no test anew that --also alone tells, so it was not judged")
+        failed += 1
     anew, told = (sum(it[at] for it in counts.values()) for at in (0, 1))
     print(f"affected: together: cargo built tests of {anew} members anew; {told} are told, {beyond} of them beyond")
     print(f"{passed} passed, {failed} failed")

@@ -124,9 +124,12 @@ class Graph:
         if path in EVERYONES or is_of_settings or not holding or not (longest or is_of_target):
             return set(self.folders)
         below = {it for it, folder in self.local.items() if holds(parts, folder)}
-        place = os.path.normpath(os.path.join(self.root, path))
-        far = {it for it, folders in self.elsewhere.items() for folder in folders if meet(place, folder)}
+        far = {it for it, folders in self.elsewhere.items() for folder in folders if meet(self.place(path), folder)}
         return below | far | {it for it in holding if len(self.local[it]) == longest}
+
+    def place(self, path):
+        """Where the path leads, from the workspace's root."""
+        return os.path.normpath(os.path.join(self.root, path))
 
     def tested_with(self, touched):
         """The members whose tests are built from these packages."""
@@ -394,7 +397,7 @@ def try_left_out(graph):
             (["--ignore", "./.", "x"], "--ignore ./. leaves out everything: give a folder"),
             (["--ignore=", "x"], "--ignore  leaves out everything: give a folder"),
             (["x", "--paths-from"], "a value is missing behind --paths-from"),
-            (["x", "--sinc", "main"], "--sinc is no option: the nearest is --kinds"),
+            (["x", "--sinc", "main"], "--sinc is no option of the program: the nearest is --since, of the scripts"),
             (["-x"], "-x is no option: guppy-cargo help lists them"),
             (["x", "--publishable"], "affected takes no --publishable"),
             (["--paths-from", os.path.join(room, "bytes")], f"{os.path.join(room, 'bytes')}: the paths in it can't be read"),
@@ -402,6 +405,32 @@ def try_left_out(graph):
             (["--paths-from", "no/such"], "no/such: the paths in it can't be read"),
         ):
             yield f"affected {words}", (2, "", f"error: {fault}\n"), run(["affected", *words], given)
+
+
+def try_given(graph):
+    """Folders that are given to packages beside their own."""
+    folders = ["docs", "base/src", "../out", *("/".join(it) for it in graph.local.values() if it)]
+    for number in range(3 * STARTS):
+        also = [(graph.random.choice(folders), graph.random.choice(graph.names)) for _ in range(1 + number % 3)]
+        chosen = [f"{graph.random.choice(folders)}/x" for _ in range(1 + number % 2)]
+        paths = [graph.place(it) for it in chosen]
+        more = {name for folder, name in also if any(meet(graph.place(folder), it) for it in paths)}
+        wanted = sorted(graph.tested_with(more.union(*map(graph.touched, chosen))))
+        words = [*itertools.chain(*(("--also", f"{folder}={name}") for folder, name in also)), *chosen]
+        yield f"affected {words}", wanted, sorted(graph.ask("affected", *words))
+    name, given = graph.names[0], graph.text.encode()
+    folder = next(("/".join(it) for it in graph.local.values() if it), "docs")
+    wanted = graph.ask("affected", "--also", f"{folder}={name}", folder)
+    yield "affected, a folder given by an ID", wanted, graph.ask("affected", f"--also={folder}={graph.ids[name]}", folder)
+    yield "affected, a folder with no path", graph.ask("affected", folder), graph.ask("affected", "--also", f"no/such={name}", folder)
+    for word in ("x", "=", f"={name}", "x="):
+        told = f"error: {word} is no folder of a package: give --also FOLDER=PACKAGE\n"
+        yield f"--also {word}", (2, "", told), run(["affected", "--also", word, "y"], given)
+    yield "--also, with no value", (2, "", "error: a value is missing behind --also\n"), run(["affected", "y", "--also"], given)
+    yield "--also with no path", (2, "", f"error: {NO_PATHS}\n"), run(["affected", "--also", f"x={name}"], given)
+    for word in ("no-such-package", *graph.repeated):
+        told = run(["reach", "forward", word], given)
+        yield f"--also x={word}", (1, *told[1:]), run(["affected", "--also", f"x={name}", "--also", f"x={word}", "y"], given)
 
 
 def try_names(graph):
@@ -442,6 +471,7 @@ def try_options(graph):
         ("order --ids=yes", "--ids takes no value"),
         ("order --publishable", "order takes no --publishable"),
         ("--ignore x order", "order takes no --ignore"),
+        ("order --also x=y", "order takes no --also"),
         ("--id order", "--id is no option: the nearest is --ids"),
         ("order --kind=dev", "--kind is no option: the nearest is --kinds"),
         ("order --frobnicate", "--frobnicate is no option: guppy-cargo help lists them"),
@@ -586,7 +616,7 @@ def try_help(graph):
     told = run(["help"], b"")[1]
     yield "help, the commands", sorted(COMMANDS), sorted(re.findall(r"^  ([a-z][a-z-]+)", told, re.M))
     yield "help, lines of more than 90 letters", [], [it for it in told.splitlines() if len(it) > 90]
-    for command, own in (("order", []), ("publish-order", ["--publishable"]), ("affected", ["--ignore", "--paths-from"])):
+    for command, own in (("order", []), ("publish-order", ["--publishable"]), ("affected", ["--ignore", "--also", "--paths-from"])):
         options = re.findall(r"^  (--[a-z-]+)", run(["help", command], b"")[1], re.M)
         yield f"help {command}, its options", [*EVERY_COMMANDS, *own], options
     with open(os.path.join(HERE, "../docs/PROGRAM.md"), encoding="utf-8") as page:
@@ -600,6 +630,11 @@ def try_help(graph):
         wanted = {it for it in COMMANDS if apart[it] == min(apart.values())}
         message = re.fullmatch("error: (.*) is no command: the nearest is (.*)\n", run([word], b"")[2])
         yield f"{word}, the nearest command", True, bool(message and message[1] == word and message[2] in wanted)
+    with open(os.path.join(HERE, "../scripts/words.sh"), encoding="utf-8") as script:
+        taken = set(re.findall("(--[a-z][a-z-]+)[=) ]", script.read().split("# The words of this kind")[0])) | {"--with"}
+    for word in sorted(taken - set(helped)):
+        told = f"error: {word} is no option of the program: the nearest is {word}, of the scripts\n"
+        yield f"{word}, of the scripts", (2, "", told), run(["order", word, "x"], b"")
     yield "--version", (0, "guppy-cargo of guppy 0.19.1, proved\n", ""), run(["--version"], b"")
     for words, fault in (
         ("help no-such", "help is no command: guppy-cargo help lists them"),
@@ -671,6 +706,7 @@ PARTS = {
     "dot": try_dot,
     "affected": try_affected,
     "what is left out": try_left_out,
+    "what is given": try_given,
     "names": try_names,
     "options": try_options,
     "platforms": try_platforms,

@@ -1,6 +1,6 @@
 -- The packages of this machine, by their folders.
-use Rattle.std.proofs.Common.{◌≡◌, inl, inr, ⊎_elim, refl, sym, ap, subst, ℕ, zero, suc, ◌<◌, List, [], ◌∷◌, ◌++◌, length, Contains, Bor, arith}
-use Rattle.std.specs.Prelude.{◌↔◌, Option, IsSomeAnd, None, Some}
+use Rattle.std.proofs.Common.{◌≡◌, ◌∙◌, inl, inr, ⊎_elim, refl, sym, ap, subst, ℕ, zero, suc, ◌<◌, List, [], ◌∷◌, ◌++◌, length, Contains, Bor, arith}
+use Rattle.std.specs.Prelude.{◌↔◌, Option, IsSomeAnd, None, Some, slice_get}
 use Rattle.std.specs.List.{range_with_len}
 use Rattle.std.specs.List.Sorted.{IsPermutation}
 use Rattle.std.proofs.lemmas.List.Elements.{Contains-append_left, Contains-push, Contains-push_cases}
@@ -9,6 +9,7 @@ use Rattle.std.proofs.lemmas.List.Sorted.{Contains-permutation, IsPermutation-sy
 use Rattle.guppy.specs.Path.{Part, components}
 use Rattle.guppy.specs.DataTypes.records.PackageRecord.{PackageRecord}
 use Rattle.guppy.specs.Graph.{GraphData}
+use Rattle.guppy.specs.Ids.{HasId}
 use Rattle.guppy.specs.Iterators.{packages_of}
 use Rattle.guppy_affected.specs.Folders.{folder_at}
 use Rattle.guppy_affected.specs.Found.{IsFolder}
@@ -31,6 +32,18 @@ pub with_folder_within : (P : List ℕ → Type 0) (packages : List PackageRecor
 with_folder_within P [] p h = absurd h
 with_folder_within P (r ∷ packages) zero h = omega arith
 with_folder_within P (r ∷ packages) (suc p) h = let below = with_folder_within P packages p h in omega arith
+
+-- so is one that has an ID
+pub with_id_within : (packages : List PackageRecord) (id : List ℕ) (p : ℕ) → HasId packages id p → p < length packages
+with_id_within [] id p h = absurd h
+with_id_within (r ∷ packages) id zero h = omega arith
+with_id_within (r ∷ packages) id (suc p) h = let below = with_id_within packages id p h in omega arith
+
+-- it has the ID that is its record's
+pub id_at : (packages : List PackageRecord) (own id : List ℕ) (p : ℕ) → IsSomeAnd (slice_get packages p) (λ r. own ≡ r.id) → HasId packages id p ↔ (own ≡ id)
+id_at packages own id p its =
+    let one = with_own (λ (r : PackageRecord). own ≡ r.id) (slice_get packages p) its in
+    rw one.1 (λ same. one.2 ∙ same, λ same. sym one.2 ∙ same)
 
 module _ (g : Bor GraphData) (seen : List (Bor GraphData × ℕ)) (all : IsPermutation (packages_of g) seen) where
   -- each package was seen, and no package of another graph

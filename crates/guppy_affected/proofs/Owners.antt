@@ -13,12 +13,12 @@ use Rattle.guppy.specs.Query.{IsSetWhere}
 use Rattle.guppy_folders.specs.Folders.{IsInside, LiesIn, IsLongest, HoldsNone, HoldsNoneBelow, HoldsOne}
 use Rattle.guppy_folders.specs.Touched.{IsIgnored, IsOneOutside, AreLongest, AreCounted}
 use Rattle.guppy_folders.proofs.LongestFolders.{no_components}
-use Rattle.guppy_affected.specs.Folders.{folder_at, Holds, Belongs, IsBelow, IsHeldByRoot, depth}
+use Rattle.guppy_affected.specs.Folders.{Given, folder_at, Holds, Belongs, IsBelow, IsHeldByRoot, depth}
 use Rattle.guppy_affected.specs.Found.{AreFolders}
 use Rattle.guppy_affected.specs.Changed.{IsForAll, IsTouched, AreChanged, HasFolderIn, IsChangedBy, IsAdded, ArePlaces}
 use Rattle.guppy_affected.proofs.Iterators.{where_along}
-use Rattle.guppy_affected.proofs.Targets.{elsewhere_touched}
-use Rattle.guppy_affected.proofs.Local.{was_seen, of_graph, with_own}
+use Rattle.guppy_affected.proofs.Targets.{elsewhere_touched, given_touched}
+use Rattle.guppy_affected.proofs.Local.{was_seen, of_graph, with_folder_within, with_id_within, with_own}
 use Rattle.guppy_affected.proofs.Tests.{none_in}
 
 -- of the packages with P, those that were seen are in the set, and the others are still to come
@@ -63,6 +63,11 @@ module _ (graph : GraphData) (P : ℕ → Type 0) (set : List Bool) where
       inside = are.inside;
       rest = λ p h. ⊎_elim (λ k. inl k) (λ (b, there). ⊎_elim (λ same. absurd (has_not (subst P (sym same) h))) (λ later. inr (b, later)) (first_or_later b p there)) (are.rest p h);
     }
+
+-- a package that changed is one
+pub changed_within : (g : GraphData) (also : List Given) (folders paths places : List (List Part)) (p : ℕ) → IsChangedBy g also folders paths places p → p < length g.packages
+changed_within g also folders paths places p = ⊎_elim (with_folder_within _ g.packages p)
+    (⊎_elim (with_folder_within _ g.packages p) (λ (given, is, its, meets). with_id_within g.packages given.1 p its))
 
 -- with one more package, where P holds of it
 module _ (g : GraphData) (P : ℕ → Type 0) (e : Bor GraphData × ℕ) (left : List (Bor GraphData × ℕ)) (set more : List Bool)
@@ -152,14 +157,14 @@ module _ (packages : List PackageRecord) (folders : List (List Part)) (are : Are
           (λ apart. inr (⊎_elim (λ none. inl (λ folder is inside. let q = holding path folder is inside in none q.0 q.1)) (λ alone. inr (held_by_root path alone.0, alone.1)) apart)) everyones,
     )
 
-module _ (g : GraphData) (folders : List (List Part)) (are : AreFolders g.packages folders) (paths ignored : List (List ℕ)) where
+module _ (g : GraphData) (folders : List (List Part)) (are : AreFolders g.packages folders) (paths ignored : List (List ℕ)) (also : List Given) where
   -- where one of the paths is everyone's, the members changed
-  pub changed_all : (set : List Bool) → IsOneOutside folders paths ignored → IsSetWhere g.packages (IsMember g.packages) set → AreChanged g paths ignored set
+  pub changed_all : (set : List Bool) → IsOneOutside folders paths ignored → IsSetWhere g.packages (IsMember g.packages) set → AreChanged g paths ignored also set
   changed_all set outside where_members = inl (outside_all g.packages folders are paths ignored outside, where_members)
 
   module _ (touched counted places : List (List Part)) (longest : AreLongest folders paths ignored touched) (those : AreCounted paths ignored counted) (lead : ArePlaces g.workspace.root paths ignored places) (p : ℕ) where
     -- a package changed where its folder is one of the longest or lies in one of the paths
-    folder_touched : HasFolderIn g.packages touched counted p → IsTouched g paths ignored p
+    folder_touched : HasFolderIn g.packages touched counted p → IsTouched g paths ignored also p
     folder_touched has =
         let own = with_own (λ own. Contains touched (components own) ⊎ HoldsOne counted (components own)) (folder_at g.packages p) has in
         ⊎_elim (λ there. let one = (longest.longest (components own.0)).0 there in (one.0, one.1, one.2, inl (longest_belongs g.packages folders are one.0 p own.0 own.1 one.3)))
@@ -176,18 +181,22 @@ module _ (g : GraphData) (folders : List (List Part)) (are : AreFolders g.packag
         rw own.1 (inr (components path, (those (components path)).1 (path, there, counts, refl), own.2)))
         changes
 
-    -- or where a target of it lies elsewhere, in a folder that meets one of the places
-    changed_touched : IsChangedBy g touched counted places p ↔ IsTouched g paths ignored p
+    -- or where a target of it lies elsewhere, or a folder is given to it, which meets one of the places
+    changed_touched : IsChangedBy g also touched counted places p ↔ IsTouched g paths ignored also p
     changed_touched =
-        let far = elsewhere_touched g paths ignored places lead p in (
-          λ changed. ⊎_elim folder_touched (λ elsewhere. let one = far.0 elsewhere in (one.0, one.1, one.2, inr (inr one.3))) changed,
+        let far = elsewhere_touched g paths ignored places lead p in
+        let near = given_touched g paths ignored places lead p also in (
+          λ changed. ⊎_elim folder_touched
+              (λ other. ⊎_elim (λ elsewhere. let one = far.0 elsewhere in (one.0, one.1, one.2, inr (inr (inl one.3))))
+              (λ given. let one = near.0 given in (one.0, one.1, one.2, inr (inr (inr one.3)))) other) changed,
           λ (path, there, counts, changes). ⊎_elim (λ belongs. inl (touched_folder path there counts (inl belongs)))
-              (λ more. ⊎_elim (λ below. inl (touched_folder path there counts (inr below))) (λ elsewhere. inr (far.1 (path, there, counts, elsewhere))) more) changes,
+              (λ more. ⊎_elim (λ below. inl (touched_folder path there counts (inr below)))
+              (λ other. inr (⊎_elim (λ elsewhere. inl (far.1 (path, there, counts, elsewhere))) (λ given. inr (near.1 (path, there, counts, given))) other)) more) changes,
         )
 
   -- and else the packages that are changed by one of them
   pub changed_some : (set : List Bool) (touched counted places : List (List Part)) → AreLongest folders paths ignored touched → AreCounted paths ignored counted → ArePlaces g.workspace.root paths ignored places
-      → IsSetWhere g.packages (IsChangedBy g touched counted places) set → AreChanged g paths ignored set
+      → IsSetWhere g.packages (IsChangedBy g also touched counted places) set → AreChanged g paths ignored also set
   changed_some set touched counted places longest those lead where_changed = inr (
     λ all. longest.inside (all_outside g.packages folders are paths ignored all),
     where_along g.packages set (λ p. changed_touched touched counted places longest those lead p) where_changed,

@@ -1,5 +1,5 @@
 -- Packages with targets elsewhere, and where paths lead.
-use Rattle.std.proofs.Common.{◌≡◌, refl, sym, subst, ℕ, Bool, List, ◌++◌, map, Contains, None, Some}
+use Rattle.std.proofs.Common.{◌≡◌, ◌⊎◌, inl, inr, ⊎_elim, refl, sym, subst, ℕ, Bool, List, [], ◌++◌, map, Contains, None, Some, arith}
 use Rattle.std.specs.Prelude.{◌↔◌, IsTrue, Option, IsSomeAnd, slice_get}
 use Rattle.std.proofs.lemmas.List.Sorted.{Contains-permutation, IsPermutation-sym}
 use Rattle.guppy.specs.Path.{Part, components}
@@ -10,7 +10,8 @@ use Rattle.guppy.specs.Targets.{AreTargetsById}
 use Rattle.guppy_folders.specs.Places.{resolved, MeetsOne}
 use Rattle.guppy_folders.specs.Touched.{IsIgnored, OfOne, AreCounted}
 use Rattle.guppy_folders.proofs.Elements.{Contains-map, from_map}
-use Rattle.guppy_affected.specs.Folders.{folder_at, place, place_above, Meets, OneElsewhere, HasTargetElsewhere, IsElsewhere}
+use Rattle.guppy_affected.specs.Affected.{IsAffected}
+use Rattle.guppy_affected.specs.Folders.{folder_at, Belongs, IsBelow, place, place_above, Meets, OneElsewhere, HasTargetElsewhere, IsElsewhere, Given, HasFolderGiven, IsAlso, Changes}
 use Rattle.guppy_affected.specs.Changed.{ArePlaces}
 use Rattle.guppy_affected.proofs.Local.{with_own}
 
@@ -74,3 +75,30 @@ module _ (g : GraphData) (paths ignored : List (List ℕ)) (places : List (List 
         λ (path, there, counts, far). both_along (folder_at g.packages p) (slice_get g.packages p) (Found (at path)) (Found (λ folder. MeetsOne folder places))
             (λ own r found. (found.0, found.1, (found.2.0, (place root path, (lead (place root path)).1 (path, there, counts, refl), found.2.1)))) far,
       )
+
+  -- so does one that is given to a package
+  pub given_touched : (also : List Given) → HasFolderGiven g also (λ folder. MeetsOne folder places) p ↔ OfOne paths ignored (λ path. IsAlso g also path p)
+  given_touched also =
+      let root = g.workspace.root in (
+        λ (given, is, its, there, lies, meets).
+            let path = (lead there).0 lies in
+            (path.0, path.1, path.2, (given, is, its, subst (Meets (place root given.0)) (sym path.3) meets)),
+        λ (path, there, counts, (given, is, its, meets)). (given, is, its, (place root path, (lead (place root path)).1 (path, there, counts, refl), meets)),
+      )
+
+-- where no folder is given, a package that changed did for another reason
+pub changed_otherwise : (g : GraphData) (path : List ℕ) (p : ℕ) → Changes g [] path p → Belongs g.packages path p ⊎ (IsBelow g.packages path p ⊎ IsElsewhere g path p)
+changed_otherwise g path p = ⊎_elim (λ belongs. inl belongs)
+    (⊎_elim (λ below. inr (inl below)) (⊎_elim (λ elsewhere. inr (inr elsewhere)) (λ (given, (k, within, same), its). absurd (omega arith))))
+
+-- and is one where folders are given
+changed_anyway : (g : GraphData) (also : List Given) (path : List ℕ) (p : ℕ) → Changes g [] path p → Changes g also path p
+changed_anyway g also path p changes = ⊎_elim (λ belongs. inl belongs)
+    (⊎_elim (λ below. inr (inl below)) (λ elsewhere. inr (inr (inl elsewhere)))) (changed_otherwise g path p changes)
+
+-- so is a member that is affected
+pub affected_anyway : (g : GraphData) (paths ignored : List (List ℕ)) (also : List Given) (p : ℕ) → IsAffected g paths ignored [] p → IsAffected g paths ignored also p
+affected_anyway g paths ignored also p (member, (path, there, counts, affects)) = (
+  member,
+  (path, there, counts, ⊎_elim (λ everyones. inl everyones) (λ (q, changes, tested). inr (q, changed_anyway g also path q changes, tested)) affects),
+)

@@ -1,9 +1,11 @@
 -- The folders of the packages of this machine, and to which of these packages a path belongs.
-use Rattle.std.specs.Prelude.{◌≡◌, ◌⊎◌, ℕ, ◌≤◌, List, length, Contains, Option, IsSomeAnd, slice_get}
+use Rattle.std.specs.Prelude.{◌≡◌, ◌⊎◌, ℕ, ◌≤◌, List, length, map, Contains, Option, IsSomeAnd, slice_get}
+use Rattle.std.specs.Borrow.{Bor}
 use Rattle.guppy.specs.Path.{Part, components}
 use Rattle.guppy.specs.DataTypes.records.BuildTargetRecord.{BuildTargetRecord}
 use Rattle.guppy.specs.DataTypes.records.PackageRecord.{PackageRecord}
 use Rattle.guppy.specs.Graph.{GraphData}
+use Rattle.guppy.specs.Ids.{HasId}
 use Rattle.guppy.specs.Keys.{or_empty, item_key}
 use Rattle.guppy.specs.PackageSource.{local_path, recorded_origin}
 pub use Rattle.guppy_folders.specs.Folders.{LiesIn, IsInside}
@@ -59,8 +61,28 @@ abbrev pub IsElsewhere : GraphData → List ℕ → ℕ → Type 0
 IsElsewhere g path p =
     HasTargetElsewhere g (λ folder. Meets folder (place g.workspace.root path)) p
 
+-- a folder that is given to a package beside its own, and the ID of that package
+abbrev pub Given : Type 0
+Given = List ℕ × List ℕ
+
+-- the folders that are given, each with the ID of its package
+abbrev pub given_in : List (Bor (List ℕ) × List ℕ) → List Given
+given_in = map (λ given. (given.0.now, given.1))
+
+-- the folder is given to the package at the position, with P of where it is
+abbrev pub IsGivenTo : GraphData → (List Part → Type 0) → ℕ → Given → Type 0
+IsGivenTo g P p given = HasId g.packages given.1 p × P (place g.workspace.root given.0)
+
+-- one of the folders is
+abbrev pub HasFolderGiven : GraphData → List Given → (List Part → Type 0) → ℕ → Type 0
+HasFolderGiven g also P p = (given : Given) × Contains also given × IsGivenTo g P p given
+
+-- the path leads into such a folder, or that folder lies where it leads
+abbrev pub IsAlso : GraphData → List Given → List ℕ → ℕ → Type 0
+IsAlso g also path p = HasFolderGiven g also (λ folder. Meets folder (place g.workspace.root path)) p
+
 -- a change at the path is one of the package at the position: the path belongs to it, or holds its folder, or is
--- where a target of it lies elsewhere
-abbrev pub Changes : GraphData → List ℕ → ℕ → Type 0
-Changes g path p =
-    Belongs g.packages path p ⊎ (IsBelow g.packages path p ⊎ IsElsewhere g path p)
+-- where a target of it lies elsewhere, or in a folder that is given to it
+abbrev pub Changes : GraphData → List Given → List ℕ → ℕ → Type 0
+Changes g also path p = Belongs g.packages path p
+    ⊎ (IsBelow g.packages path p ⊎ (IsElsewhere g path p ⊎ IsAlso g also path p))

@@ -8,6 +8,7 @@ use Rattle.guppy.specs.Query.{SetData}
 use Rattle.guppy.specs.Reach.{LinkStep, Walk}
 use Rattle.guppy_affected.specs.Affected.{IsTestedWith}
 use Rattle.guppy_affected.specs.Changed.{AreChanged}
+use Rattle.guppy_affected.specs.Folders.{Given}
 
 -- exactly the packages from which walks over links that aren't dev-only lead into the set
 abbrev pub AreBuiltFrom : SetData → SetData → Type 0
@@ -26,6 +27,6 @@ AreTestedWith set tested = (p : ℕ) → IsIn tested.included p
     ↔ ((q : ℕ) × IsIn set.included q × IsTestedWith set.graph p q)
 
 -- exactly the packages that are tested with one that the paths touch
-abbrev pub AreTestedAfter : GraphData → List (List ℕ) → List (List ℕ) → SetData → Type 0
-AreTestedAfter g paths ignored tested = (changed : SetData) × (changed.graph ≡ g)
-    × AreChanged g paths ignored changed.included × AreTestedWith changed tested
+abbrev pub AreTestedAfter : GraphData → List (List ℕ) → List (List ℕ) → List Given → SetData → Type 0
+AreTestedAfter g paths ignored also tested = (changed : SetData) × (changed.graph ≡ g)
+    × AreChanged g paths ignored also changed.included × AreTestedWith changed tested

@@ -4,18 +4,23 @@
 //!
 //! - `folders`: the folders of the packages of this machine; `guppy_folders` tells which of them holds a path;
 //! - `elsewhere`: targets whose sources lie outside of their packages' folders;
+//! - `given`: folders that are given to packages beside their own;
 //! - `touched`: the packages that changed themselves;
 //! - `tested`: the packages whose tests are built from changed ones;
-//! - the crate itself: the members among these.
+//! - the crate itself: the members among these;
+//! - `laws`: what folders that are given add.
 #![tactic(auto)]
 
 ghost use Rattle.std.specs.Prelude.{◌≡◌, map, string_bytes, IfOk, IsOkUnless};
 ghost use Rattle.guppy.specs.Query.{IsSetWhere};
 ghost use Rattle.guppy_affected.specs.Affected.{AreAffectedIds, IsAffected};
+ghost use Rattle.guppy_affected.specs.Folders.{given_in};
 ghost use Rattle.guppy_affected.specs.Tested.{AreTestedAfter};
 
 mod elsewhere;
 mod folders;
+mod given;
+pub mod laws;
 mod tested;
 mod touched;
 
@@ -29,13 +34,14 @@ fn tested_set<'g>(
     graph: &'g PackageGraph,
     paths: &[String],
     ignored: &[String],
+    also: &[(&str, PackageId)],
 ) -> Result<PackageSet<'g>, Error>
     ensures graph { IfOk result (λ set. set.graph ≡ graph.now) }
     ensures tested { IfOk result (AreTestedAfter graph.now (map string_bytes paths.now)
-        (map string_bytes ignored.now)) }
+        (map string_bytes ignored.now) (given_in also.now)) }
     ensures error { IsOkUnless result Error.OutOfMemory }
 {
-    let changed = changed_packages(graph, paths, ignored)?;
+    let changed = changed_packages(graph, paths, ignored, also)?;
     tested_with(&changed)
 }
 
@@ -44,14 +50,15 @@ fn affected_set<'g>(
     graph: &'g PackageGraph,
     paths: &[String],
     ignored: &[String],
+    also: &[(&str, PackageId)],
 ) -> Result<PackageSet<'g>, Error>
     ensures graph { IfOk result (λ set. set.graph ≡ graph.now) }
     ensures members { IfOk result (λ set. IsSetWhere graph.now.packages
-        (IsAffected graph.now (map string_bytes paths.now) (map string_bytes ignored.now))
+        (IsAffected graph.now (map string_bytes paths.now) (map string_bytes ignored.now) (given_in also.now))
         set.included) }
     ensures error { IsOkUnless result Error.OutOfMemory }
 {
-    let tested = tested_set(graph, paths, ignored)?;
+    let tested = tested_set(graph, paths, ignored, also)?;
     let members = graph.resolve_workspace()?;
     tested.intersection(&members)
 }
@@ -67,9 +74,11 @@ fn affected_set<'g>(
 /// package, and of each whose own folder it holds, as a submodule does, which git tells as one path. It is
 /// also one of each package with a target whose source lies outside of the package's folder, where the path
 /// leads into the folder of that source, or holds it: from the workspace's root, with each `.` and `..`
-/// resolved as if there were no symbolic links. It affects the members that are tested with these: the
-/// packages themselves, and those from which a link of any kind leads to a package from which links that
-/// aren't dev-only lead to one, since a package's dev-dependencies are built for its own tests alone.
+/// resolved as if there were no symbolic links; and one of each package to which such a folder is given in
+/// `also`, by the package's ID, as one with files that only its build script reads. It affects the members
+/// that are tested with these: the packages themselves, and those from which a link of any kind leads to a
+/// package from which links that aren't dev-only lead to one, since a package's dev-dependencies are built
+/// for its own tests alone.
 ///
 /// All members are affected by a path that no package's own folder holds, as `../x`, or only that of a
 /// package at the workspace's root, but for `build.rs` and what lies in `src`, `tests`, `examples` and
@@ -80,18 +89,20 @@ fn affected_set<'g>(
 /// links, times the logarithm of the packages; with each path, times the folders to leave out, and times
 /// its components and the logarithm of the packages; with each package, times its folder's components and
 /// the logarithm of the paths; with each target, and where its source lies outside of its package's folder,
+/// times the paths; with each package, times the folders that are given, and for each of its own of these
 /// times the paths; and with each package that changed, times the packages, 64 to a step. Takes memory for
 /// the components of each folder and path, and some numbers a package.
 pub fn affected<'g>(
     graph: &'g PackageGraph,
     paths: &[String],
     ignored: &[String],
+    also: &[(&str, PackageId)],
 ) -> Result<Vec<&'g PackageId>, Error>
     ensures answer { IfOk result (λ ids. AreAffectedIds graph.now (map string_bytes paths.now)
-        (map string_bytes ignored.now) (map (λ id. id.now) ids.items)) }
+        (map string_bytes ignored.now) (given_in also.now) (map (λ id. id.now) ids.items)) }
     ensures error { IsOkUnless result Error.OutOfMemory }
 {
-    let members = affected_set(graph, paths, ignored)?;
+    let members = affected_set(graph, paths, ignored, also)?;
     let ids = members.package_ids(DependencyDirection::Reverse);
     Ok(ids.collect(graph.alloc())?)
 }

@@ -1,20 +1,22 @@
 -- Why arguments ask nothing, as it is told.
-use Rattle.std.specs.Prelude.{◌≡◌, ℕ, ◌+◌, List, ◌++◌, Option, Some, None, MatchOption, String, codes, string_bytes}
+use Rattle.std.specs.Prelude.{◌≡◌, ℕ, ◌+◌, true, false, List, ◌++◌, Option, Some, None, IfSome, MatchOption, String, codes, string_bytes}
 use Rattle.std.specs.declared.alloc.Global.{Global}
 use Rattle.std.specs.Fmt.{decimal}
 use Rattle.guppy_data.specs.declared.texts.error.Error.TheVariants.{OutOfMemory}
 use Rattle.guppy_command.specs.declared.fault.Fault.TheVariants.{Library}
-use Rattle.guppy_command.specs.Grammar.{Misread, no_option, no_value, needless_value, repeated, not_taken, no_command, unknown_command, bad_words, bad_kinds, bad_resolver, lone_platform, lone_host, all_ignored, no_paths, cfgs_failed, bad_cfg, paths_failed, unended_paths}
+use Rattle.guppy_command.specs.Grammar.{Misread, no_option, no_value, needless_value, repeated, not_taken, no_command, unknown_command, bad_words, bad_kinds, bad_resolver, lone_platform, lone_host, all_ignored, no_paths, cfgs_failed, bad_cfg, paths_failed, unended_paths, bad_also}
 use Rattle.guppy_command.specs.Asked.{IsMisread}
 use Rattle.guppy_arguments.specs.declared.fault.CargoFault.{CargoFault}
 use Rattle.guppy_arguments.specs.declared.fault.CargoFault.TheVariants.{Program, Arguments}
 use Rattle.guppy_arguments.specs.declared.told.ArgumentsFault.{ArgumentsFault}
-use Rattle.guppy_arguments.specs.declared.told.ArgumentsFault.TheVariants.{NoOption, NoValue, NeedlessValue, Repeated, NotTaken, NoCommand, UnknownCommand, BadWords, BadKinds, BadResolver, LonePlatform, LoneHost, AllIgnored, NoPaths, CfgsFailed, BadCfg, PathsFailed, UnendedPaths}
+use Rattle.guppy_arguments.specs.declared.told.ArgumentsFault.TheVariants.{NoOption, NoValue, NeedlessValue, Repeated, NotTaken, NoCommand, UnknownCommand, BadWords, BadKinds, BadResolver, LonePlatform, LoneHost, AllIgnored, NoPaths, CfgsFailed, BadCfg, PathsFailed, UnendedPaths, OfScripts, BadAlso}
 use Rattle.guppy_arguments.specs.Nearest.{IsFar, IsNearest}
-use Rattle.guppy_arguments.specs.Table.{cargo_program, command_names, option_names, usage_of}
+use Rattle.guppy_arguments.specs.Scripts.{all_names, is_of_scripts}
+use Rattle.guppy_arguments.specs.Table.{cargo_program, command_names, usage_of}
 
 abbrev pub misread_of : ArgumentsFault → Misread
 misread_of (NoOption word nearest) = no_option (string_bytes word)
+misread_of (OfScripts word nearest) = no_option (string_bytes word)
 misread_of (NoValue name) = no_value (string_bytes name)
 misread_of (NeedlessValue name) = needless_value (string_bytes name)
 misread_of (Repeated name) = repeated (string_bytes name)
@@ -27,6 +29,7 @@ misread_of (BadResolver value) = bad_resolver (string_bytes value)
 misread_of LonePlatform = lone_platform
 misread_of LoneHost = lone_host
 misread_of (AllIgnored folder) = all_ignored (string_bytes folder)
+misread_of (BadAlso text) = bad_also (string_bytes text)
 misread_of NoPaths = no_paths
 misread_of (CfgsFailed file) = cfgs_failed (string_bytes file)
 misread_of (BadCfg triple before) = bad_cfg (string_bytes triple) before
@@ -38,9 +41,15 @@ abbrev pub IsNearestIfAny : List (List ℕ) → List ℕ → Option (String Glob
 IsNearestIfAny names word nearest =
     MatchOption nearest (IsFar word names) (λ name. IsNearest word names (string_bytes name))
 
--- the nearest option or command is told with a word that is none
+-- it is an option of the program
+abbrev pub IsOwn : String Global → Type 0
+IsOwn name = is_of_scripts (string_bytes name) ≡ false
+
+-- the nearest option or command is told with a word that is none, and whether that is an option of the scripts
 abbrev pub HasNearest : ArgumentsFault → Type 0
-HasNearest (NoOption word nearest) = IsNearestIfAny option_names (string_bytes word) nearest
+HasNearest (NoOption word nearest) = IsNearestIfAny all_names (string_bytes word) nearest × IfSome nearest IsOwn
+HasNearest (OfScripts word nearest) =
+    IsNearest (string_bytes word) all_names (string_bytes nearest) × (is_of_scripts (string_bytes nearest) ≡ true)
 HasNearest (UnknownCommand word nearest) = IsNearestIfAny command_names (string_bytes word) nearest
 HasNearest _ = Unit {0}
 
@@ -57,6 +66,9 @@ hint None = codes "guppy-cargo help lists them"
 
 abbrev pub arguments_text : ArgumentsFault → List ℕ
 arguments_text (NoOption word nearest) = string_bytes word ++ (codes " is no option: " ++ hint nearest)
+arguments_text (OfScripts word nearest) =
+    string_bytes word ++ (codes " is no option of the program: the nearest is "
+    ++ (string_bytes nearest ++ codes ", of the scripts"))
 arguments_text (NoValue name) = codes "a value is missing behind " ++ string_bytes name
 arguments_text (NeedlessValue name) = string_bytes name ++ codes " takes no value"
 arguments_text (Repeated name) = string_bytes name ++ codes " is given twice"
@@ -72,6 +84,8 @@ arguments_text LonePlatform = codes "give --cfgs FILE behind each --platform TRI
 arguments_text LoneHost = codes "give both --host TRIPLE and --host-cfgs FILE"
 arguments_text (AllIgnored folder) =
     codes "--ignore " ++ (string_bytes folder ++ codes " leaves out everything: give a folder")
+arguments_text (BadAlso text) =
+    string_bytes text ++ codes " is no folder of a package: give --also FOLDER=PACKAGE"
 arguments_text NoPaths = codes "affected needs a path, --paths-from FILE or, of the scripts, --since REVISION"
 arguments_text (CfgsFailed file) = string_bytes file ++ codes ": the cfgs in it can't be read"
 arguments_text (BadCfg triple before) = string_bytes triple ++ (codes ": line " ++ (decimal (before + 1)

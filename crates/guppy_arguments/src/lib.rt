@@ -3,7 +3,7 @@
 //!
 //! The modules, from the bottom up:
 //!
-//! - `table`: the options and commands;
+//! - `table`: the options and commands; `scripts`: the options of the scripts;
 //! - `nearest`: the name nearest to a word;
 //! - `told`: what the arguments ask, or why they ask nothing;
 //! - `fault`: why there is no answer;
@@ -18,6 +18,7 @@ mod help;
 pub mod laws;
 mod names;
 mod nearest;
+mod scripts;
 mod table;
 mod told;
 mod words;
@@ -26,6 +27,7 @@ pub use fault::CargoFault;
 pub use help::help_of;
 pub use names::Names;
 pub use nearest::nearest_of;
+pub use scripts::SCRIPT_OPTIONS;
 pub use table::{COMMANDS, OPTIONS, USAGES};
 pub use told::{ArgumentsFault, asked_of};
 pub use words::arguments_in;

@@ -5,8 +5,8 @@ ghost use Rattle.guppy_arguments.specs.Table.{cargo_program, usage_of};
 
 use guppy_command::grammar::{OptionRow, Program};
 use guppy_command::table::{
-    ALL_FEATURES, CFGS, FEATURES, HOST, HOST_CFGS, IDS, IGNORE, KINDS, MEMBER, NO_DEFAULT_FEATURES,
-    PATHS_FROM, PLATFORM, PUBLISHABLE, RESOLVER, TESTS, WORKSPACE,
+    ALL_FEATURES, ALSO, CFGS, FEATURES, HOST, HOST_CFGS, IDS, IGNORE, KINDS, MEMBER,
+    NO_DEFAULT_FEATURES, PATHS_FROM, PLATFORM, PUBLISHABLE, RESOLVER, TESTS, WORKSPACE,
 };
 
 // The commands that ask about links.
@@ -88,6 +88,14 @@ pub const OPTIONS: &[OptionRow] = &[
         true,
         Some(&["affected"]),
         "leaves out what lies in this folder",
+    ),
+    (
+        ALSO,
+        Some("FOLDER=PACKAGE"),
+        true,
+        Some(&["affected"]),
+        "what changed in this folder changes this package, too, as one whose build script\n      \
+         reads there",
     ),
     (
         PATHS_FROM,

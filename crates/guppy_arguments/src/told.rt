@@ -2,12 +2,16 @@
 ghost use Rattle.std.specs.Prelude.{◌≡◌, map, string_bytes, Some, IfOk, IfErr};
 ghost use Rattle.guppy_command.specs.Asked.{Asks};
 ghost use Rattle.guppy_command.specs.Shown.{asked_shown, misread_shown};
-ghost use Rattle.guppy_arguments.specs.Table.{cargo_program, option_names};
+ghost use Rattle.guppy_command.specs.Grammar.{no_option};
+ghost use Rattle.guppy_arguments.specs.Nearest.{IsNearest};
+ghost use Rattle.guppy_arguments.specs.Scripts.{all_names};
+ghost use Rattle.guppy_arguments.specs.Table.{cargo_program};
 ghost use Rattle.guppy_arguments.specs.Told.{misread_of, HasNearest, IsNearestIfAny, Tells};
 
 use crate::fault::CargoFault;
 use crate::nearest::nearest_of;
-use crate::table::{COMMANDS, OPTIONS, program, usage_of};
+use crate::scripts::{all_names, is_of_scripts};
+use crate::table::{COMMANDS, program, usage_of};
 use guppy_command::grammar::Misread;
 use guppy_command::{Asked, Files, found};
 use std::alloc::{AllocError, Global};
@@ -22,6 +26,13 @@ pub enum ArgumentsFault {
         word: String,
         /// The nearest option, where one is near.
         nearest: Option<String>,
+    },
+    /// No option is called as the word says, and the nearest is one of the scripts.
+    OfScripts {
+        /// The word, as it was given.
+        word: String,
+        /// The nearest option.
+        nearest: String,
     },
     /// Nothing stands behind the option, which takes a value.
     NoValue(String),
@@ -57,6 +68,8 @@ pub enum ArgumentsFault {
     LoneHost,
     /// The folder to leave out is the whole workspace, or none.
     AllIgnored(String),
+    /// The value names no folder and package, parted by a `=`.
+    BadAlso(String),
     /// No path is given.
     NoPaths,
     /// The file with what is set on a platform can't be read.
@@ -89,6 +102,10 @@ impl fmt::Display for ArgumentsFault {
             ArgumentsFault::NoOption { word, .. } => {
                 write!(f, "{word} is no option: guppy-cargo help lists them")
             }
+            ArgumentsFault::OfScripts { word, nearest } => write!(
+                f,
+                "{word} is no option of the program: the nearest is {nearest}, of the scripts"
+            ),
             ArgumentsFault::NoValue(name) => write!(f, "a value is missing behind {name}"),
             ArgumentsFault::NeedlessValue(name) => write!(f, "{name} takes no value"),
             ArgumentsFault::Repeated(name) => write!(f, "{name} is given twice"),
@@ -124,6 +141,12 @@ impl fmt::Display for ArgumentsFault {
             ArgumentsFault::AllIgnored(folder) => {
                 write!(f, "--ignore {folder} leaves out everything: give a folder")
             }
+            ArgumentsFault::BadAlso(text) => {
+                write!(
+                    f,
+                    "{text} is no folder of a package: give --also FOLDER=PACKAGE"
+                )
+            }
             ArgumentsFault::NoPaths => f.write_str(
                 "affected needs a path, --paths-from FILE or, of the scripts, --since REVISION",
             ),
@@ -142,13 +165,6 @@ impl fmt::Display for ArgumentsFault {
     }
 }
 
-// What the options are called.
-fn option_names(alloc: Global) -> Result<Vec<&'static str>, AllocError>
-    ensures { IfOk result (λ names. map (λ name. name.now) names.items ≡ option_names) }
-{
-    OPTIONS.iter().map(|row| row.0).collect(alloc)
-}
-
 // The nearest of the names, where one is near.
 fn copy_of_nearest(alloc: Global, word: &str, names: &[&str]) -> Result<Option<String>, AllocError>
     ensures { IfOk result (IsNearestIfAny (map (λ name. name.now) names.now) word.now) }
@@ -159,6 +175,40 @@ fn copy_of_nearest(alloc: Global, word: &str, names: &[&str]) -> Result<Option<S
     }
 }
 
+// The fault of a word that no option is called, to which this one is nearest.
+fn nearest_told(alloc: Global, word: &str, nearest: &str) -> Result<ArgumentsFault, AllocError>
+    ensures misread { IfOk result (λ fault. misread_of fault ≡ no_option word.now) }
+    ensures nearest { IsNearest word.now all_names nearest.now → IfOk result HasNearest }
+{
+    let word = String::from_str(alloc, word)?;
+    let name = String::from_str(alloc, nearest)?;
+    if is_of_scripts(nearest) {
+        Ok(ArgumentsFault::OfScripts {
+            word,
+            nearest: name,
+        })
+    } else {
+        Ok(ArgumentsFault::NoOption {
+            word,
+            nearest: Some(name),
+        })
+    }
+}
+
+// The fault of a word that no option is called.
+fn no_option(alloc: Global, word: &str) -> Result<ArgumentsFault, AllocError>
+    ensures misread { IfOk result (λ fault. misread_of fault ≡ no_option word.now) }
+    ensures nearest { IfOk result HasNearest }
+{
+    match nearest_of(alloc, word, all_names(alloc)?.as_slice())? {
+        Some(nearest) => nearest_told(alloc, word, nearest),
+        None => Ok(ArgumentsFault::NoOption {
+            word: String::from_str(alloc, word)?,
+            nearest: None,
+        }),
+    }
+}
+
 // The fault that tells why arguments ask nothing.
 fn told(alloc: Global, misread: Misread<'_>) -> Result<ArgumentsFault, AllocError>
     ensures misread { IfOk result (λ fault. misread_shown misread.entry ≡ Some (misread_of fault)) }
@@ -166,10 +216,7 @@ fn told(alloc: Global, misread: Misread<'_>) -> Result<ArgumentsFault, AllocErro
 {
     let copy = |text: &str| String::from_str(alloc, text);
     match misread {
-        Misread::NoOption(word) => Ok(ArgumentsFault::NoOption {
-            word: String::from_str(alloc, word)?,
-            nearest: copy_of_nearest(alloc, word, option_names(alloc)?.as_slice())?,
-        }),
+        Misread::NoOption(word) => no_option(alloc, word),
         Misread::NoValue(name) => Ok(ArgumentsFault::NoValue(copy(name)?)),
         Misread::NeedlessValue(name) => Ok(ArgumentsFault::NeedlessValue(copy(name)?)),
         Misread::Repeated(name) => Ok(ArgumentsFault::Repeated(copy(name)?)),
@@ -188,6 +235,7 @@ fn told(alloc: Global, misread: Misread<'_>) -> Result<ArgumentsFault, AllocErro
         Misread::LonePlatform => Ok(ArgumentsFault::LonePlatform),
         Misread::LoneHost => Ok(ArgumentsFault::LoneHost),
         Misread::AllIgnored(folder) => Ok(ArgumentsFault::AllIgnored(copy(folder)?)),
+        Misread::BadAlso(text) => Ok(ArgumentsFault::BadAlso(copy(text)?)),
         Misread::NoPaths => Ok(ArgumentsFault::NoPaths),
         Misread::CfgsFailed(file) => Ok(ArgumentsFault::CfgsFailed(copy(file)?)),
         Misread::BadCfg(triple, before) => Ok(ArgumentsFault::BadCfg {

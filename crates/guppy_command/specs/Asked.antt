@@ -1,7 +1,7 @@
 -- What arguments ask.
-use Rattle.std.specs.Prelude.{◌≡◌, ◌⊎◌, ℕ, Contains, ◌==◌, Bool, true, false, not, ◌&&◌, ◌||◌, List, [], ◌∷◌, ◌++◌, length, map, Option, Some, None, Result, Ok, Err, codes, if◌then◌else◌}
+use Rattle.std.specs.Prelude.{◌≡◌, ◌⊎◌, ℕ, Contains, ◌==◌, Bool, true, false, not, ◌&&◌, ◌||◌, List, [], ◌∷◌, ◌++◌, length, map, Option, Some, None, is_some, Result, Ok, Err, codes, if◌then◌else◌}
 use Rattle.std.specs.List.{AllZip, filter_map, find, flat_map, list_any, zip}
-use Rattle.std.specs.Option.{option_map_or}
+use Rattle.std.specs.Option.{option_and_then, option_map_or}
 use Rattle.std.specs.Str.{bytes_eq}
 use Rattle.std.specs.Str.Lines.{lines}
 use Rattle.guppy_data.specs.Platform.{Question, OnAny, OnPlatforms}
@@ -12,13 +12,14 @@ use Rattle.guppy_features.specs.declared.options.StandardFeatures.TheVariants.{N
 use Rattle.guppy_target.specs.Platform.{PlatformData, IsFirstFault}
 use Rattle.guppy_command.specs.declared.options.Kinds.{Kinds}
 use Rattle.guppy_command.specs.declared.options.Options.{Options}
-use Rattle.guppy_command.specs.declared.table.TheConstants.{KINDS, PLATFORM, CFGS, HOST, HOST_CFGS, WORKSPACE, IDS, PUBLISHABLE, IGNORE, PATHS_FROM, MEMBER, FEATURES, ALL_FEATURES, NO_DEFAULT_FEATURES, TESTS, RESOLVER}
-use Rattle.guppy_command.specs.Grammar.{OptionRow, Program, Argument, option, word, Misread, not_taken, repeated, no_command, unknown_command, bad_words, bad_kinds, bad_resolver, lone_platform, lone_host, all_ignored, no_paths, cfgs_failed, bad_cfg, paths_failed, unended_paths, called, Reads}
+use Rattle.guppy_command.specs.declared.table.TheConstants.{KINDS, PLATFORM, CFGS, HOST, HOST_CFGS, WORKSPACE, IDS, PUBLISHABLE, IGNORE, PATHS_FROM, MEMBER, FEATURES, ALL_FEATURES, NO_DEFAULT_FEATURES, TESTS, RESOLVER, ALSO}
+use Rattle.guppy_command.specs.Grammar.{OptionRow, Program, Argument, option, word, Misread, not_taken, repeated, no_command, unknown_command, bad_words, bad_kinds, bad_resolver, lone_platform, lone_host, all_ignored, no_paths, cfgs_failed, bad_cfg, paths_failed, unended_paths, called, Reads, bad_also, name_in, value_in}
 use Rattle.guppy_command.specs.Builds.{features_of, resolver_of}
 use Rattle.guppy_command.specs.Command.{BuildRequest, Command, affected, build_command_of, command_of, from_root}
 use Rattle.guppy_command.specs.Options.{kinds_of}
 use Rattle.guppy_command.specs.Paths.{are_ended, paths_of}
 use Rattle.guppy_command.specs.Platforms.{IsPlatform}
+use Rattle.guppy_command.specs.Text.{is_empty}
 
 -- what is asked of every command, the platforms by their names, each with the file that says what is set there, so
 -- the host, where it is named, the command, and the files that have more paths
@@ -141,11 +142,30 @@ is_all folder = is_among ([] ∷ codes "." ∷ []) (from_root folder)
 abbrev pub has_paths : List Argument → List (List ℕ) → Bool
 has_paths given paths = not (no_words paths) || has PATHS_FROM.now given
 
--- the members that changes at these paths affect, with folders to leave out
+-- the folder and the package that the text names, parted by its first `=`
+abbrev pub halves_of : List ℕ → Option (List ℕ × List ℕ)
+halves_of text = option_and_then (λ owner. if is_empty (name_in text) || is_empty owner then None
+    else Some (name_in text, owner)) (value_in text)
+
+-- it names none
+abbrev pub is_unparted : List ℕ → Bool
+is_unparted text = not (is_some (halves_of text))
+
+-- the folders that belong to packages beside their own, each with the word for its package
+abbrev pub also_in : List Argument → Result (List (List ℕ × List ℕ)) Misread
+also_in given = option_map_or (λ text. Err (bad_also text)) (find is_unparted (values_of ALSO.now given))
+    (Ok (filter_map halves_of (values_of ALSO.now given)))
+
+-- the folders to leave out
+abbrev pub ignored_in : List Argument → Result (List (List ℕ)) Misread
+ignored_in given = option_map_or (λ folder. Err (all_ignored folder)) (find is_all (values_of IGNORE.now given))
+    (Ok (map from_root (values_of IGNORE.now given)))
+
+-- the members that changes at these paths affect, with folders to leave out, and folders that belong to packages
 abbrev pub affected_of : List Argument → List (List ℕ) → Result Command Misread
 affected_of given paths = if not (has_paths given paths) then Err no_paths
-    else option_map_or (λ folder. Err (all_ignored folder)) (find is_all (values_of IGNORE.now given))
-    (Ok (affected (map from_root (values_of IGNORE.now given)) (map from_root paths)))
+    else (ignored_in given >>= λ ignored. also_in given >>= λ also.
+    Ok (affected ignored also (map from_root paths)))
 
 -- which features of the members beside those that are named
 abbrev pub standard_in : List Argument → StandardFeatures
@@ -206,7 +226,7 @@ question_on (platform ∷ platforms) = OnPlatforms (platform ∷ platforms)
 
 -- the command with more paths
 abbrev pub with_paths : List (List ℕ) → Command → Command
-with_paths more (affected ignored paths) = affected ignored (paths ++ more)
+with_paths more (affected ignored also paths) = affected ignored also (paths ++ more)
 with_paths more command = command
 
 -- P holds of one of these, and of this

@@ -21,7 +21,8 @@ pub record BuildRequest : Type 0 where
 -- the cycles, the packages that are there more than once, what Cargo builds, which features of a
 -- package are on there, or why the second word's is, whether the graph is a verified one, the
 -- members in an order to publish them, all or those alone that can be published, what these reach or
--- all as it is drawn, or, with folders to leave out, the members that changes at some paths affect
+-- all as it is drawn, or, with folders to leave out, and folders that belong to packages beside their own, the
+-- members that changes at some paths affect
 pub data Command : Type 0 where
   reach : DependencyDirection → List (List ℕ) → Command
   depends : List ℕ → List ℕ → Command
@@ -37,7 +38,7 @@ pub data Command : Type 0 where
   verify : Command
   publish_order : Bool → Command
   dot : List (List ℕ) → Command
-  affected : List (List ℕ) → List (List ℕ) → Command
+  affected : List (List ℕ) → List (List ℕ × List ℕ) → List (List ℕ) → Command
 
 -- `forward` or `reverse`
 abbrev pub direction_of : List ℕ → Option DependencyDirection

@@ -6,7 +6,7 @@ use Rattle.guppy_data.specs.Platform.{question_of}
 use Rattle.guppy_command.specs.declared.grammar.Argument.{Argument as GivenArgument}
 use Rattle.guppy_command.specs.declared.grammar.Argument.TheVariants.{Option as GivenOption, Word}
 use Rattle.guppy_command.specs.declared.grammar.Misread.{Misread as GivenMisread}
-use Rattle.guppy_command.specs.declared.grammar.Misread.TheVariants.{NoOption, NoValue, NeedlessValue, Repeated, NotTaken, NoCommand, UnknownCommand, BadWords, BadKinds, BadResolver, LonePlatform, LoneHost, AllIgnored, NoPaths, CfgsFailed, BadCfg, PathsFailed, UnendedPaths, OutOfMemory}
+use Rattle.guppy_command.specs.declared.grammar.Misread.TheVariants.{NoOption, NoValue, NeedlessValue, Repeated, NotTaken, NoCommand, UnknownCommand, BadWords, BadKinds, BadResolver, LonePlatform, LoneHost, AllIgnored, NoPaths, CfgsFailed, BadCfg, PathsFailed, UnendedPaths, OutOfMemory, BadAlso}
 use Rattle.guppy_command.specs.declared.grammar.Program.{Program as GivenProgram}
 use Rattle.guppy_command.specs.declared.command.BuildRequest.{BuildRequest as GivenRequest}
 use Rattle.guppy_command.specs.declared.command.Command.{Command as GivenCommand}
@@ -15,7 +15,7 @@ use Rattle.guppy_command.specs.declared.asked.Asked.{Asked as GivenAsked}
 use Rattle.guppy_command.specs.declared.asked.Wanted.{Wanted as GivenWanted}
 use Rattle.guppy_command.specs.declared.fault.Fault.{Fault}
 use Rattle.guppy_command.specs.declared.fault.Fault.TheVariants.{Library, BadArguments, NoWalk, Unpublishable, Build, InputFailed, OutputFailed}
-use Rattle.guppy_command.specs.Grammar.{OptionRow, Program, Argument, option, word, Misread, no_option, no_value, needless_value, repeated, not_taken, no_command, unknown_command, bad_words, bad_kinds, bad_resolver, lone_platform, lone_host, all_ignored, no_paths, cfgs_failed, bad_cfg, paths_failed, unended_paths}
+use Rattle.guppy_command.specs.Grammar.{OptionRow, Program, Argument, option, word, Misread, no_option, no_value, needless_value, repeated, not_taken, no_command, unknown_command, bad_words, bad_kinds, bad_resolver, lone_platform, lone_host, all_ignored, no_paths, cfgs_failed, bad_cfg, paths_failed, unended_paths, bad_also}
 use Rattle.guppy_command.specs.Asked.{Asked, Wanted}
 use Rattle.guppy_command.specs.BuildFault.{build_cause_of}
 use Rattle.guppy_command.specs.Cause.{Cause, library, bad_arguments, no_walk, unpublishable, build, input_failed, output_failed}
@@ -67,7 +67,8 @@ command_shown (WhyFeature request id feature) = why_feature (request_shown reque
 command_shown Verify = verify
 command_shown (PublishOrder publishable) = publish_order publishable
 command_shown (Dot words) = dot (texts words.items)
-command_shown (Affected ignored paths) = affected (map string_bytes ignored.items) (map string_bytes paths.items)
+command_shown (Affected ignored also paths) = affected (map string_bytes ignored.items)
+    (map (λ both. (both.0.now, both.1.now)) also.items) (map string_bytes paths.items)
 
 abbrev pub wanted_shown : GivenWanted → Wanted
 wanted_shown wanted = record {
@@ -101,6 +102,7 @@ misread_shown (BadResolver value) = Some (bad_resolver value.now)
 misread_shown LonePlatform = Some lone_platform
 misread_shown LoneHost = Some lone_host
 misread_shown (AllIgnored folder) = Some (all_ignored folder.now)
+misread_shown (BadAlso text) = Some (bad_also text.now)
 misread_shown NoPaths = Some no_paths
 misread_shown (CfgsFailed file) = Some (cfgs_failed file.now)
 misread_shown (BadCfg triple lines) = Some (bad_cfg triple.now lines)

@@ -1,18 +1,18 @@
 //! What arguments ask.
 ghost use Rattle.std.specs.Prelude.{◌≡◌, map, string_bytes, option_map, IfOk};
 ghost use Rattle.std.specs.List.{filter_map, find, flat_map, zip};
-ghost use Rattle.guppy_command.specs.Asked.{word_of, value_for, picked, is_option, values_of, has, is_among, takes, may_repeat, command_in, judged, all_judged, kinds_in, pairs_in, platforms_in, host_in, options_in, has_paths, affected_of, standard_in, resolver_in, request_in, is_of_builds, asked_of_builds, asked_by, wanted_of, is_all};
+ghost use Rattle.guppy_command.specs.Asked.{word_of, value_for, picked, is_option, values_of, has, is_among, takes, may_repeat, command_in, judged, all_judged, kinds_in, pairs_in, platforms_in, host_in, options_in, has_paths, affected_of, standard_in, resolver_in, request_in, is_of_builds, asked_of_builds, asked_by, wanted_of, is_all, halves_of, is_unparted, also_in, ignored_in};
 ghost use Rattle.guppy_command.specs.Builds.{features_of};
 ghost use Rattle.guppy_command.specs.Command.{from_root};
 ghost use Rattle.guppy_command.specs.Shown.{argument_shown, row_shown, program_shown, command_shown, request_shown, wanted_shown, texts, Gives};
 
 use crate::builds::{add_features, resolver_of};
 use crate::command::{BuildRequest, Command, build_command_of, command_of, from_root};
-use crate::grammar::{Argument, Misread, OptionRow, Program, called};
+use crate::grammar::{Argument, Misread, OptionRow, Program, called, parts_of};
 use crate::options::{Kinds, Options, kinds_of};
 use crate::table::{
-    ALL_FEATURES, CFGS, FEATURES, HOST, HOST_CFGS, IDS, IGNORE, KINDS, MEMBER, NO_DEFAULT_FEATURES,
-    PATHS_FROM, PLATFORM, PUBLISHABLE, RESOLVER, TESTS, WORKSPACE,
+    ALL_FEATURES, ALSO, CFGS, FEATURES, HOST, HOST_CFGS, IDS, IGNORE, KINDS, MEMBER,
+    NO_DEFAULT_FEATURES, PATHS_FROM, PLATFORM, PUBLISHABLE, RESOLVER, TESTS, WORKSPACE,
 };
 use guppy_data::PlatformSpec;
 use guppy_features::{CargoResolverVersion, StandardFeatures};
@@ -332,7 +332,74 @@ fn has_paths(given: &[Argument<'_>], paths: &[&str]) -> bool
     !paths.is_empty() || has(PATHS_FROM, given)
 }
 
-// The members that changes at these paths affect, with folders to leave out.
+// The folder and the package that the text names, parted by its first `=`.
+fn halves_of(text: &str) -> Option<(&str, &str)>
+    ensures { option_map (λ both. (both.0.now, both.1.now)) result ≡ halves_of text.now }
+{
+    let (folder, owner) = parts_of(text);
+    let owner = owner?;
+    if folder.is_empty() || owner.is_empty() {
+        return None;
+    }
+    Some((folder, owner))
+}
+
+// Whether the text names none.
+fn is_unparted(text: &str) -> bool
+    ensures { result ≡ is_unparted text.now }
+{
+    halves_of(text).is_none()
+}
+
+// The first text that names none.
+fn first_unparted<'a>(values: &[&'a str]) -> Option<&'a str>
+    ensures { option_map (λ text. text.now) result ≡ find is_unparted (texts values.now) }
+{
+    values.iter().find(|text| is_unparted(text)).copied()
+}
+
+// The folders and the packages that the texts name.
+fn all_halves<'a>(alloc: Global, values: &[&'a str]) -> Result<Vec<(&'a str, &'a str)>, AllocError>
+    ensures { IfOk result (λ halves. map (λ both. (both.0.now, both.1.now)) halves.items
+        ≡ filter_map halves_of (texts values.now)) }
+{
+    let mut halves = Vec::new(alloc);
+    for text in values {
+        if let Some(both) = halves_of(text) {
+            halves.push(both)?;
+        }
+    }
+    Ok(halves)
+}
+
+// The folders that belong to packages beside their own, each with the word for its package.
+fn also_in<'a>(
+    alloc: Global,
+    given: &[Argument<'a>],
+) -> Result<Vec<(&'a str, &'a str)>, Misread<'a>>
+    ensures { Gives (λ pairs. map (λ both. (both.0.now, both.1.now)) pairs.items)
+        (also_in (map argument_shown given.now)) result }
+{
+    let values = values_of(alloc, ALSO, given)?;
+    match first_unparted(values.as_slice()) {
+        Some(text) => Err(Misread::BadAlso(text)),
+        None => Ok(all_halves(alloc, values.as_slice())?),
+    }
+}
+
+// The folders to leave out.
+fn ignored_in<'a>(alloc: Global, given: &[Argument<'a>]) -> Result<Vec<String>, Misread<'a>>
+    ensures { Gives (λ folders. map string_bytes folders.items)
+        (ignored_in (map argument_shown given.now)) result }
+{
+    let folders = values_of(alloc, IGNORE, given)?;
+    match first_all(folders.as_slice()) {
+        Some(folder) => Err(Misread::AllIgnored(folder)),
+        None => Ok(from_roots(alloc, folders.as_slice())?),
+    }
+}
+
+// The members that changes at these paths affect, with folders to leave out, and folders that belong to packages.
 fn affected_of<'a>(
     alloc: Global,
     given: &[Argument<'a>],
@@ -343,12 +410,11 @@ fn affected_of<'a>(
     if !has_paths(given, paths) {
         return Err(Misread::NoPaths);
     }
-    let folders = values_of(alloc, IGNORE, given)?;
-    if let Some(folder) = first_all(folders.as_slice()) {
-        return Err(Misread::AllIgnored(folder));
-    }
+    let ignored = ignored_in(alloc, given)?;
+    let also = also_in(alloc, given)?;
     Ok(Command::Affected {
-        ignored: from_roots(alloc, folders.as_slice())?,
+        ignored,
+        also,
         paths: from_roots(alloc, paths)?,
     })
 }

@@ -61,6 +61,8 @@ pub enum Command<'a> {
     Affected {
         /// The folders whose paths count for nothing.
         ignored: Vec<String>,
+        /// The folders that belong to packages beside their own, each with the word for its package.
+        also: Vec<(&'a str, &'a str)>,
         /// The paths, from the workspace's root.
         paths: Vec<String>,
     },

@@ -153,10 +153,18 @@ fn with_paths(command: Command<'_>, more: Vec<String>) -> Result<Command<'_>, Al
         ≡ with_paths (map string_bytes more.items) (command_shown command.entry)) }
 {
     match command {
-        Command::Affected { ignored, mut paths } => {
+        Command::Affected {
+            ignored,
+            also,
+            mut paths,
+        } => {
             let mut more = more;
             paths.append(&mut more)?;
-            Ok(Command::Affected { ignored, paths })
+            Ok(Command::Affected {
+                ignored,
+                also,
+                paths,
+            })
         }
         command => Ok(command),
     }

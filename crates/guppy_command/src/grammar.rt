@@ -65,6 +65,8 @@ pub enum Misread<'a> {
     LoneHost,
     /// The folder to leave out is the whole workspace, or none.
     AllIgnored(&'a str),
+    /// The value names no folder and package, parted by a `=`.
+    BadAlso(&'a str),
     /// No path is given.
     NoPaths,
     /// The file with what is set on a platform can't be read.
@@ -102,7 +104,7 @@ fn is_dashed(text: &str) -> bool
 }
 
 // The name of an option, and its value in the same word.
-fn parts_of(text: &str) -> (&str, Option<&str>)
+pub(crate) fn parts_of(text: &str) -> (&str, Option<&str>)
     ensures name { result.0.now ≡ name_in text.now }
     ensures value { option_map (λ value. value.now) result.1 ≡ value_in text.now }
 {

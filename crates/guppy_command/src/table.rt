@@ -18,6 +18,8 @@ pub const IDS: &str = "--ids";
 pub const PUBLISHABLE: &str = "--publishable";
 /// A folder whose paths count for nothing.
 pub const IGNORE: &str = "--ignore";
+/// A folder that belongs to a package beside its own.
+pub const ALSO: &str = "--also";
 /// A file that has more paths.
 pub const PATHS_FROM: &str = "--paths-from";
 /// A member that Cargo builds.

@@ -3,6 +3,7 @@ pub mod Membership
 pub mod IncludedIds
 pub mod ReachedIds
 pub mod Refusals
+pub mod GivenFolders
 pub mod PackageLists
 pub mod PublishableMembers
 pub mod Hindrances

@@ -26,6 +26,7 @@ use Rattle.guppy.specs.FirmCycles.{HasNoFirmCycle}
 use Rattle.guppy.specs.Verified.{IsVerified, IsVerifyFault as IsGraphFault}
 use Rattle.guppy.specs.Walked.{AreWalkedLinks}
 use Rattle.guppy_affected.specs.Affected.{AreAffectedIds}
+use Rattle.guppy_affected.specs.Folders.{Given}
 use Rattle.guppy_extras.specs.Duplicates.{AreDuplicates}
 use Rattle.guppy_publish.specs.Publishing.{ArePublishIds}
 use Rattle.guppy_extras.specs.Walk.{NoWalk, Between}
@@ -172,12 +173,23 @@ pub record IsPublishAnswer (g : GraphData) (publishable : Bool) (answer : Answer
       (if publishable then filter (is_publishable g.packages) ids else ids)
   pub free : publishable ≡ true → All (IsFree g) (filter (is_publishable g.packages) ids)
 
--- the members that changes at the paths affect
-pub record IsAffectedAnswer (g : GraphData) (ignored paths : List (List ℕ))
+-- the members that changes at the paths affect, where these folders are given to packages
+pub record TellsAffected (g : GraphData) (ignored : List (List ℕ)) (given : List Given) (paths : List (List ℕ))
     (answer : Answer) : Type 0 where
   pub ids : List (List ℕ)
-  pub exact : AreAffectedIds g paths ignored ids
+  pub exact : AreAffectedIds g paths ignored given ids
   pub told : answer ≡ package_list ids
+
+-- the same folders, each given to the package that its word means
+abbrev pub AreGiven : (List ℕ → List (List ℕ)) → List (List ℕ × List ℕ) → List Given → Type 0
+AreGiven meant also given = AllZip (λ both one. (one.0 ≡ both.0) × Means meant both.1 one.1) also given
+
+-- the members that changes at the paths affect, with folders that belong to the packages meant
+pub record IsAffectedAnswer (g : GraphData) (meant : List ℕ → List (List ℕ)) (ignored : List (List ℕ))
+    (also : List (List ℕ × List ℕ)) (paths : List (List ℕ)) (answer : Answer) : Type 0 where
+  pub given : List Given
+  pub named : AreGiven meant also given
+  pub exact : TellsAffected g ignored given paths answer
 
 -- the packages meant and those that they reach, or all where none is given, as they are drawn
 pub record IsDotAnswer (g : GraphData) (meant : List ℕ → List (List ℕ)) (words : List (List ℕ))
@@ -233,7 +245,7 @@ IsAnswer meant duplicates g answer = IsDuplicatesAnswer g answer
 IsAnswer meant verify g answer = IsVerifyAnswer g answer
 IsAnswer meant (publish_order publishable) g answer = IsPublishAnswer g publishable answer
 IsAnswer meant (dot words) g answer = IsDotAnswer g meant words answer
-IsAnswer meant (affected ignored paths) g answer = IsAffectedAnswer g ignored paths answer
+IsAnswer meant (affected ignored also paths) g answer = IsAffectedAnswer g meant ignored also paths answer
 IsAnswer meant _ g answer = ⊥
 
 -- and to one of what Cargo builds on these platforms
@@ -254,6 +266,7 @@ words_of (dot words) = words
 words_of (built request) = request.members
 words_of (features request word) = request.members ++ word ∷ []
 words_of (why_feature request word name) = request.members ++ word ∷ []
+words_of (affected ignored also paths) = map (λ both. both.1) also
 words_of _ = []
 
 -- the word means one package

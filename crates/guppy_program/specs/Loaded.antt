@@ -37,7 +37,7 @@ asks_for_builds _ = false
 
 -- whether the command asks for build targets, which say where sources lie, and what is built
 abbrev pub asks_for_targets : Command → Bool
-asks_for_targets (affected ignored paths) = true
+asks_for_targets (affected ignored also paths) = true
 asks_for_targets command = asks_for_builds command
 
 -- whether records are read with details: for build targets, which also say what runs on the host

@@ -6,8 +6,9 @@ ghost use Rattle.guppy.specs.ListedCycles.{cycle_left};
 ghost use Rattle.guppy.specs.Query.{IncludesId};
 ghost use Rattle.guppy.specs.Refused.{NamesId, IsFirstUnknown};
 ghost use Rattle.guppy.specs.Views.{link_data};
+ghost use Rattle.guppy_affected.specs.Folders.{given_in};
 ghost use Rattle.guppy_command.specs.Cause.{Cause, library};
-ghost use Rattle.guppy_program.specs.Answer.{IsReached, AreReached, IsReachAnswer, TellsDependence, IsDependsAnswer, IsOrderAnswer, IsRootsAnswer, IsLinksAnswer, IsCyclesAnswer, IsDuplicatesAnswer, IsVerifyAnswer, IsDotAnswer, IsAffectedAnswer, IsAnswerOn, IsFaultOn, IsWordFault, IsVerifyTold, end_ids};
+ghost use Rattle.guppy_program.specs.Answer.{IsReached, AreReached, IsReachAnswer, TellsDependence, IsDependsAnswer, IsOrderAnswer, IsRootsAnswer, IsLinksAnswer, IsCyclesAnswer, IsDuplicatesAnswer, IsVerifyAnswer, IsDotAnswer, IsAffectedAnswer, AreGiven, TellsAffected, IsAnswerOn, IsFaultOn, IsWordFault, IsVerifyTold, end_ids};
 ghost use Rattle.guppy_program.specs.Meant.{Means};
 ghost use Rattle.guppy_program.specs.Printed.{called};
 ghost use Rattle.guppy_program.specs.Run.{places_of};
@@ -281,17 +282,61 @@ fn dot<'g, F: Format>(
     Ok(Answer::Drawing(drawing))
 }
 
+// The folders, each with the ID of the package that its word means, where each means one.
+fn given_folders<'a, F: Format>(
+    alloc: Global,
+    graph: &PackageGraph,
+    names: &F::Names,
+    also: &[(&'a str, &str)],
+) -> Result<Vec<(&'a str, PackageId)>, F::Fault>
+    requires { F.are_names names.now graph.now.packages }
+    ensures given { IfOk result (λ given. AreGiven (F.format.meant graph.now.packages)
+        (map (λ both. (both.0.now, both.1.now)) also.now) (given_in given.items)) }
+    ensures err { IfErr result (λ fault. IsWordFault F.format graph.now.packages
+        (map (λ both. both.1) (map (λ both. (both.0.now, both.1.now)) also.now)) fault (F.Fault.cause fault)) }
+{
+    let mut given = Vec::new(alloc);
+    for (folder, word) in also {
+        let owner = F::find(alloc, graph, names, word)?;
+        let Ok(()) = given.push((*folder, owner)) else {
+            return Err(want_of_memory());
+        };
+    }
+    Ok(given)
+}
+
 // The members to test.
 fn tested<'g>(
     graph: &'g PackageGraph,
     ignored: &[String],
+    given: &[(&str, PackageId)],
     paths: &[String],
 ) -> Result<Answer<'g>, Error>
-    ensures ok { IfOk result (λ answer. IsAffectedAnswer graph.now (map string_bytes ignored.now)
-        (map string_bytes paths.now) (answer_shown answer)) }
+    ensures ok { IfOk result (λ answer. TellsAffected graph.now (map string_bytes ignored.now)
+        (given_in given.now) (map string_bytes paths.now) (answer_shown answer)) }
     ensures err { IsOkUnless result Error.OutOfMemory }
 {
-    Ok(Answer::List(affected(graph, paths, ignored)?))
+    Ok(Answer::List(affected(graph, paths, ignored, given)?))
+}
+
+// The members to test, with folders that belong to the packages that their words mean.
+fn tested_also<'g, F: Format>(
+    alloc: Global,
+    graph: &'g PackageGraph,
+    names: &F::Names,
+    ignored: &[String],
+    also: &[(&str, &str)],
+    paths: &[String],
+) -> Result<Answer<'g>, F::Fault>
+    requires { F.are_names names.now graph.now.packages }
+    ensures ok { IfOk result (λ answer. IsAffectedAnswer graph.now (F.format.meant graph.now.packages)
+        (map string_bytes ignored.now) (map (λ both. (both.0.now, both.1.now)) also.now)
+        (map string_bytes paths.now) (answer_shown answer)) }
+    ensures err { IfErr result (λ fault. IsWordFault F.format graph.now.packages
+        (map (λ both. both.1) (map (λ both. (both.0.now, both.1.now)) also.now)) fault (F.Fault.cause fault)) }
+{
+    let given = given_folders::<F>(alloc, graph, names, also)?;
+    passed_on(tested(graph, ignored, given.as_slice(), paths))
 }
 
 /// What the command answers of the graph, whose packages have these names.
@@ -340,6 +385,10 @@ pub fn answer_of<'g, F: Format>(
             published::<F>(alloc, graph, names, options, *publishable)
         }
         Command::Dot(words) => dot::<F>(alloc, graph, names, words),
-        Command::Affected { ignored, paths } => passed_on(tested(graph, ignored, paths)),
+        Command::Affected {
+            ignored,
+            also,
+            paths,
+        } => tested_also::<F>(alloc, graph, names, ignored, also, paths),
     }
 }

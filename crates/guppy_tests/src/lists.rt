@@ -67,7 +67,7 @@ pub(super) fn put_affected(
 ) {
     let paths = owned(graph.alloc(), paths, out);
     let ignored = owned(graph.alloc(), ignored, out);
-    match affected(graph, paths.as_slice(), ignored.as_slice()) {
+    match affected(graph, paths.as_slice(), ignored.as_slice(), &[]) {
         Ok(ids) => put_ids(ids.as_slice(), out),
         Err(error) => out.fail(error),
     }

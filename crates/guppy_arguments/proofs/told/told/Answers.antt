@@ -3,14 +3,6 @@ use Rattle.guppy_arguments.specs.Table.{command_names, option_names}
 use Rattle.guppy_arguments.specs.Told.{IsNearestIfAny}
 use Rattle.guppy_arguments.proofs.told.told.Goals as goal
 
-pub returns-in_ok-copy_of_nearest-in-NoOption-clause-nearest :
-    goal.returns-in_ok-copy_of_nearest-in-NoOption-clause-nearest
-returns-in_ok-copy_of_nearest-in-NoOption-clause-nearest c =
-    let found = c.in_ok-copy_of_nearest-in-NoOption in
-    let names = ap (map (λ name. name.now)) c.as_slice.ensures.value ∙ c.in_ok-option_names-in-NoOption.ensures in
-    subst (λ word. IsNearestIfAny option_names word found.field-0) (sym c.in_ok-from_str-in-NoOption.ensures.ok)
-    (subst (λ names. IsNearestIfAny names c.in-NoOption.word.now found.field-0) names found.ensures)
-
 pub returns-in_ok-copy_of_nearest-in-UnknownCommand-clause-nearest :
     goal.returns-in_ok-copy_of_nearest-in-UnknownCommand-clause-nearest
 returns-in_ok-copy_of_nearest-in-UnknownCommand-clause-nearest c =

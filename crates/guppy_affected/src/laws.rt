@@ -1,0 +1,18 @@
+//! Laws on folders that are given to packages, each stated by the contract of a function.
+ghost use Rattle.std.specs.Prelude.{◌↔◌, ◌⊎◌, ℕ, List, []};
+ghost use Rattle.guppy.specs.Graph.{GraphData};
+ghost use Rattle.guppy_affected.specs.Affected.{IsAffected};
+ghost use Rattle.guppy_affected.specs.Folders.{Given, Belongs, IsBelow, IsElsewhere, Changes};
+
+/// Where none is given, a path changes exactly the packages that it belongs to, that lie below it, and that name a
+/// target where it leads.
+pub fn none_given()
+    ensures { (g : GraphData) (path : List ℕ) (p : ℕ) → Changes g [] path p
+        ↔ (Belongs g.packages path p ⊎ (IsBelow g.packages path p ⊎ IsElsewhere g path p)) }
+{}
+
+/// What is given takes no member away: those that changes affect where none is given they affect anyway.
+pub fn given_add()
+    ensures { (g : GraphData) (paths ignored : List (List ℕ)) (also : List Given) (p : ℕ)
+        → IsAffected g paths ignored [] p → IsAffected g paths ignored also p }
+{}
