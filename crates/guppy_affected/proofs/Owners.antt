@@ -67,7 +67,7 @@ module _ (graph : GraphData) (P : ℕ → Type 0) (set : List Bool) where
 -- a package that changed is one
 pub changed_within : (g : GraphData) (also : List Given) (folders paths places : List (List Part)) (p : ℕ) → IsChangedBy g also folders paths places p → p < length g.packages
 changed_within g also folders paths places p = ⊎_elim (with_folder_within _ g.packages p)
-    (⊎_elim (with_folder_within _ g.packages p) (λ (given, is, its, meets). with_id_within g.packages given.1 p its))
+    (⊎_elim (with_folder_within _ g.packages p) (λ (given, is, (its, meets)). with_id_within g.packages given.1 p its))
 
 -- with one more package, where P holds of it
 module _ (g : GraphData) (P : ℕ → Type 0) (e : Bor GraphData × ℕ) (left : List (Bor GraphData × ℕ)) (set more : List Bool)

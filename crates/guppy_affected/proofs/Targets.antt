@@ -80,10 +80,10 @@ module _ (g : GraphData) (paths ignored : List (List ℕ)) (places : List (List 
   pub given_touched : (also : List Given) → HasFolderGiven g also (λ folder. MeetsOne folder places) p ↔ OfOne paths ignored (λ path. IsAlso g also path p)
   given_touched also =
       let root = g.workspace.root in (
-        λ (given, is, its, there, lies, meets).
+        λ (given, is, (its, (there, lies, meets))).
             let path = (lead there).0 lies in
-            (path.0, path.1, path.2, (given, is, its, subst (Meets (place root given.0)) (sym path.3) meets)),
-        λ (path, there, counts, (given, is, its, meets)). (given, is, its, (place root path, (lead (place root path)).1 (path, there, counts, refl), meets)),
+            (path.0, path.1, path.2, (given, is, (its, subst (Meets (place root given.0)) (sym path.3) meets))),
+        λ (path, there, counts, (given, is, (its, meets))). (given, is, (its, (place root path, (lead (place root path)).1 (path, there, counts, refl), meets))),
       )
 
 -- where no folder is given, a package that changed did for another reason

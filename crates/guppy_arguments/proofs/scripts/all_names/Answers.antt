@@ -6,8 +6,8 @@ use Rattle.guppy_arguments.proofs.scripts.all_names.Goals as goal
 
 pub returns : goal.returns
 returns c =
-    let own = YieldsList-from_map _ (λ row. row.0) (YieldsList-at c.map.ensures.source (YieldsList-from_slice _ c.iter.ensures.rest)) c.map.ensures.closure (λ x r q k. search rules) in
-    let others = YieldsList-from_copied (YieldsList-at c.copied.ensures.source (YieldsList-from_slice _ c.iter-2.ensures.rest)) in
     IfOk-weaker c.collect.result _ _ (λ names is. ap (map (λ name. name.now)) is)
-    (items_from_collect _ c.collect.ensures.ran
-    (YieldsList-from_chain (YieldsList-at c.chain.ensures.first own) (YieldsList-at c.chain.ensures.second others) c.chain.ensures.first_done c.chain.ensures.second_done))
+    (items_from_collect _ c.collect.ensures.ran (YieldsList-from_chain
+    (YieldsList-at c.chain.ensures.first (YieldsList-from_map _ (λ row. row.0) (YieldsList-at c.map-own.ensures.source (YieldsList-from_slice _ c.iter.ensures.rest)) c.map-own.ensures.closure (λ x r q k. search rules)))
+    (YieldsList-at c.chain.ensures.second (YieldsList-from_copied (YieldsList-at c.copied.ensures.source (YieldsList-from_slice _ c.iter-2.ensures.rest))))
+    c.chain.ensures.first_done c.chain.ensures.second_done))
