@@ -1,5 +1,5 @@
 //! Why a feature is on.
-ghost use Rattle.std.specs.Prelude.{◌≡◌, ◌<◌, All, IfErr, IfOk, IfSome, MatchOption, Some, None, is_some, length, map, slice_get};
+ghost use Rattle.std.specs.Prelude.{◌≡◌, ◌<◌, All, IfErr, IfOk, IfSome, IsSomeAnd, MatchOption, None, is_some, length, map, slice_get};
 ghost use Rattle.guppy_graph.specs.Ids.{HasId, IsKnown};
 ghost use Rattle.guppy_features.specs.Facts.{feature_place};
 ghost use Rattle.guppy_features.specs.Questions.{question};
