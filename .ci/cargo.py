@@ -400,7 +400,7 @@ def try_left_out(graph):
             (["--ignore", "./.", "x"], "--ignore ./. leaves out everything: give a folder"),
             (["--ignore=", "x"], "--ignore  leaves out everything: give a folder"),
             (["x", "--paths-from"], "a value is missing behind --paths-from"),
-(["x", "--sinc", "main"], "--sinc is no option of the program: the nearest is --since, of the scripts"),
+            (["x", "--sinc", "main"], "--sinc is no option of the program: the nearest is --since, of the scripts"),
             (["-x"], "-x is no option: the nearest is -p"),
             (["x", "--publishable"], "affected takes no --publishable"),
             (["--paths-from", os.path.join(room, "bytes")], f"{os.path.join(room, 'bytes')}: the paths in it can't be read"),
