@@ -3,6 +3,7 @@ pub mod Cuts
 pub mod ListedNames
 pub mod BinarySearch
 pub mod Sources
+pub mod NamedFeatures
 pub mod Statuses
 pub mod Ternaries
 pub mod Replaced

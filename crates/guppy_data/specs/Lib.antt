@@ -7,6 +7,7 @@ pub mod EnabledStatus
 pub mod ExternalSource
 pub mod PackagePublish
 pub mod PackageSource
+pub mod NamedFeature
 pub mod Path
 pub mod Platform
 pub mod Records
