@@ -145,6 +145,13 @@ impl Platform {
         })
     }
 
+    /// The platform's name. Takes constant time, and no memory.
+    pub fn triple_str(&self) -> &str
+        ensures { result.now ≡ self.now.triple }
+    {
+        self.triple.as_str()
+    }
+
     pub(crate) fn has_name(&self, word: &[u8]) -> bool
         ensures { result ≡ is_among self.now.settings (name word.now) }
     {
