@@ -1,4 +1,4 @@
--- What the text of a feature switches on, by how it is cut, and features named one by one.
+-- Features named one by one.
 use Rattle.std.proofs.Common.{ℕ, zero, suc, ◌+◌, ◌<◌, Bool, true, false, List, [], ◌∷◌, ◌++◌, ◌≡◌, ◌∙◌, String, Vec, take, length, get_or, refl, sym, ap, subst, codes, append_assoc, if◌then◌else◌, arith}
 use Rattle.std.specs.declared.alloc.Global.{Global}
 use Rattle.std.specs.Borrow.{Bor}
@@ -11,24 +11,13 @@ use Rattle.json.specs.Value.{value_view, members_view}
 use Rattle.json.specs.declared.value.Value.{Value}
 use Rattle.json.specs.declared.value.Value.TheVariants.{Object}
 use Rattle.json.proofs.Trees.{view-Object}
-use Rattle.guppy_data.specs.Texts.{named_feature_text}
 use Rattle.guppy_data.specs.declared.texts.named_feature.NamedFeatureDep.{NamedFeatureDep}
-use Rattle.guppy_data.specs.declared.texts.named_feature.NamedFeatureDep.TheVariants.{NamedFeature, OptionalDependency, DependencyNamedFeature}
 use Rattle.guppy_metadata.specs.Fault.{NoneIs}
-use Rattle.guppy_metadata.specs.Feature.{IsFeature, IsNamedFeature, AreFeatures, AreListsOfTexts, once_behind, each_once}
+use Rattle.guppy_metadata.specs.Feature.{IsNamedFeature, AreFeatures, AreListsOfTexts, once_behind, each_once}
 use Rattle.guppy_metadata.specs.Members.{list_of, IsListOfTexts}
 use Rattle.guppy_metadata.specs.declared.fault.Misfit.{Misfit}
 use Rattle.guppy_metadata.proofs.FittingLists.{take_with}
 use Rattle.guppy_metadata.proofs.Refused.{handed}
-
--- what is printed is the text
-pub printed-is : (text : List ℕ) (d : NamedFeatureDep) → IsFeature text d → named_feature_text d ≡ text
-printed-is text (NamedFeature f) h = sym h.2
-printed-is text (OptionalDependency name) h = sym h.1
-printed-is text (DependencyNamedFeature name f false) h =
-    sym (h.1.0 ∙ ap (λ l. l ++ (codes "/" ++ string_bytes f)) h.2.0)
-printed-is text (DependencyNamedFeature name f true) h =
-    sym (h.1.0 ∙ ap (λ l. l ++ (codes "/" ++ string_bytes f)) h.2 ∙ append_assoc (string_bytes name) (codes "?") (codes "/" ++ string_bytes f))
 
 -- one more member is put in its place
 once_behind-push : (seen : List (List ℕ × Json)) (ms : List (Bor (List ℕ) × Value Global)) (m : Bor (List ℕ) × Value Global)

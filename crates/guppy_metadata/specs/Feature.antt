@@ -1,31 +1,14 @@
--- What the text of a feature switches on.
-use Rattle.std.specs.Prelude.{ℕ, Bool, true, false, List, [], ◌++◌, ◌≡◌, ◌≢◌, String, Vec, codes}
+-- Named features.
+use Rattle.std.specs.Prelude.{ℕ, List, [], ◌≡◌, String, Vec}
 use Rattle.std.specs.List.{AllZip}
 use Rattle.std.specs.declared.alloc.Global.{Global}
 use Rattle.std.specs.Str.{bytes_eq}
 use Rattle.std.specs.String.{string_bytes}
 use Rattle.indexmap.specs.IndexMap.{insert_entry}
 use Rattle.json.specs.Json.{Json, object, Members, no_members, member}
-use Rattle.guppy_data.specs.ExternalSource.{Lacks, IsCutAt}
+use Rattle.guppy_data.specs.NamedFeature.{IsFeature}
 use Rattle.guppy_data.specs.declared.texts.named_feature.NamedFeatureDep.{NamedFeatureDep}
-use Rattle.guppy_data.specs.declared.texts.named_feature.NamedFeatureDep.TheVariants.{NamedFeature, OptionalDependency, DependencyNamedFeature}
 use Rattle.guppy_metadata.specs.Members.{list_of, IsListOfTexts}
-
--- the text names this dependency, as a weak one where a `?` stands behind the name
-abbrev pub NamesDependency : List ℕ → List ℕ → Bool → Type 0
-NamesDependency text name true = text ≡ name ++ codes "?"
-NamesDependency text name false = (text ≡ name) × ((front : List ℕ) → text ≢ front ++ codes "?")
-
--- the text switches this on: a feature of the dependency before its first slash; without a slash, the
--- optional dependency behind `dep:`, and else another named feature
-abbrev pub IsFeature : List ℕ → NamedFeatureDep → Type 0
-IsFeature text (DependencyNamedFeature name feature weak) = (dependency : List ℕ)
-    × IsCutAt (codes "/") text dependency (string_bytes feature)
-    × NamesDependency dependency (string_bytes name) weak
-IsFeature text (OptionalDependency name) =
-    Lacks (codes "/") text × (text ≡ codes "dep:" ++ string_bytes name)
-IsFeature text (NamedFeature name) = Lacks (codes "/") text
-    × ((rest : List ℕ) → text ≢ codes "dep:" ++ rest) × (text ≡ string_bytes name)
 
 -- the feature that a member is: its name, and what the texts of its list switch on
 pub record IsNamedFeature (m : List ℕ × Json) (f : String Global × Vec NamedFeatureDep Global) : Type 0 where

@@ -2,9 +2,9 @@
 ghost use Rattle.std.specs.Prelude.{◌≡◌, ℕ, List, map, IfOk, MatchResult};
 ghost use Rattle.std.specs.List.{AllZip};
 ghost use Rattle.json.specs.Value.{value_view};
-ghost use Rattle.guppy_data.specs.Texts.{named_feature_text};
+ghost use Rattle.guppy_data.specs.NamedFeature.{IsFeature};
 ghost use Rattle.guppy_metadata.specs.Fault.{NoneIs};
-ghost use Rattle.guppy_metadata.specs.Feature.{NamesDependency, IsFeature, AreFeatures};
+ghost use Rattle.guppy_metadata.specs.Feature.{AreFeatures};
 ghost use Rattle.guppy_metadata.specs.Members.{list_of};
 
 use crate::fault::{Kind, Misfit};
@@ -14,41 +14,6 @@ use indexmap::IndexMap;
 use json::Value;
 use std::alloc::{AllocError, Global};
 
-// The name of a dependency, and whether a `?` behind it says that it is a weak one.
-fn without_mark(dependency: &str) -> (&str, bool)
-    ensures { NamesDependency dependency.now result.0.now result.1 }
-{
-    match dependency.strip_suffix("?") {
-        Some(name) => (name, true),
-        None => (dependency, false),
-    }
-}
-
-/// What the text of a feature switches on. The text is what is printed of it.
-pub(crate) fn feature_of(alloc: Global, text: &str) -> Result<NamedFeatureDep, AllocError>
-    ensures read { IfOk result (IsFeature text.now) }
-    ensures printed { IfOk result (λ feature. named_feature_text feature ≡ text.now) }
-{
-    if let Some((dependency, feature)) = text.split_once("/") {
-        let (dep_name, weak) = without_mark(dependency);
-        return Ok(NamedFeatureDep::DependencyNamedFeature {
-            dep_name: String::from_str(alloc, dep_name)?,
-            feature: String::from_str(alloc, feature)?,
-            weak,
-        });
-    }
-    match text.strip_prefix("dep:") {
-        Some(dep_name) => {
-            let dep_name = String::from_str(alloc, dep_name)?;
-            Ok(NamedFeatureDep::OptionalDependency(dep_name))
-        }
-        None => {
-            let feature = String::from_str(alloc, text)?;
-            Ok(NamedFeatureDep::NamedFeature(feature))
-        }
-    }
-}
-
 // What each of these texts switches on.
 fn features_of(alloc: Global, texts: &[&str]) -> Result<Vec<NamedFeatureDep>, AllocError>
     ensures { IfOk result
@@ -56,7 +21,7 @@ fn features_of(alloc: Global, texts: &[&str]) -> Result<Vec<NamedFeatureDep>, Al
 {
     let mut features = Vec::with_capacity(alloc, texts.len())?;
     for text in texts {
-        features.push(feature_of(alloc, text)?)?;
+        features.push(NamedFeatureDep::from_text(alloc, text)?)?;
     }
     Ok(features)
 }

@@ -1,6 +1,6 @@
 use Rattle.std.proofs.Common.{map, take}
 use Rattle.std.specs.List.{AllZip}
-use Rattle.guppy_metadata.specs.Feature.{IsFeature}
+use Rattle.guppy_data.specs.NamedFeature.{IsFeature}
 use Rattle.guppy_metadata.proofs.feature.features_of.Given as goal
 
 abbrev pub invariant-loop-text : goal.invariant-loop-text
