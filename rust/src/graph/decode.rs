@@ -1,7 +1,7 @@
 //! The packages and links that the proved library read off the JSON, out of the one text that has them. The text is
 //! kept, and texts in it are told by places.
 
-use super::details::{table_of, Later, LinkDetails};
+use super::details::{table_of, version_req_of, Later};
 use super::package::{Package, Source};
 use super::package_link::{Link, Section};
 use super::parts::{Parts, Span};
@@ -76,13 +76,16 @@ impl Parts<'_> {
             edition: self.field(),
             description: self.optional(),
             license: self.optional(),
-            repository: self.optional(),
-            details: Later::of(self.field()),
+            repository: {
+                let repository = self.optional();
+                self.pass();
+                repository
+            },
         })
     }
 
-    /// The list of packages.
-    pub(super) fn packages(&mut self) -> Result<Vec<Package>, Error> {
+    // The list of packages, whose details are passed over.
+    fn packages(&mut self) -> Result<Vec<Package>, Error> {
         let count = self.number(b';');
         (0..count).map(|_| self.package()).collect()
     }
@@ -101,14 +104,29 @@ impl Parts<'_> {
             normal: self.section(),
             build: self.section(),
             dev: self.section(),
-            details: Later::of(self.field()),
+            version_req: Later::of(self.field()),
         }
     }
 
-    /// A link whose ends are passed over.
-    pub(super) fn link_without_ends(&mut self) -> Link {
-        let _ends = (self.field(), self.field());
-        self.link()
+    /// Passes over a package, and tells where its details stand.
+    pub(super) fn package_in_short(&mut self) -> Span {
+        // The ID, the name and the version.
+        (0..3).for_each(|_| self.pass());
+        self.source();
+        // The manifest and the edition.
+        (0..2).for_each(|_| self.pass());
+        // The description, the license and the repository.
+        (0..3).for_each(|_| self.pass_optional());
+        self.field()
+    }
+
+    /// Passes over a link, and tells where its details stand.
+    pub(super) fn link_in_short(&mut self) -> Span {
+        // The ends, and both names.
+        (0..4).for_each(|_| self.pass());
+        // Where it is required and optional, in each section.
+        (0..6).for_each(|_| self.pass_platforms());
+        self.field()
     }
 
     // The links with their ends. Those that leave one package stand together, so its position is looked up once.
@@ -199,12 +217,10 @@ impl Decoded {
         Some(self.part(self.workspace.build_directory?).into())
     }
 
-    /// Which versions the link with the number accepts: of its details it is told first.
+    /// Which versions the link with the number accepts. It is the one detail of it that the text has.
     pub(super) fn version_req(&self, number: usize) -> &VersionReq {
-        let details = &self.links[number].details;
-        &details
-            .get(|part| LinkDetails::of(&self.text, part))
-            .version_req
+        let version_req = &self.links[number].version_req;
+        version_req.get(|part| version_req_of(&self.text, part))
     }
 
     /// The free table of the workspace.

@@ -1,4 +1,4 @@
-use super::details::{Later, PackageDetails};
+use super::details::PackageDetails;
 use super::parts::Span;
 use super::{
     BuildTarget, BuildTargetId, BuildTargetKind, DependencyDirection, PackageGraph, PackageLink,
@@ -21,7 +21,6 @@ pub(super) struct Package {
     pub(super) description: Option<Span>,
     pub(super) license: Option<Span>,
     pub(super) repository: Option<Span>,
-    pub(super) details: Later<PackageDetails>,
 }
 
 impl Package {
