@@ -44,7 +44,7 @@ fn main() -> Result<(), Box<dyn Error>> {
     let whole = least(
         || json.clone(),
         |json| {
-            let graph = CargoMetadata::try_from(json)?.build_graph()?;
+            let graph = CargoMetadata::with_details(json)?.build_graph()?;
             let of_packages = graph.packages().map(|package| {
                 let has_table = !package.metadata_table().is_null();
                 package.authors().len() + package.build_targets().count() + usize::from(has_table)

@@ -11,11 +11,12 @@ use crate::{Error, JsonValue, PackageId};
 use camino::Utf8Path;
 use semver::{Version, VersionReq};
 use std::collections::HashMap;
+use std::sync::Arc;
 
 /// Packages by position, and links by number.
 #[derive(Clone)]
 pub(super) struct Decoded {
-    text: String,
+    pub(super) text: Arc<String>,
     workspace: Workspace,
     // By position, in the order of the JSON.
     pub(super) default_members: Vec<usize>,
@@ -188,7 +189,7 @@ impl Decoded {
             positions,
             ends,
             links,
-            text,
+            text: Arc::new(text),
         })
     }
 
@@ -217,7 +218,7 @@ impl Decoded {
         Some(self.part(self.workspace.build_directory?).into())
     }
 
-    /// Which versions the link with the number accepts. It is the one detail of it that the text has.
+    /// Which versions the link with the number accepts. The text has them also without details.
     pub(super) fn version_req(&self, number: usize) -> &VersionReq {
         let version_req = &self.links[number].version_req;
         version_req.get(|part| version_req_of(&self.text, part))

@@ -4,7 +4,7 @@ use super::parts::{Parts, Span};
 use crate::platform::Platforms;
 use crate::{proved, JsonValue};
 use semver::{Version, VersionReq};
-use std::sync::OnceLock;
+use std::sync::{Arc, OnceLock};
 
 /// What is made of a part of the text when it is first asked for.
 #[derive(Clone)]
@@ -30,7 +30,7 @@ impl<T> Later<T> {
 /// A text with details, and where those of packages, by position, and of links, by number, stand in it.
 #[derive(Clone)]
 pub(super) struct Details {
-    text: String,
+    text: Arc<String>,
     packages: Vec<Later<PackageDetails>>,
     links: Vec<Later<LinkDetails>>,
     // The free tables of packages.
@@ -43,13 +43,18 @@ impl Details {
     /// # Panics
     ///
     /// Where the library refuses them. It did not refuse the rest.
-    pub(super) fn of(json: &str) -> Self {
+    pub(super) fn read(json: &str) -> Self {
         let text = proved::records(json, true).unwrap_or_else(|refusal| {
             panic!(
                 "these are no details as Cargo prints them: {}",
                 refusal.text
             )
         });
+        Self::of(Arc::new(text))
+    }
+
+    /// Those that the text has.
+    pub(super) fn of(text: Arc<String>) -> Self {
         let mut parts = Parts::at(&text, 0);
         parts.workspace();
         let packages = parts.list(|parts| Later::of(parts.package_in_short()));

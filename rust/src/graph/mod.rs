@@ -36,7 +36,7 @@ use decode::Decoded;
 use details::Details;
 use links_at::LinksAt;
 use std::fmt;
-use std::sync::OnceLock;
+use std::sync::{Arc, OnceLock};
 
 /// The direction of a walk.
 #[derive(Clone, Copy, Debug, PartialEq, Eq, Hash)]
@@ -75,7 +75,8 @@ pub struct PackageGraph {
     // The positions of the workspace's members, by path and by name.
     members_by_path: Vec<usize>,
     members_by_name: Vec<usize>,
-    // Read when they are first asked for.
+    // Whether the text with the packages and links has details, too. Else they are read when they are first asked for.
+    has_details: bool,
     details: OnceLock<Details>,
 }
 
@@ -120,7 +121,7 @@ impl PackageGraph {
     /// link or default member is of no package, or two members have one path or one name.
     pub fn from_metadata(metadata: CargoMetadata) -> Result<Self, Error> {
         let (json, records) = metadata.into_parts();
-        let decoded = Decoded::of(records)?;
+        let decoded = Decoded::of(records.text)?;
         let (packages, ends) = (&decoded.packages, &decoded.ends);
         let count = packages.len();
         let components =
@@ -136,6 +137,7 @@ impl PackageGraph {
             entering: LinksAt::of(count, ends, |link| link.to),
             members_by_path,
             members_by_name,
+            has_details: records.have_details,
             details: OnceLock::new(),
             decoded,
         })
@@ -184,7 +186,13 @@ impl PackageGraph {
     }
 
     fn details(&self) -> &Details {
-        self.details.get_or_init(|| Details::of(&self.json))
+        self.details.get_or_init(|| {
+            if self.has_details {
+                Details::of(Arc::clone(&self.decoded.text))
+            } else {
+                Details::read(&self.json)
+            }
+        })
     }
 
     fn position(&self, id: &PackageId) -> Result<usize, Error> {
