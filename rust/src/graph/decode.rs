@@ -21,6 +21,8 @@ pub(super) struct Decoded {
     // By position, in the order of the JSON.
     pub(super) default_members: Vec<usize>,
     table: Later<JsonValue>,
+    // Where those of packages begin in the text.
+    pub(super) tables: usize,
     pub(super) packages: Vec<Package>,
     positions: Positions,
     pub(super) ends: Vec<Ends>,
@@ -77,15 +79,12 @@ impl Parts<'_> {
             edition: self.field(),
             description: self.optional(),
             license: self.optional(),
-            repository: {
-                let repository = self.optional();
-                self.pass();
-                repository
-            },
+            repository: self.optional(),
+            details: self.field(),
         })
     }
 
-    // The list of packages, whose details are passed over.
+    // The list of packages.
     fn packages(&mut self) -> Result<Vec<Package>, Error> {
         let count = self.number(b';');
         (0..count).map(|_| self.package()).collect()
@@ -176,14 +175,15 @@ impl Decoded {
         let packages = parts.packages()?;
         let positions = positions(&packages)?;
         let (ends, links) = parts.links(&positions)?;
-        let table = Later::of(parts.field());
+        let table = parts.field();
         let defaults = workspace.default_members.iter();
         let defaults =
             defaults.map(|id| Ok(position(&positions, id.of(&text), "default member")? as usize));
         Ok(Decoded {
             default_members: defaults.collect::<Result<_, Error>>()?,
             workspace,
-            table,
+            table: Later::of(table),
+            tables: table.end(),
             firm: links.iter().map(|link| !link.is_dev_only()).collect(),
             packages,
             positions,

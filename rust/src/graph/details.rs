@@ -1,5 +1,6 @@
 //! What the text has of packages and links beside what walks need, read when it is first asked for.
 
+use super::decode::Decoded;
 use super::parts::{Parts, Span};
 use crate::platform::Platforms;
 use crate::{proved, JsonValue};
@@ -9,7 +10,7 @@ use std::sync::{Arc, OnceLock};
 /// What is made of a part of the text when it is first asked for.
 #[derive(Clone)]
 pub(super) struct Later<T> {
-    part: Span,
+    pub(super) part: Span,
     read: OnceLock<Box<T>>,
 }
 
@@ -50,17 +51,28 @@ impl Details {
                 refusal.text
             )
         });
-        Self::of(Arc::new(text))
-    }
-
-    /// Those that the text has.
-    pub(super) fn of(text: Arc<String>) -> Self {
         let mut parts = Parts::at(&text, 0);
         parts.workspace();
         let packages = parts.list(|parts| Later::of(parts.package_in_short()));
         let links = parts.list(|parts| Later::of(parts.link_in_short()));
         let _table_of_workspace = parts.field();
         let tables = parts.list(|parts| Later::of(parts.field()));
+        Details {
+            packages,
+            links,
+            tables,
+            text: Arc::new(text),
+        }
+    }
+
+    /// Those that the text has of which the rest was decoded.
+    pub(super) fn within(decoded: &Decoded) -> Self {
+        let text = Arc::clone(&decoded.text);
+        let packages = decoded.packages.iter();
+        let packages = packages.map(|package| Later::of(package.details)).collect();
+        let links = decoded.links.iter();
+        let links = links.map(|link| Later::of(link.version_req.part)).collect();
+        let tables = Parts::at(&text, decoded.tables).list(|parts| Later::of(parts.field()));
         Details {
             packages,
             links,

@@ -36,7 +36,7 @@ use decode::Decoded;
 use details::Details;
 use links_at::LinksAt;
 use std::fmt;
-use std::sync::{Arc, OnceLock};
+use std::sync::OnceLock;
 
 /// The direction of a walk.
 #[derive(Clone, Copy, Debug, PartialEq, Eq, Hash)]
@@ -188,7 +188,7 @@ impl PackageGraph {
     fn details(&self) -> &Details {
         self.details.get_or_init(|| {
             if self.has_details {
-                Details::of(Arc::clone(&self.decoded.text))
+                Details::within(&self.decoded)
             } else {
                 Details::read(&self.json)
             }
