@@ -32,6 +32,7 @@ pub use workspace::Workspace;
 
 use crate::proved::{self, Components};
 use crate::{CargoMetadata, Error, MetadataCommand, PackageId};
+use camino::Utf8Path;
 use decode::Decoded;
 use details::Details;
 use links_at::LinksAt;
@@ -80,21 +81,23 @@ pub struct PackageGraph {
     details: OnceLock<Details>,
 }
 
-// The members by what names each, which is no other's.
-fn sorted_by<K: Ord + fmt::Display>(
+// The members by a key of what names each, which is no other's.
+fn sorted_by<'d, K: Ord>(
     what: &str,
     members: &[usize],
-    key: impl Fn(usize) -> K,
+    name: impl Fn(usize) -> &'d str,
+    key: impl Fn(&'d str) -> K,
 ) -> Result<Vec<usize>, Error> {
-    let mut sorted = members.to_vec();
-    sorted.sort_by_key(|at| key(*at));
-    let same = sorted.windows(2).find(|pair| key(pair[0]) == key(pair[1]));
+    let keys = members.iter().map(|at| (key(name(*at)), *at));
+    let mut sorted: Vec<(K, usize)> = keys.collect();
+    sorted.sort_unstable();
+    let same = sorted.windows(2).find(|pair| pair[0].0 == pair[1].0);
     match same {
         Some(pair) => Err(Error::PackageGraphConstructError(format!(
             "two members have the {what} {}",
-            key(pair[0])
+            name(pair[0].1)
         ))),
-        None => Ok(sorted),
+        None => Ok(sorted.into_iter().map(|(_, at)| at).collect()),
     }
 }
 
@@ -127,8 +130,12 @@ impl PackageGraph {
         let components =
             proved::components(ends, &decoded.firm, count).map_err(|fault| decoded.told(fault))?;
         let members: Vec<_> = (0..count).filter(|at| packages[*at].is_member()).collect();
-        let members_by_path = sorted_by("path", &members, |at| decoded.path(at))?;
-        let members_by_name = sorted_by("name", &members, |at| decoded.part(packages[at].name))?;
+        let path = |at| decoded.path(at).as_str();
+        // What a path has between slashes is parted once.
+        let parted = |path| Utf8Path::new(path).components().collect::<Vec<_>>();
+        let members_by_path = sorted_by("path", &members, path, parted)?;
+        let name = |at: usize| decoded.part(packages[at].name);
+        let members_by_name = sorted_by("name", &members, name, |name| name)?;
         Ok(PackageGraph {
             json,
             all: vec![true; ends.len()],
