@@ -1,6 +1,6 @@
 //! Prints how many milliseconds it takes to read the graph of a file and list its packages in their order, to read it
-//! with all details of packages and links, and to resolve what a member needs, with no resolver and with one, whose walk is
-//! judged, the least of nine times each: `how_long metadata.json`.
+//! with all details of packages and links, and to resolve what a member needs, with no resolver and with one, whose
+//! walk is judged, the least of nine times each: `how_long metadata.json`.
 
 use guppy_proved::graph::{DependencyDirection, PackageGraph};
 use guppy_proved::CargoMetadata;
