@@ -6,7 +6,7 @@ use Rattle.std.specs.List.{AllZip}
 use Rattle.guppy_data.specs.declared.records.PackageRecord.{PackageRecord}
 use Rattle.guppy_data.specs.declared.texts.error.Error.{Error}
 use Rattle.guppy_data.specs.declared.texts.error.Error.TheVariants.{PackageGraphConstructError, UnknownPackageId, UnknownFeatureId, UnknownWorkspacePath, UnknownWorkspaceName, PackageGraphInternalError, FeatureGraphInternalError, OutOfMemory}
-use Rattle.guppy_command.specs.Cause.{Cause, library, bad_arguments, ambiguous, no_walk, unpublishable, bad_input, input_failed, output_failed}
+use Rattle.guppy_command.specs.Cause.{Cause, library, bad_arguments, ambiguous, no_walk, unpublishable, build, bad_input, input_failed, output_failed}
 use Rattle.guppy_command.specs.Command.{Command}
 use Rattle.guppy_program.specs.Meant.{Means}
 use Rattle.guppy_program.specs.Format.{Format, IsUnclear}
@@ -14,7 +14,8 @@ use Rattle.guppy.specs.Graph.{GraphData}
 use Rattle.guppy.specs.Verified.{TellsVerifyFault, IsVerifyFault as IsGraphFault}
 use Rattle.guppy_data.specs.declared.texts.fault.VerifyFault.{VerifyFault}
 use Rattle.guppy_data.specs.declared.texts.fault.VerifyFault.TheVariants.{TargetKind, Version, NoSection, Cycle}
-use Rattle.guppy_program.specs.Answer.{IsClear, IsWordFault, IsVerifyFault, IsVerifyTold, IsToldAs, TellsCycle, IsCommandFault, words_of}
+use Rattle.guppy_program.specs.Answer.{IsClear, IsWordFault, IsVerifyFault, IsVerifyTold, IsToldAs, TellsCycle, IsCommandFault, IsFaultOn, words_of}
+use Rattle.guppy_program.specs.Builds.{Places}
 
 clear_at : (meant : List ℕ → List (List ℕ)) (words ids : List (List ℕ)) → AllZip (Means meant) words ids → (k : ℕ) (d : List ℕ) → k < length words → IsClear meant (get_or words k d)
 clear_at meant [] ids means k d within = absurd (omega arith)
@@ -69,6 +70,7 @@ module _ {Fault : Type 0} (format : Format Fault) where
     )
     unclear_word fault (no_walk from to) is = absurd is
     unclear_word fault (unpublishable member needed) is = absurd is
+    unclear_word fault (build why) is = absurd is
     unclear_word fault bad_input is = absurd is
     unclear_word fault input_failed is = absurd is
     unclear_word fault output_failed is = absurd is
@@ -87,9 +89,22 @@ module _ {Fault : Type 0} (format : Format Fault) where
   command_word call command g fault (ambiguous given choices) is = is
   command_word call command g fault (no_walk from to) is = absurd is
   command_word call command g fault (unpublishable member needed) is = absurd is
+  command_word call command g fault (build why) is = absurd is
   command_word call command g fault bad_input is = is
   command_word call command g fault input_failed is = is
   command_word call command g fault output_failed is = is
+
+  -- what a command is refused for is no fault of a build
+  pub no_build : (places : Places) (call : List ℕ → List ℕ) (command : Command) (g : GraphData) (fault : Fault) (cause : Cause) → IsCommandFault format call command g fault cause → IsFaultOn format places call command g fault cause
+  no_build places call command g fault (library error) is = is
+  no_build places call command g fault bad_arguments is = is
+  no_build places call command g fault (ambiguous given choices) is = is
+  no_build places call command g fault (no_walk from to) is = is
+  no_build places call command g fault (unpublishable member needed) is = is
+  no_build places call command g fault (build why) is = absurd is
+  no_build places call command g fault bad_input is = is
+  no_build places call command g fault input_failed is = is
+  no_build places call command g fault output_failed is = is
 
   -- what `verify` refuses is told for the commands that ask for it
   pub told_of : (call : List ℕ → List ℕ) (command : Command) (g : GraphData) → ((found : VerifyFault) → IsGraphFault g found → IsVerifyFault command g found)
@@ -106,6 +121,7 @@ module _ {Fault : Type 0} (format : Format Fault) where
   told_of call command g asks fault (ambiguous given choices) is = absurd is
   told_of call command g asks fault (no_walk from to) is = absurd is
   told_of call command g asks fault (unpublishable member needed) is = absurd is
+  told_of call command g asks fault (build why) is = absurd is
   told_of call command g asks fault bad_input is = absurd is
   told_of call command g asks fault input_failed is = absurd is
   told_of call command g asks fault output_failed is = absurd is
