@@ -1,11 +1,11 @@
 -- What a command line's choice means to Cargo.
-use Rattle.std.specs.Prelude.{◌≡◌, ⊤, ℕ, ◌<◌, Bool, List, [], ◌∷◌, length, map, Option, All, Ok}
+use Rattle.std.specs.Prelude.{◌≡◌, ⊤, ℕ, Bool, List, [], ◌∷◌, map, Option, Ok}
 use Rattle.std.specs.List.{AllZip}
 use Rattle.guppy_data.specs.NamedFeature.{IsFeature}
 use Rattle.guppy_data.specs.declared.platform.spec.PlatformSpec.{PlatformSpec}
 use Rattle.guppy_data.specs.declared.texts.named_feature.NamedFeatureDep.{NamedFeatureDep}
 use Rattle.guppy_graph.specs.Graph.{GraphData}
-use Rattle.guppy_graph.specs.Ids.{HasId, IsKnown}
+use Rattle.guppy_graph.specs.Ids.{HasId}
 use Rattle.guppy_graph.specs.Members.{AreMembersByPath}
 use Rattle.guppy_target.specs.Platform.{PlatformData}
 use Rattle.guppy_features.specs.Chosen.{IsRootFor, IsAnswer, IsFirstRefused, chosen, seen_value}

@@ -1,6 +1,6 @@
 -- Which features of a package are on, and who asks for them.
-use Rattle.std.specs.Prelude.{◌≡◌, ◌↔◌, ℕ, List, ◌++◌, map, option_map, Option, Some, slice_get, Contains}
-use Rattle.std.specs.List.{AllZip, filter_map, flat_map}
+use Rattle.std.specs.Prelude.{◌≡◌, ◌↔◌, ℕ, List, ◌++◌, map, option_map, Option, Some, slice_get, All, Contains}
+use Rattle.std.specs.List.{filter_map, flat_map}
 use Rattle.std.specs.List.Sorted.{IsStrictlySortedBy}
 use Rattle.std.specs.Ordering.{nat_cmp}
 use Rattle.guppy_data.specs.declared.records.PackageRecord.{PackageRecord}
@@ -49,31 +49,33 @@ pub record AreAskers (q : Question) (f : Fact) (askers : List (List ℕ)) : Type
   pub same : (p : ℕ) → Contains positions p ↔ Contains (needed_positions ways) p
   pub ids : askers ≡ filter_map (id_at q.graph) positions
 
--- the feature of the name on the side, with who asks for it
-pub record IsFeature (q : Question) (p : ℕ) (s : BuildPlatform) (name : List ℕ) (row : FeatureData) : Type 0 where
+-- the feature on the side, with who asks for it
+pub record IsFeature (q : Question) (p : ℕ) (s : BuildPlatform) (row : FeatureData) : Type 0 where
   pub side : row.side ≡ s
-  pub named : row.name ≡ name
   pub fact : Fact
-  pub is : feature_fact q.graph.packages p s name ≡ Some fact
+  pub is : feature_fact q.graph.packages p s row.name ≡ Some fact
   pub askers : AreAskers q fact row.askers
 
 -- the features of the package that are on on the side, in the record's order
 pub record AreOnSide (q : Question) (p : ℕ) (s : BuildPlatform) (rows : List FeatureData) : Type 0 where
   pub record_is : PackageRecord
   pub found : slice_get q.graph.packages p ≡ Some record_is
-  pub names : List (List ℕ)
-  pub those : AreThose (IsFeatureOn q p s) (feature_names record_is) names
-  pub rows_are : AllZip (IsFeature q p s) names rows
+  pub those : AreThose (IsFeatureOn q p s) (feature_names record_is) (map (λ row. row.name) rows)
+  pub each : All (IsFeature q p s) rows
 
--- those of the package with the ID for the choice, the target's side first
+-- those on both sides, the target's first
+pub record AreOnSides (q : Question) (p : ℕ) (rows : List FeatureData) : Type 0 where
+  pub target : List FeatureData
+  pub host : List FeatureData
+  pub on_target : AreOnSide q p Target target
+  pub on_host : AreOnSide q p Host host
+  pub all : rows ≡ target ++ host
+
+-- those of the package with the ID for the choice
 pub record AreFeatures (g : GraphData) (c : Choice) (id : List ℕ) (rows : List FeatureData) : Type 0 where
   pub options : CargoOptions
   pub members : List ℕ
   pub asked : IsAsked g c options members
   pub position : ℕ
   pub found : HasId g.packages id position
-  pub target : List FeatureData
-  pub host : List FeatureData
-  pub on_target : AreOnSide (question g options) position Target target
-  pub on_host : AreOnSide (question g options) position Host host
-  pub all : rows ≡ target ++ host
+  pub exact : AreOnSides (question g options) position rows

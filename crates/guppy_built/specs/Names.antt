@@ -1,5 +1,5 @@
 -- What facts say, by names.
-use Rattle.std.specs.Prelude.{ℕ, List, Option, Some, None, option_map, slice_get, option_to_list, ◌++◌}
+use Rattle.std.specs.Prelude.{ℕ, List, Option, Some, option_map, slice_get, option_to_list, ◌++◌}
 use Rattle.std.specs.List.{filter_map}
 use Rattle.std.specs.Option.{option_and_then}
 use Rattle.std.specs.String.{string_bytes}

@@ -25,7 +25,7 @@ use Rattle.guppy_builds.specs.declared.build.BuildMode.TheVariants.{Build as Alo
 use Rattle.guppy_builds.specs.declared.build.BuildPlace.{BuildPlace}
 use Rattle.guppy_builds.specs.declared.build.BuildPlace.TheVariants.{Target, Host}
 use Rattle.guppy_built.specs.declared.rows.BuiltPackage.{BuiltPackage}
-use Rattle.guppy_built.specs.Asked.{Choice, IsAsked, IsChoiceFault}
+use Rattle.guppy_built.specs.Asked.{Choice, IsAsked}
 use Rattle.guppy_built.specs.Those.{AreThose}
 
 -- a package that is built: its ID, what the platform is called, and its features

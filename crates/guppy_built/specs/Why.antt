@@ -1,7 +1,6 @@
 -- Why a feature is on.
-use Rattle.std.specs.Prelude.{◌≡◌, ⊤, ℕ, List, Option, Some, None, map, slice_get, IsSomeAnd}
+use Rattle.std.specs.Prelude.{◌≡◌, ℕ, List, Some, None, slice_get, IsSomeAnd}
 use Rattle.std.specs.List.{filter_map}
-use Rattle.guppy_closure.specs.Relations.{HoldsBy}
 use Rattle.guppy_graph.specs.Graph.{GraphData}
 use Rattle.guppy_graph.specs.Ids.{HasId}
 use Rattle.guppy_features.specs.Facts.{feature_fact, feature_place}

@@ -1,15 +1,14 @@
 //! Which features of a package are on, and who asks for them.
-ghost use Rattle.std.specs.Prelude.{◌≡◌, ◌++◌, ◌<◌, All, IfErr, IfOk, IfSome, OnOk, None, List, length, map};
+ghost use Rattle.std.specs.Prelude.{◌≡◌, ◌++◌, ◌<◌, All, IfErr, IfOk, IfSome, OnOk, None, length, map, option_map};
 ghost use Rattle.std.specs.List.{filter_map};
 ghost use Rattle.guppy_graph.specs.Ids.{IsKnown};
-ghost use Rattle.guppy_features.specs.Facts.{feature_fact};
 ghost use Rattle.guppy_features.specs.Reasons.{grounds};
 ghost use Rattle.guppy_built.specs.Asked.{IsChoiceFault, choice_of};
-ghost use Rattle.guppy_built.specs.Features.{AreAskers, AreFeatures, AreOnSide, FeatureData, IsFeature, feature_shown, id_at, needed_positions};
+ghost use Rattle.guppy_built.specs.Features.{AreAskers, AreFeatures, AreOnSide, AreOnSides, IsFeature, feature_shown, id_at, needed_positions};
+ghost use Rattle.guppy_built.specs.Rows.{IsFeatureOn};
 
 use crate::asked::options_of;
 use crate::fault::BuiltFault;
-use crate::features::features_on;
 use crate::members::{chosen_members, position_of};
 use crate::question::BuildQuestion;
 use guppy_data::{PackageId, SortedSet};
@@ -54,6 +53,14 @@ fn needed_positions(alloc: Global, ways: &[Reason]) -> Result<Vec<usize>, AllocE
     Ok(positions)
 }
 
+// The ID of the package at the position, if there is one.
+fn id_at(graph: &RecordGraph, position: usize) -> Option<&PackageId>
+    ensures { option_map (λ id. id.now) result ≡ id_at graph.now position }
+{
+    let package = graph.dep_graph().nodes().get(position)?;
+    Some(&package.id)
+}
+
 // The IDs of the packages at these positions.
 fn ids_at<'a>(
     alloc: Global,
@@ -64,8 +71,8 @@ fn ids_at<'a>(
 {
     let mut ids = Vec::new(alloc);
     for position in positions {
-        if let Some(package) = graph.dep_graph().nodes().get(*position) {
-            ids.push(&package.id)?;
+        if let Some(id) = id_at(graph, *position) {
+            ids.push(id)?;
         }
     }
     Ok(ids)
@@ -86,7 +93,7 @@ fn askers_of<'a>(
     ids_at(alloc, graph, positions.as_slice())
 }
 
-// The package's feature of the name on the side, which it has, with who asks for it.
+// The package's feature of the name, if it is on on the side, with who asks for it.
 fn feature_on<'a>(
     alloc: Global,
     graph: &'a RecordGraph,
@@ -97,14 +104,18 @@ fn feature_on<'a>(
 ) -> Result<Option<FeatureOn<'a>>, AllocError>
     requires graph { set.now.graph ≡ graph.now }
     requires within { position < length graph.now.packages }
-    ensures on { IfOk result (λ found. IfSome found
-        (λ on. IsFeature set.now position side name.now (feature_shown on))) }
-    ensures lacks { IfOk result (λ found. found ≡ None
-        → feature_fact graph.now.packages position side name.now ≡ None) }
+    ensures off { IfOk result (λ found. found ≡ None → ¬ IsFeatureOn set.now position side name.now) }
+    ensures on { IfOk result (λ found. IfSome found (λ on. IsFeatureOn set.now position side name.now)) }
+    ensures named { IfOk result (λ found. IfSome found (λ on. on.name.now ≡ name.now)) }
+    ensures feature { IfOk result (λ found. IfSome found
+        (λ on. IsFeature set.now position side (feature_shown on))) }
 {
     let Some(fact) = set.asked().feature(position, side, name) else {
         return Ok(None);
     };
+    if !set.contains(fact) {
+        return Ok(None);
+    }
     Ok(Some(FeatureOn {
         side,
         name,
@@ -112,27 +123,43 @@ fn feature_on<'a>(
     }))
 }
 
-// Adds the features of the package that are on on the side.
-fn add_features<'a>(
-    rows: &mut Vec<FeatureOn<'a>>,
+// The features of the package that are on on the side.
+fn features_at<'a>(
     alloc: Global,
     graph: &'a RecordGraph,
     set: &CargoSet<'_>,
     position: usize,
     side: BuildPlatform,
-) -> Result<(), AllocError>
+) -> Result<Vec<FeatureOn<'a>>, AllocError>
     requires graph { set.now.graph ≡ graph.now }
     requires within { position < length graph.now.packages }
-    ensures { OnOk result ((more : List FeatureData) × AreOnSide set.now position side more
-        × (map feature_shown rows.new.items ≡ map feature_shown rows.old.items ++ more)) }
+    ensures { IfOk result (λ rows. AreOnSide set.now position side (map feature_shown rows.items)) }
 {
     let package = graph.package_at(position);
-    for name in features_on(alloc, set, position, side, package)? {
-        if let Some(on) = feature_on(alloc, graph, set, position, side, name)? {
+    let mut rows = Vec::new(alloc);
+    for name in package.named_features.keys() {
+        if let Some(on) = feature_on(alloc, graph, set, position, side, name.as_str())? {
             rows.push(on)?;
         }
     }
-    Ok(())
+    Ok(rows)
+}
+
+// Those that are on on both sides, the target's first.
+fn features_on_sides<'a>(
+    alloc: Global,
+    graph: &'a RecordGraph,
+    set: &CargoSet<'_>,
+    position: usize,
+) -> Result<Vec<FeatureOn<'a>>, AllocError>
+    requires graph { set.now.graph ≡ graph.now }
+    requires within { position < length graph.now.packages }
+    ensures { IfOk result (λ rows. AreOnSides set.now position (map feature_shown rows.items)) }
+{
+    let mut rows = features_at(alloc, graph, set, position, BuildPlatform::Target)?;
+    let mut more = features_at(alloc, graph, set, position, BuildPlatform::Host)?;
+    rows.append(&mut more)?;
+    Ok(rows)
 }
 
 /// The features of the package with the ID that are on where Cargo builds the choice, those on the target's side first,
@@ -144,7 +171,7 @@ fn add_features<'a>(
 pub fn features_of<'a>(
     alloc: Global,
     graph: &'a RecordGraph,
-    question: &BuildQuestion<'_, '_>,
+    question: &BuildQuestion<'_, 'a>,
     id: &PackageId,
 ) -> Result<Vec<FeatureOn<'a>>, BuiltFault>
     requires members { All (IsKnown graph.now.packages) question.now.members.now }
@@ -157,15 +184,5 @@ pub fn features_of<'a>(
     let members = chosen_members(alloc, graph, question.members)?;
     let options = options_of(alloc, graph, question, members.as_slice())?;
     let set = CargoSet::new(graph, &options)?;
-    let mut rows = Vec::new(alloc);
-    add_features(
-        &mut rows,
-        alloc,
-        graph,
-        &set,
-        position,
-        BuildPlatform::Target,
-    )?;
-    add_features(&mut rows, alloc, graph, &set, position, BuildPlatform::Host)?;
-    Ok(rows)
+    Ok(features_on_sides(alloc, graph, &set, position)?)
 }

@@ -1,5 +1,5 @@
 //! What is built, a row for each package on each platform.
-ghost use Rattle.std.specs.Prelude.{◌≡◌, ◌<◌, All, IfErr, IfOk, IfSome, List, None, Option, Some, option_map, length, map, filter, slice_get, if◌then◌else◌};
+ghost use Rattle.std.specs.Prelude.{◌≡◌, ◌<◌, All, IfErr, IfOk, IfSome, List, ℕ, None, Some, option_map, length, map, filter, slice_get, if◌then◌else◌};
 ghost use Rattle.std.specs.List.{AllZip};
 ghost use Rattle.guppy_graph.specs.Ids.{IsKnown};
 ghost use Rattle.guppy_features.specs.Questions.{question};

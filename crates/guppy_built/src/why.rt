@@ -82,7 +82,7 @@ fn has_feature(graph: &RecordGraph, position: usize, name: &str) -> bool
 pub fn why_feature<'a>(
     alloc: Global,
     graph: &'a RecordGraph,
-    question: &BuildQuestion<'_, '_>,
+    question: &BuildQuestion<'_, 'a>,
     id: &PackageId,
     name: &str,
 ) -> Result<Vec<NamedReason<'a>>, BuiltFault>

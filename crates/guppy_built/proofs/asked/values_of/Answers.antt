@@ -1,4 +1,4 @@
-use Rattle.std.proofs.Common.{◌≡◌, Bor, List, ℕ, get_or, [], subst, take}
+use Rattle.std.proofs.Common.{Bor, List, ℕ, get_or, [], subst}
 use Rattle.std.proofs.lemmas.List.{get_or_default, take_all}
 use Rattle.std.specs.List.{AllZip}
 use Rattle.guppy_data.specs.NamedFeature.{IsFeature}

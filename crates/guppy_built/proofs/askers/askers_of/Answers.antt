@@ -1,12 +1,26 @@
-use Rattle.std.proofs.Common.{rules, ◌≡◌, ◌++◌, ◌<◌, All, IfErr, IfOk, IfSome, OnOk, None, List, length, map, ℕ, ◌+◌, ◌-◌, ◌*◌, ◌≤◌, ◌/◌, ◌%◌, Bool, true, false, nat_eq, nat_lt, [], ◌∷◌, slice_index_or, slice_set, bit_and, bit_or, Fits, w8, w32, w64, Bor, MutBor}
+use Rattle.std.proofs.Common.{◌∙◌, List, ℕ, ap, sym, subst}
+use Rattle.std.specs.Prelude.{◌↔◌, Contains}
 use Rattle.std.specs.List.{filter_map}
-use Rattle.guppy_graph.specs.Ids.{IsKnown}
-use Rattle.guppy_features.specs.Facts.{feature_fact}
-use Rattle.guppy_features.specs.Reasons.{grounds}
-use Rattle.guppy_built.specs.Asked.{IsChoiceFault, choice_of}
-use Rattle.guppy_built.specs.Features.{AreAskers, AreFeatures, AreOnSide, FeatureData, IsFeature, feature_shown, id_at, needed_positions}
+use Rattle.std.proofs.lemmas.Bool.{eqb-true}
+use Rattle.std.proofs.lemmas.Result.{IfOk-weaker}
+use Rattle.guppy_graph.specs.Graph.{GraphData}
+use Rattle.guppy_features.specs.declared.reason.Reason.{Reason}
+use Rattle.guppy_built.specs.Features.{id_at, needed_positions}
+use Rattle.guppy_built.proofs.Seen.{same_elements}
 use Rattle.guppy_built.proofs.askers.askers_of.Goals as goal
 
--- src/askers.rt:75:1
 pub returns : goal.returns
-returns c = ?
+returns c =
+    let ways = c.in_ok-ways.ways.items in
+    let needed = c.in_ok-needed_positions.field-0.items in
+    let positions = c.new-positions.result in
+    IfOk-weaker c.ids_at.result _ _ (λ ids is. record {
+      ways = ways;
+      exact = c.in_ok-ways.ensures;
+      positions = positions;
+      order = c.new-positions.ensures.sorted;
+      same = λ p. subst (λ (all : List ℕ). Contains positions p ↔ Contains all p)
+          (c.in_ok-needed_positions.ensures ∙ ap (λ (all : List Reason). needed_positions all) c.as_slice.ensures.value)
+          (same_elements _ needed positions eqb-true c.new-positions.ensures.kept p);
+      ids = is ∙ ap (filter_map (id_at c.args.graph.now)) c.as_slice-2.ensures.items ∙ ap (λ (g : GraphData). filter_map (id_at g) positions) (sym c.requires);
+    }) c.ids_at.ensures

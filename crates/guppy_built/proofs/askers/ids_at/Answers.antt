@@ -1,20 +1,26 @@
-use Rattle.std.proofs.Common.{rules, ◌≡◌, ◌++◌, ◌<◌, All, IfErr, IfOk, IfSome, OnOk, None, List, length, map, ℕ, ◌+◌, ◌-◌, ◌*◌, ◌≤◌, ◌/◌, ◌%◌, Bool, true, false, nat_eq, nat_lt, [], ◌∷◌, slice_index_or, slice_set, bit_and, bit_or, Fits, w8, w32, w64, Bor, MutBor}
-use Rattle.std.specs.List.{filter_map}
-use Rattle.guppy_graph.specs.Ids.{IsKnown}
-use Rattle.guppy_features.specs.Facts.{feature_fact}
-use Rattle.guppy_features.specs.Reasons.{grounds}
-use Rattle.guppy_built.specs.Asked.{IsChoiceFault, choice_of}
-use Rattle.guppy_built.specs.Features.{AreAskers, AreFeatures, AreOnSide, FeatureData, IsFeature, feature_shown, id_at, needed_positions}
+use Rattle.std.proofs.Common.{◌∙◌, ℕ, List, Bor, Vec, Global, map, ap, sym}
+use Rattle.std.specs.Prelude.{option_map}
+use Rattle.std.proofs.lemmas.List.{get_or_default}
+use Rattle.guppy_features.proofs.ChosenLists.{made_none, made_some}
+use Rattle.guppy_built.specs.Features.{id_at}
 use Rattle.guppy_built.proofs.askers.ids_at.Goals as goal
+use Rattle.guppy_built.proofs.askers.ids_at.Goals.{in-Some+in_ok-push, in_default}
 
--- src/askers.rt:66:5
-pub loop-position-init : goal.loop-position-init
-loop-position-init c = ?
-
--- src/askers.rt:66:5
 pub loop-position-preserved : goal.loop-position-preserved
-loop-position-preserved c = ?
-
--- src/askers.rt:58:1
-pub returns : goal.returns
-returns c = ?
+loop-position-preserved c =
+    let h = id_at c.args.graph.now in
+    let seen = λ (id : Bor (List ℕ)). id.now in
+    let positions = c.args.positions.now in
+    let i = c.loop-position.position-index in
+    let below = c.loop-position-test.true in
+    let ids = c.loop-position.ids.items in
+    elim c.match-id_at.branch [
+      | in-Some+in_ok-push w ↦
+          let pushed = ap (λ (ids : Vec (Bor (List ℕ)) Global). ids.items) w.ids-is ∙ w.in_ok-push.ensures.items in
+          ap (map seen) pushed ∙ made_some (λ (p : ℕ). p) h positions i _ seen ids below (get_or_default positions i _ _ below) c.loop-position.invariant w.in-Some.id
+          (sym c.id_at.ensures ∙ ap (option_map seen) w.in-Some.is)
+      | in_default w ↦
+          let same = ap (λ (ids : Vec (Bor (List ℕ)) Global). ids.items) w.ids-is in
+          ap (map seen) same ∙ made_none (λ (p : ℕ). p) h positions i _ seen ids below (get_or_default positions i _ _ below) c.loop-position.invariant
+          (sym c.id_at.ensures ∙ ap (option_map seen) w.in_default.is)
+    ]

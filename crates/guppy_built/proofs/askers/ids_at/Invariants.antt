@@ -1,11 +1,7 @@
-use Rattle.std.proofs.Common.{◌≡◌, ◌++◌, ◌<◌, All, IfErr, IfOk, IfSome, OnOk, None, List, length, map, ℕ, ◌+◌, ◌-◌, ◌*◌, ◌≤◌}
+use Rattle.std.proofs.Common.{◌≡◌, map, take}
 use Rattle.std.specs.List.{filter_map}
-use Rattle.guppy_graph.specs.Ids.{IsKnown}
-use Rattle.guppy_features.specs.Facts.{feature_fact}
-use Rattle.guppy_features.specs.Reasons.{grounds}
-use Rattle.guppy_built.specs.Asked.{IsChoiceFault, choice_of}
-use Rattle.guppy_built.specs.Features.{AreAskers, AreFeatures, AreOnSide, FeatureData, IsFeature, feature_shown, id_at, needed_positions}
+use Rattle.guppy_built.specs.Features.{id_at}
 use Rattle.guppy_built.proofs.askers.ids_at.Given as goal
 
 abbrev pub invariant-loop-position : goal.invariant-loop-position
-invariant-loop-position l = ?
+invariant-loop-position l = map (λ id. id.now) l.ids.items ≡ filter_map (id_at l.graph) (map (λ p. p) (take l.position-index l.positions))

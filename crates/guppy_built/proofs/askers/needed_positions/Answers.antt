@@ -1,20 +1,5 @@
-use Rattle.std.proofs.Common.{rules, ◌≡◌, ◌++◌, ◌<◌, All, IfErr, IfOk, IfSome, OnOk, None, List, length, map, ℕ, ◌+◌, ◌-◌, ◌*◌, ◌≤◌, ◌/◌, ◌%◌, Bool, true, false, nat_eq, nat_lt, [], ◌∷◌, slice_index_or, slice_set, bit_and, bit_or, Fits, w8, w32, w64, Bor, MutBor}
-use Rattle.std.specs.List.{filter_map}
-use Rattle.guppy_graph.specs.Ids.{IsKnown}
-use Rattle.guppy_features.specs.Facts.{feature_fact}
-use Rattle.guppy_features.specs.Reasons.{grounds}
-use Rattle.guppy_built.specs.Asked.{IsChoiceFault, choice_of}
-use Rattle.guppy_built.specs.Features.{AreAskers, AreFeatures, AreOnSide, FeatureData, IsFeature, feature_shown, id_at, needed_positions}
+use Rattle.guppy_built.proofs.Seen.{needed_more}
 use Rattle.guppy_built.proofs.askers.needed_positions.Goals as goal
 
--- src/askers.rt:51:5
-pub loop-way-init : goal.loop-way-init
-loop-way-init c = ?
-
--- src/askers.rt:51:5
 pub loop-way-preserved : goal.loop-way-preserved
-loop-way-preserved c = ?
-
--- src/askers.rt:47:1
-pub returns : goal.returns
-returns c = ?
+loop-way-preserved c = needed_more c.args.ways.now c.loop-way.way-index _ _ _ c.loop-way-test.true c.in_ok-add_positions.ensures c.loop-way.invariant

@@ -1,11 +1,6 @@
-use Rattle.std.proofs.Common.{◌≡◌, ◌++◌, ◌<◌, All, IfErr, IfOk, IfSome, OnOk, None, List, length, map, ℕ, ◌+◌, ◌-◌, ◌*◌, ◌≤◌}
-use Rattle.std.specs.List.{filter_map}
-use Rattle.guppy_graph.specs.Ids.{IsKnown}
-use Rattle.guppy_features.specs.Facts.{feature_fact}
-use Rattle.guppy_features.specs.Reasons.{grounds}
-use Rattle.guppy_built.specs.Asked.{IsChoiceFault, choice_of}
-use Rattle.guppy_built.specs.Features.{AreAskers, AreFeatures, AreOnSide, FeatureData, IsFeature, feature_shown, id_at, needed_positions}
+use Rattle.std.proofs.Common.{◌≡◌, take}
+use Rattle.guppy_built.specs.Features.{needed_positions}
 use Rattle.guppy_built.proofs.askers.needed_positions.Given as goal
 
 abbrev pub invariant-loop-way : goal.invariant-loop-way
-invariant-loop-way l = ?
+invariant-loop-way l = l.positions.items ≡ needed_positions (take l.way-index l.ways)

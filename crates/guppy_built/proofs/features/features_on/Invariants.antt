@@ -1,8 +1,12 @@
-use Rattle.std.proofs.Common.{◌≡◌, ◌↔◌, ◌<◌, IfOk, IsTrue, Some, length, map, slice_get, ℕ, ◌+◌, ◌-◌, ◌*◌, ◌≤◌}
-use Rattle.guppy_builds.specs.Places.{features_side}
-use Rattle.guppy_built.specs.Rows.{IsFeatureOn, feature_names}
+use Rattle.std.proofs.Common.{◌≡◌, ◌++◌, map}
+use Rattle.std.specs.String.{string_bytes}
+use Rattle.indexmap.specs.IndexMap.{keys}
+use Rattle.guppy_built.specs.Rows.{IsFeatureOn}
 use Rattle.guppy_built.specs.Those.{AreThose}
 use Rattle.guppy_built.proofs.features.features_on.Given as goal
 
 abbrev pub invariant-loop-name : goal.invariant-loop-name
-invariant-loop-name l = ?
+invariant-loop-name l = record {
+  all : map (λ name. name.now) l.yielded ++ l.name-iterator ≡ keys l.«package».named_features;
+  those : AreThose (IsFeatureOn l.set l.position l.side) (map (λ name. string_bytes name.now) l.yielded) (map (λ name. name.now) l.names.items);
+}

@@ -1,7 +1,6 @@
-use Rattle.std.proofs.Common.{rules, ℕ, List, IfOk, Vec, Global, All, subst, sym}
+use Rattle.std.proofs.Common.{rules, IfOk}
 use Rattle.std.proofs.lemmas.Result.{IfOk-weaker}
 use Rattle.guppy_graph.proofs.Membership.{members_below}
-use Rattle.guppy_graph.specs.Ids.{IsKnown}
 use Rattle.guppy_graph.specs.Members.{AreMembersByPath}
 use Rattle.guppy_built.proofs.members.default_members.Goals as goal
 
