@@ -8,6 +8,7 @@ use Rattle.guppy_program.proofs.GrowingLines.{lines_more, row_line, viewed_more}
 use Rattle.guppy_program.proofs.print_builds.lines_of_built.Goals as goal
 
 pub loop-row-preserved : goal.loop-row-preserved
+unfolding lib.Utf8.encode
 loop-row-preserved g c packages are =
     let call = called c.args.options.now (g.F.Format.format.text packages) in
     let print = row_text call in
