@@ -20,6 +20,6 @@ pub refused_told : (places : Places) (g : GraphData) (meant : List ℕ → List 
 refused_told places g meant request choice chosen place is P refused memory cause told = ⊎_elim
     (λ (wanted : cause ≡ library OutOfMemory). subst P (sym wanted) memory)
     (λ (at : IsSomeAnd (slice_get request.features place) (λ text. cause ≡ build (unknown_feature text))).
-        let text = found (slice_get request.features place) (λ text. cause ≡ build (unknown_feature text)) at in
-        subst P (sym text.2) (refused text.0 (record { choice = choice; chosen = chosen; place = place; is = text.1; refused = is })))
+    let text = found (slice_get request.features place) (λ text. cause ≡ build (unknown_feature text)) at in
+    subst P (sym text.2) (refused text.0 (record { choice = choice; chosen = chosen; place = place; is = text.1; refused = is })))
     told

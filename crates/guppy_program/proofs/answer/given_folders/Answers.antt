@@ -32,5 +32,5 @@ loop-folder-preserved g c =
     let none : Bor (List ℕ) = record { ref_ptr = (0, 0); now = [] } in
     let item = get_or also k (none, none) in
     let both = fits_with pair_seen also k item (none, none) c.loop-folder-test.true refl (λ both (one : Given). (one.0 ≡ both.0) × Means meant both.1 one.1) (map shown given) (item.0.now, c.in_ok-owner.owner)
-        c.loop-folder.invariant (refl, c.in_ok-owner.ensures.found) in
+    c.loop-folder.invariant (refl, c.in_ok-owner.ensures.found) in
     rw c.in-Ok.ensures.items (subst (AreGiven meant (map pair_seen (take (k + 1) also))) (sym (map_push shown given (item.0, c.in_ok-owner.owner))) both)
