@@ -4,7 +4,8 @@ use Rattle.std.proofs.lemmas.List.{map-append}
 use Rattle.std.specs.List.{AllZip}
 use Rattle.guppy_affected.specs.Folders.{Given}
 use Rattle.guppy_command.proofs.FirstItems.{cut_at}
-use Rattle.guppy_program.specs.Answer.{Means, AreGiven}
+use Rattle.guppy_program.specs.Answer.{AreGiven}
+use Rattle.guppy_program.specs.Meant.{Means}
 
 -- a folder and the word for its package
 abbrev pub pair_seen : Bor (List ℕ) × Bor (List ℕ) → List ℕ × List ℕ

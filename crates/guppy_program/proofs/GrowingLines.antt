@@ -1,5 +1,5 @@
 -- A text that grows by a line, item by item.
-use Rattle.std.proofs.Common.{◌≡◌, ◌∙◌, sym, ap, ℕ, ◌+◌, ◌<◌, List, [], ◌∷◌, ◌++◌, length, map, take, get_or, codes}
+use Rattle.std.proofs.Common.{◌≡◌, ◌∙◌, sym, ap, ℕ, ◌+◌, ◌<◌, List, [], ◌∷◌, ◌++◌, length, map, take, get_or, codes, append_assoc}
 use Rattle.std.specs.List.{flat_map}
 use Rattle.std.proofs.lemmas.List.{append-nil, map_push, take_more}
 use Rattle.std.proofs.lemmas.List.Concat.{flat_map-append}
@@ -24,3 +24,7 @@ arrows_more call ids i id within is =
     ap arrowed (viewed_more call ids i id within is)
     ∙ flat_map-append (λ text. text ++ codes " -> ") (map call (take i ids)) (call id ∷ [])
     ∙ ap (λ more. arrowed (map call (take i ids)) ++ more) (append-nil (call id ++ codes " -> "))
+
+-- a text that grows by two words, parted by a space, the rest of a line, and the line's end
+pub row_line : (before first space second rest last : List ℕ) → ((((before ++ first) ++ space) ++ second) ++ rest) ++ last ≡ before ++ ((first ++ ((space ++ second) ++ rest)) ++ last)
+row_line before first space second rest last = simp append_assoc

@@ -7,6 +7,7 @@ pub mod GivenFolders
 pub mod PackageLists
 pub mod PublishableMembers
 pub mod Hindrances
+pub mod RefusedFeatures
 pub mod Runs
 pub mod WholeSet
 pub mod GrowingLines

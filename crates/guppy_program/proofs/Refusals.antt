@@ -1,20 +1,22 @@
 -- Why a command is refused.
-use Rattle.std.proofs.Common.{◌≡◌, ◌∙◌, ⊎_elim, refl, sym, ap, subst, ℕ, zero, suc, ◌<◌, List, [], ◌∷◌, ◌++◌, length, get_or, arith, Ok, Err}
+use Rattle.std.proofs.Common.{◌≡◌, ◌∙◌, ⊎_elim, refl, sym, ap, subst, ℕ, zero, suc, ◌<◌, List, [], ◌∷◌, ◌++◌, length, get_or, append_assoc, arith, Ok, Err}
 use Rattle.std.specs.Prelude.{Result, IfOk, IfErr, IsOkUnless, All, Vec}
 use Rattle.std.specs.declared.alloc.Global.{Global}
 use Rattle.std.specs.List.{AllZip}
 use Rattle.guppy_data.specs.declared.records.PackageRecord.{PackageRecord}
 use Rattle.guppy_data.specs.declared.texts.error.Error.{Error}
 use Rattle.guppy_data.specs.declared.texts.error.Error.TheVariants.{PackageGraphConstructError, UnknownPackageId, UnknownFeatureId, UnknownWorkspacePath, UnknownWorkspaceName, PackageGraphInternalError, FeatureGraphInternalError, OutOfMemory}
-use Rattle.guppy_command.specs.Cause.{Cause, library, bad_arguments, ambiguous, no_walk, unpublishable, bad_input, input_failed, output_failed}
+use Rattle.guppy_command.specs.Cause.{Cause, library, bad_arguments, ambiguous, no_walk, unpublishable, build, bad_input, input_failed, output_failed}
 use Rattle.guppy_command.specs.Command.{Command}
 use Rattle.guppy_program.specs.Meant.{Means}
 use Rattle.guppy_program.specs.Format.{Format, IsUnclear}
 use Rattle.guppy.specs.Graph.{GraphData}
+use Rattle.guppy.specs.Refused.{IsFirstNot}
 use Rattle.guppy.specs.Verified.{TellsVerifyFault, IsVerifyFault as IsGraphFault}
 use Rattle.guppy_data.specs.declared.texts.fault.VerifyFault.{VerifyFault}
 use Rattle.guppy_data.specs.declared.texts.fault.VerifyFault.TheVariants.{TargetKind, Version, NoSection, Cycle}
-use Rattle.guppy_program.specs.Answer.{IsClear, IsWordFault, IsVerifyFault, IsVerifyTold, IsToldAs, TellsCycle, IsCommandFault, words_of}
+use Rattle.guppy_program.specs.Answer.{IsClear, IsWordFault, IsVerifyFault, IsVerifyTold, IsToldAs, TellsCycle, IsCommandFault, IsFaultOn, words_of}
+use Rattle.guppy_program.specs.Builds.{Places}
 
 clear_at : (meant : List ℕ → List (List ℕ)) (words ids : List (List ℕ)) → AllZip (Means meant) words ids → (k : ℕ) (d : List ℕ) → k < length words → IsClear meant (get_or words k d)
 clear_at meant [] ids means k d within = absurd (omega arith)
@@ -32,6 +34,16 @@ none_clear meant k d within = absurd (omega arith)
 pub one_clear : (meant : List ℕ → List (List ℕ)) (word : List ℕ) → IsClear meant word → All (IsClear meant) (word ∷ [])
 one_clear meant word clear zero d within = clear
 one_clear meant word clear (suc k) d within = absurd (omega arith)
+
+-- the first that isn't so is the first with more behind them
+first_before : (P : List ℕ → Type 0) (words more : List (List ℕ)) (word : List ℕ) → IsFirstNot P words word → IsFirstNot P (words ++ more) word
+first_before P words more word is = record {
+  before = is.before;
+  after = is.after ++ more;
+  place = ap (λ (l : List (List ℕ)). l ++ more) is.place ∙ append_assoc is.before (word ∷ is.after) more;
+  known = is.known;
+  unknown = is.unknown;
+}
 
 module _ {Fault : Type 0} (format : Format Fault) where
   module _ (packages : List PackageRecord) (words before after : List (List ℕ)) (word : List ℕ) (place : words ≡ before ++ word ∷ after) (known : All (IsClear (format.meant packages)) before) where
@@ -69,6 +81,7 @@ module _ {Fault : Type 0} (format : Format Fault) where
     )
     unclear_word fault (no_walk from to) is = absurd is
     unclear_word fault (unpublishable member needed) is = absurd is
+    unclear_word fault (build why) is = absurd is
     unclear_word fault bad_input is = absurd is
     unclear_word fault input_failed is = absurd is
     unclear_word fault output_failed is = absurd is
@@ -87,9 +100,45 @@ module _ {Fault : Type 0} (format : Format Fault) where
   command_word call command g fault (ambiguous given choices) is = is
   command_word call command g fault (no_walk from to) is = absurd is
   command_word call command g fault (unpublishable member needed) is = absurd is
+  command_word call command g fault (build why) is = absurd is
   command_word call command g fault bad_input is = is
   command_word call command g fault input_failed is = is
   command_word call command g fault output_failed is = is
+
+  -- what a command is refused for is no fault of a build
+  pub no_build : (places : Places) (call : List ℕ → List ℕ) (command : Command) (g : GraphData) (fault : Fault) (cause : Cause) → IsCommandFault format call command g fault cause → IsFaultOn format places call command g fault cause
+  no_build places call command g fault (library error) is = is
+  no_build places call command g fault bad_arguments is = is
+  no_build places call command g fault (ambiguous given choices) is = is
+  no_build places call command g fault (no_walk from to) is = is
+  no_build places call command g fault (unpublishable member needed) is = is
+  no_build places call command g fault (build why) is = absurd is
+  no_build places call command g fault bad_input is = is
+  no_build places call command g fault input_failed is = is
+  no_build places call command g fault output_failed is = is
+
+  -- a word that is at fault among these is so with more behind them
+  pub word_before : (packages : List PackageRecord) (words more : List (List ℕ)) (fault : Fault) (cause : Cause) → IsWordFault format packages words fault cause → IsWordFault format packages (words ++ more) fault cause
+  word_before packages words more fault (library (UnknownPackageId id)) is = (first_before _ words more id is.0, is.1, is.2)
+  word_before packages words more fault (library (PackageGraphConstructError f)) is = absurd is
+  word_before packages words more fault (library (UnknownFeatureId id feature)) is = absurd is
+  word_before packages words more fault (library (UnknownWorkspacePath path)) is = absurd is
+  word_before packages words more fault (library (UnknownWorkspaceName name)) is = absurd is
+  word_before packages words more fault (library (PackageGraphInternalError f)) is = absurd is
+  word_before packages words more fault (library (FeatureGraphInternalError text)) is = absurd is
+  word_before packages words more fault (library OutOfMemory) is = tt
+  word_before packages words more fault bad_arguments is = absurd is
+  word_before packages words more fault (ambiguous given choices) is = (first_before _ words more given is.0, is.1, is.2)
+  word_before packages words more fault (no_walk from to) is = absurd is
+  word_before packages words more fault (unpublishable member needed) is = absurd is
+  word_before packages words more fault (build why) is = absurd is
+  word_before packages words more fault bad_input is = absurd is
+  word_before packages words more fault input_failed is = absurd is
+  word_before packages words more fault output_failed is = absurd is
+
+  -- a word of the command that is at fault is told of a build, too
+  pub build_word : (places : Places) (call : List ℕ → List ℕ) (command : Command) (g : GraphData) (fault : Fault) (cause : Cause) → IsWordFault format g.packages (words_of command) fault cause → IsFaultOn format places call command g fault cause
+  build_word places call command g fault cause is = no_build places call command g fault cause (command_word call command g fault cause is)
 
   -- what `verify` refuses is told for the commands that ask for it
   pub told_of : (call : List ℕ → List ℕ) (command : Command) (g : GraphData) → ((found : VerifyFault) → IsGraphFault g found → IsVerifyFault command g found)
@@ -106,6 +155,7 @@ module _ {Fault : Type 0} (format : Format Fault) where
   told_of call command g asks fault (ambiguous given choices) is = absurd is
   told_of call command g asks fault (no_walk from to) is = absurd is
   told_of call command g asks fault (unpublishable member needed) is = absurd is
+  told_of call command g asks fault (build why) is = absurd is
   told_of call command g asks fault bad_input is = absurd is
   told_of call command g asks fault input_failed is = absurd is
   told_of call command g asks fault output_failed is = absurd is

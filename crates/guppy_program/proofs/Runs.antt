@@ -7,12 +7,12 @@ use Rattle.guppy.specs.Accepted.{distinct_ids}
 use Rattle.guppy.specs.Graph.{GraphData}
 use Rattle.guppy.specs.Ids.{DistinctBelow}
 use Rattle.guppy_command.specs.Asked.{Asked}
-use Rattle.guppy_command.specs.Cause.{Cause, library, bad_arguments, ambiguous, no_walk, unpublishable, bad_input, input_failed, output_failed, OrMemory}
+use Rattle.guppy_command.specs.Cause.{Cause, library, bad_arguments, ambiguous, no_walk, unpublishable, build, bad_input, input_failed, output_failed, OrMemory}
 use Rattle.guppy_program.specs.Format.{Format}
 use Rattle.guppy_program.specs.Loaded.{IsLoaded}
-use Rattle.guppy_program.specs.Answer.{IsCommandFault}
+use Rattle.guppy_program.specs.Answer.{IsFaultOn}
 use Rattle.guppy_program.specs.Printed.{called}
-use Rattle.guppy_program.specs.Run.{IsAnswerTo, IsBegun, IsFaultOf, IsSourceFault, OfWholeInput}
+use Rattle.guppy_program.specs.Run.{IsAnswerTo, IsBegun, IsFaultOf, IsSourceFault, OfWholeInput, places_of}
 
 module _ {P : Type 0} where
   pub OrMemory-holds : (error : Error) → P → OrMemory P error
@@ -35,12 +35,13 @@ module _ {Fault : Type 0} (format : Format Fault) where
       subst (λ packages. DistinctBelow packages (length packages)) (sym loaded.holds.1.packages_are) (loaded.holds.0 distinct_ids)
 
   -- a refusal of the command is a fault of the command on the input
-  pub command_fault : (asked : Asked) (input : List ℕ) (g : GraphData) → IsLoaded format asked input g → (fault : Fault) (cause : Cause) → IsCommandFault format (called asked.options (format.text g.packages)) asked.command g fault cause → IsFaultOf format asked input fault cause
+  pub command_fault : (asked : Asked) (input : List ℕ) (g : GraphData) → IsLoaded format asked input g → (fault : Fault) (cause : Cause) → IsFaultOn format (places_of asked) (called asked.options (format.text g.packages)) asked.command g fault cause → IsFaultOf format asked input fault cause
   command_fault asked input g loaded fault (library error) is = OrMemory-holds error (inr (g, loaded, is))
   command_fault asked input g loaded fault bad_arguments is = absurd is
   command_fault asked input g loaded fault (ambiguous word choices) is = (g, loaded, is)
   command_fault asked input g loaded fault (no_walk from to) is = (g, loaded, is)
   command_fault asked input g loaded fault (unpublishable member needed) is = (g, loaded, is)
+  command_fault asked input g loaded fault (build why) is = (g, loaded, is)
   command_fault asked input g loaded fault bad_input is = absurd is
   command_fault asked input g loaded fault input_failed is = absurd is
   command_fault asked input g loaded fault output_failed is = absurd is
@@ -52,6 +53,7 @@ module _ {Fault : Type 0} (format : Format Fault) where
   source_fault asked old new fault (ambiguous word choices) whole = whole
   source_fault asked old new fault (no_walk from to) whole = whole
   source_fault asked old new fault (unpublishable member needed) whole = whole
+  source_fault asked old new fault (build why) whole = whole
   source_fault asked old new fault bad_input whole = whole
   source_fault asked old new fault input_failed whole = tt
   source_fault asked old new fault output_failed whole = absurd whole.holds

@@ -293,7 +293,8 @@ fn given_folders<'a, F: Format>(
     ensures given { IfOk result (λ given. AreGiven (F.format.meant graph.now.packages)
         (map (λ both. (both.0.now, both.1.now)) also.now) (given_in given.items)) }
     ensures err { IfErr result (λ fault. IsWordFault F.format graph.now.packages
-        (map (λ both. both.1) (map (λ both. (both.0.now, both.1.now)) also.now)) fault (F.Fault.cause fault)) }
+        (map (λ (both : List ℕ × List ℕ). both.1) (map (λ both. (both.0.now, both.1.now)) also.now)) fault
+        (F.Fault.cause fault)) }
 {
     let mut given = Vec::new(alloc);
     for (folder, word) in also {
@@ -333,7 +334,8 @@ fn tested_also<'g, F: Format>(
         (map string_bytes ignored.now) (map (λ both. (both.0.now, both.1.now)) also.now)
         (map string_bytes paths.now) (answer_shown answer)) }
     ensures err { IfErr result (λ fault. IsWordFault F.format graph.now.packages
-        (map (λ both. both.1) (map (λ both. (both.0.now, both.1.now)) also.now)) fault (F.Fault.cause fault)) }
+        (map (λ (both : List ℕ × List ℕ). both.1) (map (λ both. (both.0.now, both.1.now)) also.now)) fault
+        (F.Fault.cause fault)) }
 {
     let given = given_folders::<F>(alloc, graph, names, also)?;
     passed_on(tested(graph, ignored, given.as_slice(), paths))

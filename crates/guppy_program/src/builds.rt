@@ -56,6 +56,30 @@ fn refused<F: Format>(alloc: Global, request: &BuildRequest<'_>, place: usize) -
     }
 }
 
+// What Cargo builds by the request, of these members.
+fn built_of<'g, 'q, F: Format>(
+    alloc: Global,
+    graph: &'g PackageGraph,
+    asked: &'g Asked<'_>,
+    request: &'q BuildRequest<'_>,
+    members: &'q [PackageId],
+) -> Result<Answer<'g>, F::Fault>
+    requires named { AllZip (Means (F.format.meant graph.now.packages)) (request_shown request.now).members members.now }
+    requires known { All (IsKnown graph.now.packages) members.now }
+    ensures ok { IfOk result (λ answer. IsBuiltAnswer (places_of (asked_shown asked.now)) graph.now
+        (F.format.meant graph.now.packages) (request_shown request.now) (answer_shown answer)) }
+    ensures err { (call : List ℕ → List ℕ) → IfErr result (λ fault. IsFaultOn F.format
+        (places_of (asked_shown asked.now)) call (built (request_shown request.now)) graph.now fault
+        (F.Fault.cause fault)) }
+{
+    let question = question_of(asked, request, members);
+    match built_packages(alloc, graph.records(), &question) {
+        Ok(rows) => Ok(Answer::Built(rows)),
+        Err(BuiltFault::UnknownFeature(place)) => Err(refused::<F>(alloc, request, place)),
+        Err(_) => Err(want_of_memory()),
+    }
+}
+
 /// What Cargo builds by the request.
 pub(crate) fn built<'g, F: Format>(
     alloc: Global,
@@ -72,9 +96,31 @@ pub(crate) fn built<'g, F: Format>(
         (F.Fault.cause fault)) }
 {
     let members = all_meant::<F>(alloc, graph, names, request.members.as_slice())?;
-    let question = question_of(asked, request, members.as_slice());
-    match built_packages(alloc, graph.records(), &question) {
-        Ok(rows) => Ok(Answer::Built(rows)),
+    built_of::<F>(alloc, graph, asked, request, members.as_slice())
+}
+
+// The features of the package with the ID that are on where Cargo builds the request, of these members.
+fn features_on<'g, 'q, F: Format>(
+    alloc: Global,
+    graph: &'g PackageGraph,
+    asked: &'g Asked<'_>,
+    request: &'q BuildRequest<'_>,
+    members: &'q [PackageId],
+    id: &PackageId,
+) -> Result<Answer<'g>, F::Fault>
+    requires named { AllZip (Means (F.format.meant graph.now.packages)) (request_shown request.now).members members.now }
+    requires known { All (IsKnown graph.now.packages) members.now }
+    requires package { IsKnown graph.now.packages id.now }
+    ensures ok { (word : List ℕ) → Means (F.format.meant graph.now.packages) word id.now
+        → IfOk result (λ answer. IsFeaturesAnswer (places_of (asked_shown asked.now)) graph.now
+        (F.format.meant graph.now.packages) (request_shown request.now) word (answer_shown answer)) }
+    ensures err { (word : List ℕ) → (call : List ℕ → List ℕ) → IfErr result (λ fault. IsFaultOn F.format
+        (places_of (asked_shown asked.now)) call (features (request_shown request.now) word) graph.now fault
+        (F.Fault.cause fault)) }
+{
+    let question = question_of(asked, request, members);
+    match features_of(alloc, graph.records(), &question, id) {
+        Ok(rows) => Ok(Answer::Features(rows)),
         Err(BuiltFault::UnknownFeature(place)) => Err(refused::<F>(alloc, request, place)),
         Err(_) => Err(want_of_memory()),
     }
@@ -98,11 +144,38 @@ pub(crate) fn features<'g, F: Format>(
 {
     let members = all_meant::<F>(alloc, graph, names, request.members.as_slice())?;
     let id = F::find(alloc, graph, names, word)?;
-    let question = question_of(asked, request, members.as_slice());
-    match features_of(alloc, graph.records(), &question, &id) {
-        Ok(rows) => Ok(Answer::Features(rows)),
+    features_on::<F>(alloc, graph, asked, request, members.as_slice(), &id)
+}
+
+// Why the feature of the package with the ID is on where Cargo builds the request, of these members. The word means the
+// package.
+fn why_of<'g, 'q, F: Format>(
+    alloc: Global,
+    graph: &'g PackageGraph,
+    asked: &'g Asked<'_>,
+    request: &'q BuildRequest<'_>,
+    members: &'q [PackageId],
+    id: &PackageId,
+    word: &str,
+    name: &str,
+) -> Result<Answer<'g>, F::Fault>
+    requires named { AllZip (Means (F.format.meant graph.now.packages)) (request_shown request.now).members members.now }
+    requires known { All (IsKnown graph.now.packages) members.now }
+    requires package { IsKnown graph.now.packages id.now }
+    requires is_meant { Means (F.format.meant graph.now.packages) word.now id.now }
+    ensures ok { IfOk result (λ answer. IsWhyFeatureAnswer (places_of (asked_shown asked.now)) graph.now
+        (F.format.meant graph.now.packages) (request_shown request.now) word.now name.now (answer_shown answer)) }
+    ensures err { (call : List ℕ → List ℕ) → IfErr result (λ fault. IsFaultOn F.format
+        (places_of (asked_shown asked.now)) call (why_feature (request_shown request.now) word.now name.now) graph.now
+        fault (F.Fault.cause fault)) }
+{
+    let question = question_of(asked, request, members);
+    match why_feature(alloc, graph.records(), &question, id, name) {
+        Ok(steps) => Ok(Answer::Reasons(steps)),
         Err(BuiltFault::UnknownFeature(place)) => Err(refused::<F>(alloc, request, place)),
-        Err(_) => Err(want_of_memory()),
+        Err(BuiltFault::LacksFeature) => Err(lacks_feature(alloc, word, name)),
+        Err(BuiltFault::FeatureOff) => Err(feature_off(alloc, word, name)),
+        Err(BuiltFault::OutOfMemory) => Err(want_of_memory()),
     }
 }
 
@@ -125,12 +198,14 @@ pub(crate) fn why_on<'g, F: Format>(
 {
     let members = all_meant::<F>(alloc, graph, names, request.members.as_slice())?;
     let id = F::find(alloc, graph, names, word)?;
-    let question = question_of(asked, request, members.as_slice());
-    match why_feature(alloc, graph.records(), &question, &id, name) {
-        Ok(steps) => Ok(Answer::Reasons(steps)),
-        Err(BuiltFault::UnknownFeature(place)) => Err(refused::<F>(alloc, request, place)),
-        Err(BuiltFault::LacksFeature) => Err(lacks_feature(alloc, word, name)),
-        Err(BuiltFault::FeatureOff) => Err(feature_off(alloc, word, name)),
-        Err(BuiltFault::OutOfMemory) => Err(want_of_memory()),
-    }
+    why_of::<F>(
+        alloc,
+        graph,
+        asked,
+        request,
+        members.as_slice(),
+        &id,
+        word,
+        name,
+    )
 }

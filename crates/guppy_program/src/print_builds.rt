@@ -83,7 +83,7 @@ pub(crate) fn lines_of_features<F: Format>(
 
 // Adds what is said of the package.
 fn push_said(text: &mut String, name: FactName<'_>) -> Result<(), AllocError>
-    ensures { OnOk result (string_bytes text.new ≡ string_bytes text.old ++ said_text (said_shown name)) }
+    ensures { OnOk result (string_bytes text.new ≡ string_bytes text.old ++ said_text (said_shown name.entry)) }
 {
     match name {
         FactName::Part => Ok(()),

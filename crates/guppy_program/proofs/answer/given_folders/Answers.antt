@@ -1,9 +1,10 @@
-use Rattle.std.proofs.Common.{refl, sym, subst, ◌∷◌, [], ◌+◌, ℕ, List, Bor, map, take, drop}
+use Rattle.std.proofs.Common.{◌≡◌, refl, sym, subst, ◌∷◌, [], ◌+◌, ℕ, List, Bor, map, take, drop, get_or}
 use Rattle.std.proofs.lemmas.List.{map_push}
 use Rattle.std.proofs.lemmas.Result.{err_from_is_err_and}
 use Rattle.guppy_affected.specs.Folders.{Given}
 use Rattle.guppy_command.proofs.FirstItems.{fits_with}
-use Rattle.guppy_program.specs.Answer.{Means, AreGiven}
+use Rattle.guppy_program.specs.Answer.{AreGiven}
+use Rattle.guppy_program.specs.Meant.{Means}
 use Rattle.guppy_program.proofs.GivenFolders.{pair_seen, words_in, named_of, cut_words}
 use Rattle.guppy_program.proofs.Refusals.{all_clear, unclear_word}
 use Rattle.guppy_program.proofs.answer.given_folders.Goals as goal
@@ -28,6 +29,8 @@ loop-folder-preserved g c =
     let also = c.args.also.now in
     let k = c.loop-folder.folder-index in
     let given = c.loop-folder.given.items in
-    let both = fits_with pair_seen also k _ _ c.loop-folder-test.true refl (λ both (one : Given). (one.0 ≡ both.0) × Means meant both.1 one.1) (map shown given) (c.item.result.0.now, c.in_ok-owner.owner)
+    let none : Bor (List ℕ) = record { ref_ptr = (0, 0); now = [] } in
+    let item = get_or also k (none, none) in
+    let both = fits_with pair_seen also k item (none, none) c.loop-folder-test.true refl (λ both (one : Given). (one.0 ≡ both.0) × Means meant both.1 one.1) (map shown given) (item.0.now, c.in_ok-owner.owner)
     c.loop-folder.invariant (refl, c.in_ok-owner.ensures.found) in
-    rw c.in-Ok.ensures.items (subst (AreGiven meant (map pair_seen (take (k + 1) also))) (sym (map_push shown given (c.item.result.0, c.in_ok-owner.owner))) both)
+    rw c.in-Ok.ensures.items (subst (AreGiven meant (map pair_seen (take (k + 1) also))) (sym (map_push shown given (item.0, c.in_ok-owner.owner))) both)

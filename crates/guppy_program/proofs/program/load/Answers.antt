@@ -6,7 +6,7 @@ use Rattle.std.proofs.lemmas.Result.{err_from_is_err_and}
 use Rattle.guppy.specs.Accepted.{IsAccepted}
 use Rattle.guppy.specs.Graph.{Holds}
 use Rattle.guppy.specs.Refused.{IsRefusal}
-use Rattle.guppy_program.specs.Loaded.{AreAskedOf, IsLoadFault}
+use Rattle.guppy_program.specs.Loaded.{AreAskedOf, IsLoadFault, counted_on}
 use Rattle.guppy_command.specs.Shown.{asked_shown}
 use Rattle.guppy_platforms.specs.Kept.{AreKept}
 use Rattle.guppy_program.proofs.Runs.{OrMemory-holds}
@@ -24,8 +24,8 @@ returns-in_err-graph-clause-err g c =
       links = r.links.items;
       workspace = r.workspace;
       said = subst (λ details. g.F.Format.format.says details c.args.input.now r.packages.items r.links.items r.workspace) c.reads_details.ensures c.in_ok-records.ensures.said;
-      counting = c.keep_counting.new.links.items;
-      counted = subst (λ (packages : List PackageRecord). AreKept (asked_shown c.args.asked.now).question (asked_shown c.args.asked.now).host packages r.links.items c.keep_counting.new.links.items) c.as_slice.ensures.value c.in-Ok.ensures.kept;
+      counting = c.keep_counted.new.links.items;
+      counted = subst (λ (packages : List PackageRecord). AreKept (counted_on (asked_shown c.args.asked.now)) (asked_shown c.args.asked.now).host packages r.links.items c.keep_counted.new.links.items) c.as_slice.ensures.value c.in_ok-keep_counted.ensures.ok;
       asked_links = kept;
       are_asked = subst (λ (links : List LinkRecord). AreAskedOf g.F.Format.format (asked_shown c.args.asked.now).command c.args.input.now links kept) c.keep_links.ensures c.in_ok-keep_asked.ensures.ok;
       holds = refused;
@@ -46,8 +46,8 @@ returns-clause-ok g c =
       links = r.links.items;
       workspace = r.workspace;
       said = subst (λ details. g.F.Format.format.says details c.args.input.now r.packages.items r.links.items r.workspace) c.reads_details.ensures c.in_ok-records.ensures.said;
-      counting = c.keep_counting.new.links.items;
-      counted = subst (λ (packages : List PackageRecord). AreKept (asked_shown c.args.asked.now).question (asked_shown c.args.asked.now).host packages r.links.items c.keep_counting.new.links.items) c.as_slice.ensures.value c.in-Ok.ensures.kept;
+      counting = c.keep_counted.new.links.items;
+      counted = subst (λ (packages : List PackageRecord). AreKept (counted_on (asked_shown c.args.asked.now)) (asked_shown c.args.asked.now).host packages r.links.items c.keep_counted.new.links.items) c.as_slice.ensures.value c.in_ok-keep_counted.ensures.ok;
       asked_links = kept;
       are_asked = subst (λ (links : List LinkRecord). AreAskedOf g.F.Format.format (asked_shown c.args.asked.now).command c.args.input.now links kept) c.keep_links.ensures c.in_ok-keep_asked.ensures.ok;
       holds = (
@@ -55,3 +55,8 @@ returns-clause-ok g c =
         subst (λ made. IfOk made (λ h. Holds h r.packages.items kept r.workspace)) c.in_ok-graph.ensures.ok c.into_graph.ensures.holds,
       );
     }
+
+pub returns-in_err-keep_counted-clause-err : goal.returns-in_err-keep_counted-clause-err
+returns-in_err-keep_counted-clause-err g c =
+    let passed_on = err_from_is_err_and c.from_residual-in_err-keep_counted.result c.from_residual-in_err-keep_counted.ensures.1 in
+    rw (passed_on.1, passed_on.2) (subst (IsLoadFault g.F.Format.format (asked_shown c.args.asked.now) c.args.input.now c.in_err-keep_counted.field-0.0) (sym c.in_err-keep_counted.ensures.err) tt)

@@ -1,0 +1,36 @@
+use Rattle.std.proofs.Common.{refl, sym, subst, map}
+use Rattle.std.specs.Prelude.{All}
+use Rattle.guppy.specs.Ids.{IsKnown}
+use Rattle.guppy_built.specs.Asked.{choice_of}
+use Rattle.guppy_built.specs.Rows.{row_of}
+use Rattle.guppy_command.specs.Command.{built}
+use Rattle.guppy_command.specs.Shown.{asked_shown, request_shown}
+use Rattle.guppy_program.specs.Answer.{IsFaultOn}
+use Rattle.guppy_program.specs.Run.{places_of}
+use Rattle.guppy_program.proofs.RefusedFeatures.{refused_told}
+use Rattle.guppy_program.proofs.builds.built_of.Goals as goal
+
+pub built_packages-requires : goal.built_packages-requires
+built_packages-requires g c = subst (All (IsKnown c.args.graph.now.packages)) (sym c.question_of-question.ensures.members) c.requires.known
+
+pub returns-in-Ok-clause-ok : goal.returns-in-Ok-clause-ok
+returns-in-Ok-clause-ok g c =
+    let packages = c.args.graph.now.packages in
+    record {
+      choice = choice_of c.question_of-question.result;
+      chosen = c.question_of-question.ensures.chosen c.args.graph.now (g.F.Format.format.meant packages) c.requires.named c.requires.known;
+      rows = map row_of c.in-Ok.rows.items;
+      exact = rw c.in-Ok.is at c.built_packages.ensures.ok;
+      told = refl;
+    }
+
+pub returns-in-Err-UnknownFeature-clause-err : goal.returns-in-Err-UnknownFeature-clause-err
+returns-in-Err-UnknownFeature-clause-err g c call =
+    let format = g.F.Format.format in
+    let meant = format.meant c.args.graph.now.packages in
+    let places = places_of (asked_shown c.args.asked.now) in
+    let request = request_shown c.args.request.now in
+    refused_told places c.args.graph.now meant request (choice_of c.question_of-question.result)
+    (c.question_of-question.ensures.chosen c.args.graph.now meant c.requires.named c.requires.known) c.in-Err-UnknownFeature.place
+    (rw c.in-Err-UnknownFeature.is at c.built_packages.ensures.err)
+    (IsFaultOn format places call (built request) c.args.graph.now c.refused.result) (λ text is. is) tt _ c.refused.ensures

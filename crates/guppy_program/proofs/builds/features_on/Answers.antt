@@ -1,0 +1,38 @@
+use Rattle.std.proofs.Common.{refl, sym, subst, map}
+use Rattle.std.specs.Prelude.{All}
+use Rattle.guppy.specs.Ids.{IsKnown}
+use Rattle.guppy_built.specs.Asked.{choice_of}
+use Rattle.guppy_built.specs.Features.{feature_shown}
+use Rattle.guppy_command.specs.Command.{features}
+use Rattle.guppy_command.specs.Shown.{asked_shown, request_shown}
+use Rattle.guppy_program.specs.Answer.{IsFaultOn}
+use Rattle.guppy_program.specs.Run.{places_of}
+use Rattle.guppy_program.proofs.RefusedFeatures.{refused_told}
+use Rattle.guppy_program.proofs.builds.features_on.Goals as goal
+
+pub features_of-requires-clause-members : goal.features_of-requires-clause-members
+features_of-requires-clause-members g c = subst (All (IsKnown c.args.graph.now.packages)) (sym c.question_of-question.ensures.members) c.requires.known
+
+pub returns-in-Ok-clause-ok : goal.returns-in-Ok-clause-ok
+returns-in-Ok-clause-ok g c word is_meant =
+    let packages = c.args.graph.now.packages in
+    record {
+      choice = choice_of c.question_of-question.result;
+      chosen = c.question_of-question.ensures.chosen c.args.graph.now (g.F.Format.format.meant packages) c.requires.named c.requires.known;
+      id = c.args.id.now;
+      is_meant = is_meant;
+      rows = map feature_shown c.in-Ok.rows.items;
+      exact = rw c.in-Ok.is at c.features_of.ensures.ok;
+      told = refl;
+    }
+
+pub returns-in-Err-UnknownFeature-clause-err : goal.returns-in-Err-UnknownFeature-clause-err
+returns-in-Err-UnknownFeature-clause-err g c word call =
+    let format = g.F.Format.format in
+    let meant = format.meant c.args.graph.now.packages in
+    let places = places_of (asked_shown c.args.asked.now) in
+    let request = request_shown c.args.request.now in
+    refused_told places c.args.graph.now meant request (choice_of c.question_of-question.result)
+    (c.question_of-question.ensures.chosen c.args.graph.now meant c.requires.named c.requires.known) c.in-Err-UnknownFeature.place
+    (rw c.in-Err-UnknownFeature.is at c.features_of.ensures.err)
+    (IsFaultOn format places call (features request word) c.args.graph.now c.refused.result) (λ text is. is) tt _ c.refused.ensures
