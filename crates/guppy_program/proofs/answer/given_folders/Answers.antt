@@ -1,4 +1,4 @@
-use Rattle.std.proofs.Common.{◌≡◌, refl, sym, subst, ◌∷◌, [], ◌+◌, ℕ, List, Bor, map, take, drop, get_or}
+use Rattle.std.proofs.Common.{◌≡◌, refl, sym, subst, [], ◌+◌, ℕ, List, Bor, map, take, drop, get_or}
 use Rattle.std.proofs.lemmas.List.{map_push}
 use Rattle.std.proofs.lemmas.Result.{err_from_is_err_and}
 use Rattle.guppy_affected.specs.Folders.{Given}

@@ -1,4 +1,4 @@
-use Rattle.std.proofs.Common.{◌∙◌, ap, sym, refl, ℕ, List, [], ◌∷◌, ◌++◌, Bor, codes, map, take}
+use Rattle.std.proofs.Common.{◌∙◌, ap, sym, refl, ℕ, List, ◌++◌, Bor, codes, map, take}
 use Rattle.std.specs.List.{flat_map}
 use Rattle.std.proofs.lemmas.List.Folds.{flat_map-map}
 use Rattle.guppy_built.specs.Rows.{row_of}
