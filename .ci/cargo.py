@@ -48,7 +48,10 @@ TARGETS_FOLDERS = ("src", "tests", "examples", "benches")
 
 # The commands, and what is told of words that are none of theirs.
 COMMANDS = "affected publish-order depends why reach order roots links cycles duplicates dot verify".split()
+OF_BUILDS = "built features why-feature".split()
+COMMANDS += OF_BUILDS
 EVERY_COMMANDS = "--kinds --platform --cfgs --host --host-cfgs --workspace --ids".split()
+BUILDS = "-p --features --all-features --no-default-features --tests --resolver".split()
 NO_COMMAND = "give a command: guppy-cargo help lists them"
 NO_KIND = "other is no kind: give some of normal,build,dev, separated by commas"
 NO_CFGS = "give --cfgs FILE behind each --platform TRIPLE"
@@ -398,7 +401,7 @@ def try_left_out(graph):
             (["--ignore=", "x"], "--ignore  leaves out everything: give a folder"),
             (["x", "--paths-from"], "a value is missing behind --paths-from"),
             (["x", "--sinc", "main"], "--sinc is no option of the program: the nearest is --since, of the scripts"),
-            (["-x"], "-x is no option: guppy-cargo help lists them"),
+            (["-x"], "-x is no option: the nearest is -p"),
             (["x", "--publishable"], "affected takes no --publishable"),
             (["--paths-from", os.path.join(room, "bytes")], f"{os.path.join(room, 'bytes')}: the paths in it can't be read"),
             (["--paths-from", os.path.join(room, "unended")], f"{os.path.join(room, 'unended')}: {NO_NULS}"),
@@ -535,6 +538,14 @@ def try_platforms(graph):
             ("order --platform x --cfgs no/such", "no/such: the cfgs in it can't be read"),
             (f"--platform x --cfgs={bad} order", "x: line 2 of its cfgs is neither a name nor a key with a value"),
             ("order --host x", NO_HOST),
+            ("built --resolver 4", "4 is no resolver: give 1, 2 or 3"),
+            ("features --resolver= x", " is no resolver: give 1, 2 or 3"),
+            ("built --resolver 1 --resolver 1", "--resolver is given twice"),
+            ("built x", "built takes other words: give built"),
+            ("features", "features takes other words: give features PACKAGE"),
+            ("why-feature x -p y", "why-feature takes other words: give why-feature PACKAGE FEATURE"),
+            ("built --kinds dev", "built takes no --kinds"),
+            ("order --tests", "order takes no --tests"),
             (f"--host-cfgs {bad} order", NO_HOST),
             ("order --host=x --host=y", "--host is given twice"),
             ("order --host x --host-cfgs no/such", "no/such: the cfgs in it can't be read"),
@@ -619,6 +630,9 @@ def try_help(graph):
     for command, own in (("order", []), ("publish-order", ["--publishable"]), ("affected", ["--ignore", "--also", "--paths-from"])):
         options = re.findall(r"^  (--[a-z-]+)", run(["help", command], b"")[1], re.M)
         yield f"help {command}, its options", [*EVERY_COMMANDS, *own], options
+    for command in OF_BUILDS:
+        options = re.findall(r"^  (--?[a-z-]+)", run(["help", command], b"")[1], re.M)
+        yield f"help {command}, its options", [*EVERY_COMMANDS[1:], *BUILDS], options
     with open(os.path.join(HERE, "../docs/PROGRAM.md"), encoding="utf-8") as page:
         rows = [it.split("|")[1] for it in page if it.startswith("| `")]
     documented = [option for it in rows for option in re.findall("--[a-z-]+", it)]

@@ -82,7 +82,16 @@ RUNS = {command: (command, LINES) for command in COMMANDS}
 RUNS |= {f"{command} without a cycle": (command, LINES.replace(TURNING, "")) for command in TURNED}
 # On the input that is stored with guppy_cargo_main. All of it is read whatever the command; these show each member, package
 # and link.
-CARGO_RUNS = ["affected base/src/lib.rs ./top/x", "affected --paths-from PATHS", "order", "links forward", "help"]
+CARGO_RUNS = [
+    "affected base/src/lib.rs ./top/x",
+    "affected --also top/x=mid --paths-from PATHS",
+    "order",
+    "links forward",
+    "built --tests --features mid/extra",
+    "features mid -p top",
+    "why-feature mid extra -p top --platform x --cfgs CFGS",
+    "help",
+]
 # What stands in the files that commands name by these words, of which main says where they lie.
 FILES = {"CFGS": 'unix\na="b"\n', "PATHS": "base/src/lib.rs\0./top/x\0"}
 

@@ -1,6 +1,6 @@
-//! Prints how many milliseconds it takes to read the graph of a file and list its packages in their order, to read all
-//! details of packages and links, too, and to resolve what a member needs, with no resolver and with one, whose walk is
-//! judged, the least of nine times each: `how_long metadata.json`.
+//! Prints how many milliseconds it takes to read the graph of a file and list its packages in their order, to read it
+//! with all details of packages and links, and to resolve what a member needs, with no resolver and with one, whose
+//! walk is judged, the least of nine times each: `how_long metadata.json`.
 
 use guppy_proved::graph::{DependencyDirection, PackageGraph};
 use guppy_proved::CargoMetadata;
@@ -44,7 +44,7 @@ fn main() -> Result<(), Box<dyn Error>> {
     let whole = least(
         || json.clone(),
         |json| {
-            let graph = CargoMetadata::try_from(json)?.build_graph()?;
+            let graph = CargoMetadata::with_details(json)?.build_graph()?;
             let of_packages = graph.packages().map(|package| {
                 let has_table = !package.metadata_table().is_null();
                 package.authors().len() + package.build_targets().count() + usize::from(has_table)

@@ -14,8 +14,22 @@ pub struct CargoMetadata {
     json: String,
     // The same with an empty list of resolved dependencies, where none are resolved.
     light: Option<String>,
-    // The packages and links, as the library writes them.
-    records: String,
+    records: Records,
+}
+
+/// The packages and links, as the library writes them.
+#[derive(Clone)]
+pub(crate) struct Records {
+    pub(crate) text: String,
+    /// Whether all details are among them.
+    pub(crate) have_details: bool,
+}
+
+impl Records {
+    fn of(json: &str, have_details: bool) -> Result<Self, Refusal> {
+        let text = proved::records(json, have_details)?;
+        Ok(Records { text, have_details })
+    }
 }
 
 impl CargoMetadata {
@@ -33,6 +47,18 @@ impl CargoMetadata {
         Self::try_from(json.as_ref().to_owned())
     }
 
+    /// Reads the JSON with all details of packages and links. Where some are asked for, that takes less time and memory
+    /// than to read them when they are first asked for, and where they aren't such as Cargo prints, no call panics.
+    /// Proved.
+    ///
+    /// # Errors
+    ///
+    /// Those of [`parse_json`](CargoMetadata::parse_json); [`Error::MetadataParseError`] also where details aren't such
+    /// as Cargo prints.
+    pub fn with_details(json: impl Into<String>) -> Result<Self, Error> {
+        read(json.into(), true)
+    }
+
     /// Writes the JSON that was read.
     ///
     /// # Errors
@@ -44,7 +70,7 @@ impl CargoMetadata {
     }
 
     // The JSON that the library read, and what it wrote of it.
-    pub(crate) fn into_parts(self) -> (String, String) {
+    pub(crate) fn into_parts(self) -> (String, Records) {
         (self.light.unwrap_or(self.json), self.records)
     }
 
@@ -63,22 +89,27 @@ impl TryFrom<String> for CargoMetadata {
     type Error = Error;
 
     fn try_from(json: String) -> Result<Self, Error> {
-        match proved::records(&json, false) {
-            Ok(records) => Ok(CargoMetadata {
-                json,
-                light: None,
-                records,
-            }),
-            Err(why) if why.kind == RefusalKind::NotResolved => read_light(json),
-            Err(why) => Err(refused(&json, why)),
-        }
+        read(json, false)
+    }
+}
+
+// Reads metadata, with all details or without.
+fn read(json: String, details: bool) -> Result<CargoMetadata, Error> {
+    match Records::of(&json, details) {
+        Ok(records) => Ok(CargoMetadata {
+            json,
+            light: None,
+            records,
+        }),
+        Err(why) if why.kind == RefusalKind::NotResolved => read_light(json, details),
+        Err(why) => Err(refused(&json, why)),
     }
 }
 
 // Reads metadata in which no dependency is resolved as the same with an empty list of resolved ones.
-fn read_light(json: String) -> Result<CargoMetadata, Error> {
+fn read_light(json: String, details: bool) -> Result<CargoMetadata, Error> {
     let light = with_nothing_resolved(&json).map_err(Error::MetadataParseError)?;
-    let records = proved::records(&light, false).map_err(|why| refused(&light, why))?;
+    let records = Records::of(&light, details).map_err(|why| refused(&light, why))?;
     Ok(CargoMetadata {
         json,
         light: Some(light),

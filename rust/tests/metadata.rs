@@ -135,6 +135,30 @@ fn light_metadata_make_a_graph_without_links() {
     );
 }
 
+// Nothing is asked of details until one is, unless they are read with the rest.
+#[test]
+fn details_that_cargo_does_not_print_are_refused() {
+    let json = JSON.replace("\"authors\":[]", "\"authors\":7");
+    assert_ne!(json, JSON);
+    let told = CargoMetadata::with_details(json.as_str()).unwrap_err();
+    let fault = told.source().expect("a reason").to_string();
+    assert!(matches!(told, Error::MetadataParseError(_)) && fault.contains("authors"));
+    let graph = PackageGraph::from_json(json).unwrap();
+    let authors = || graph.packages().map(|it| it.authors().len()).max();
+    assert!(std::panic::catch_unwind(authors).is_err());
+}
+
+#[test]
+fn light_metadata_are_read_with_details() {
+    let resolve = JSON.find("\"resolve\":").unwrap();
+    let end = JSON.find("\"target_directory\"").unwrap();
+    let light = format!("{}\"resolve\":null,{}", &JSON[..resolve], &JSON[end..]);
+    let graph = CargoMetadata::with_details(light).unwrap().build_graph();
+    let graph = graph.unwrap();
+    let core = graph.workspace().member_by_name("core").unwrap();
+    assert_eq!((graph.link_count(), core.build_targets().len()), (0, 1));
+}
+
 // A workspace of a package with an optional dependency on another one.
 struct Workspace(PathBuf);
 

@@ -9,7 +9,7 @@ use guppy::graph::{
     PackagePublish,
 };
 use guppy::platform::PlatformStatus;
-use guppy::{Version, VersionReq};
+use guppy::{CargoMetadata, Version, VersionReq};
 
 const JSON: &str = include_str!("records.json");
 
@@ -198,4 +198,60 @@ fn a_link_asks_for_features() {
     assert!(normal.feature_status("d").is_never());
     assert!(!link.build().is_present() && link.build().features().next().is_none());
     assert!(link.dev().default_features().is_never());
+}
+
+// All that details of packages and links tell.
+fn details(graph: &PackageGraph) -> Vec<String> {
+    let of_package = |it: PackageMetadata<'_>| {
+        let lists = [it.authors(), it.categories(), it.keywords()];
+        let paths = [it.license_file(), it.readme()];
+        let texts = [
+            it.homepage(),
+            it.documentation(),
+            it.links(),
+            it.default_run(),
+        ];
+        let rest = (it.publish(), it.rust_version(), it.metadata_table());
+        let features: Vec<_> = it.named_features().collect();
+        let targets: Vec<_> = it
+            .build_targets()
+            .map(|target| {
+                (
+                    target.id().name().map(str::to_owned),
+                    target.path().as_str(),
+                )
+            })
+            .collect();
+        format!("{lists:?} {paths:?} {texts:?} {rest:?} {features:?} {targets:?}")
+    };
+    let of_link = |it: PackageLink<'_>| {
+        let sections = [it.normal(), it.build(), it.dev()].map(|section| {
+            let features: Vec<_> = section.features().collect();
+            let each = features.iter().map(|name| section.feature_status(name));
+            let (defaults, none) = (section.default_features(), section.no_default_features());
+            format!(
+                "{features:?} {:?} {defaults:?} {none:?}",
+                each.collect::<Vec<_>>()
+            )
+        });
+        let (registry, path) = (it.registry(), it.path());
+        format!("{} {registry:?} {path:?} {sections:?}", it.version_req())
+    };
+    let links = graph.packages().flat_map(|it| it.direct_links());
+    graph
+        .packages()
+        .map(of_package)
+        .chain(links.map(of_link))
+        .collect()
+}
+
+#[test]
+fn details_that_are_read_at_once_are_the_same() {
+    for json in [JSON, common::JSON] {
+        let later = PackageGraph::from_json(json).unwrap();
+        let at_once = CargoMetadata::with_details(json).unwrap();
+        let at_once = at_once.build_graph().unwrap();
+        assert_eq!(details(&at_once), details(&later));
+        assert_eq!(details(&at_once.clone()), details(&later));
+    }
 }

@@ -144,8 +144,8 @@ pub const OPTIONS: &[OptionRow] = &[
         Some("N"),
         false,
         Some(OF_BUILDS),
-        "by this resolver, 1, 2 or 3, which is the 2nd where none is given; the scripts read it\n      \
-         from the workspace's Cargo.toml",
+        "by this resolver, 1, 2 or 3: 2 where none is given; the scripts read it from the\n      \
+         Cargo.toml of the workspace",
     ),
 ];
 

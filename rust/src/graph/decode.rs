@@ -1,7 +1,7 @@
 //! The packages and links that the proved library read off the JSON, out of the one text that has them. The text is
 //! kept, and texts in it are told by places.
 
-use super::details::{table_of, Later, LinkDetails};
+use super::details::{table_of, version_req_of, Later};
 use super::package::{Package, Source};
 use super::package_link::{Link, Section};
 use super::parts::{Parts, Span};
@@ -11,15 +11,18 @@ use crate::{Error, JsonValue, PackageId};
 use camino::Utf8Path;
 use semver::{Version, VersionReq};
 use std::collections::HashMap;
+use std::sync::Arc;
 
 /// Packages by position, and links by number.
 #[derive(Clone)]
 pub(super) struct Decoded {
-    text: String,
+    pub(super) text: Arc<String>,
     workspace: Workspace,
     // By position, in the order of the JSON.
     pub(super) default_members: Vec<usize>,
     table: Later<JsonValue>,
+    // Where those of packages begin in the text.
+    pub(super) tables: usize,
     pub(super) packages: Vec<Package>,
     positions: Positions,
     pub(super) ends: Vec<Ends>,
@@ -77,12 +80,12 @@ impl Parts<'_> {
             description: self.optional(),
             license: self.optional(),
             repository: self.optional(),
-            details: Later::of(self.field()),
+            details: self.field(),
         })
     }
 
-    /// The list of packages.
-    pub(super) fn packages(&mut self) -> Result<Vec<Package>, Error> {
+    // The list of packages.
+    fn packages(&mut self) -> Result<Vec<Package>, Error> {
         let count = self.number(b';');
         (0..count).map(|_| self.package()).collect()
     }
@@ -101,14 +104,29 @@ impl Parts<'_> {
             normal: self.section(),
             build: self.section(),
             dev: self.section(),
-            details: Later::of(self.field()),
+            version_req: Later::of(self.field()),
         }
     }
 
-    /// A link whose ends are passed over.
-    pub(super) fn link_without_ends(&mut self) -> Link {
-        let _ends = (self.field(), self.field());
-        self.link()
+    /// Passes over a package, and tells where its details stand.
+    pub(super) fn package_in_short(&mut self) -> Span {
+        // The ID, the name and the version.
+        (0..3).for_each(|_| self.pass());
+        self.source();
+        // The manifest and the edition.
+        (0..2).for_each(|_| self.pass());
+        // The description, the license and the repository.
+        (0..3).for_each(|_| self.pass_optional());
+        self.field()
+    }
+
+    /// Passes over a link, and tells where its details stand.
+    pub(super) fn link_in_short(&mut self) -> Span {
+        // The ends, and both names.
+        (0..4).for_each(|_| self.pass());
+        // Where it is required and optional, in each section.
+        (0..6).for_each(|_| self.pass_platforms());
+        self.field()
     }
 
     // The links with their ends. Those that leave one package stand together, so its position is looked up once.
@@ -157,20 +175,21 @@ impl Decoded {
         let packages = parts.packages()?;
         let positions = positions(&packages)?;
         let (ends, links) = parts.links(&positions)?;
-        let table = Later::of(parts.field());
+        let table = parts.field();
         let defaults = workspace.default_members.iter();
         let defaults =
             defaults.map(|id| Ok(position(&positions, id.of(&text), "default member")? as usize));
         Ok(Decoded {
             default_members: defaults.collect::<Result<_, Error>>()?,
             workspace,
-            table,
+            table: Later::of(table),
+            tables: table.end(),
             firm: links.iter().map(|link| !link.is_dev_only()).collect(),
             packages,
             positions,
             ends,
             links,
-            text,
+            text: Arc::new(text),
         })
     }
 
@@ -199,12 +218,10 @@ impl Decoded {
         Some(self.part(self.workspace.build_directory?).into())
     }
 
-    /// Which versions the link with the number accepts: of its details it is told first.
+    /// Which versions the link with the number accepts. The text has them also without details.
     pub(super) fn version_req(&self, number: usize) -> &VersionReq {
-        let details = &self.links[number].details;
-        &details
-            .get(|part| LinkDetails::of(&self.text, part))
-            .version_req
+        let version_req = &self.links[number].version_req;
+        version_req.get(|part| version_req_of(&self.text, part))
     }
 
     /// The free table of the workspace.

@@ -1,15 +1,16 @@
 //! What the text has of packages and links beside what walks need, read when it is first asked for.
 
+use super::decode::Decoded;
 use super::parts::{Parts, Span};
 use crate::platform::Platforms;
 use crate::{proved, JsonValue};
 use semver::{Version, VersionReq};
-use std::sync::OnceLock;
+use std::sync::{Arc, OnceLock};
 
 /// What is made of a part of the text when it is first asked for.
 #[derive(Clone)]
 pub(super) struct Later<T> {
-    part: Span,
+    pub(super) part: Span,
     read: OnceLock<Box<T>>,
 }
 
@@ -30,7 +31,7 @@ impl<T> Later<T> {
 /// A text with details, and where those of packages, by position, and of links, by number, stand in it.
 #[derive(Clone)]
 pub(super) struct Details {
-    text: String,
+    text: Arc<String>,
     packages: Vec<Later<PackageDetails>>,
     links: Vec<Later<LinkDetails>>,
     // The free tables of packages.
@@ -43,7 +44,7 @@ impl Details {
     /// # Panics
     ///
     /// Where the library refuses them. It did not refuse the rest.
-    pub(super) fn of(json: &str) -> Self {
+    pub(super) fn read(json: &str) -> Self {
         let text = proved::records(json, true).unwrap_or_else(|refusal| {
             panic!(
                 "these are no details as Cargo prints them: {}",
@@ -52,16 +53,29 @@ impl Details {
         });
         let mut parts = Parts::at(&text, 0);
         parts.workspace();
-        let packages = parts.packages().expect("the same as without details");
-        let links = parts.list(Parts::link_without_ends);
+        let packages = parts.list(|parts| Later::of(parts.package_in_short()));
+        let links = parts.list(|parts| Later::of(parts.link_in_short()));
         let _table_of_workspace = parts.field();
         let tables = parts.list(|parts| Later::of(parts.field()));
         Details {
-            packages: packages
-                .into_iter()
-                .map(|package| package.details)
-                .collect(),
-            links: links.into_iter().map(|link| link.details).collect(),
+            packages,
+            links,
+            tables,
+            text: Arc::new(text),
+        }
+    }
+
+    /// Those that the text has of which the rest was decoded.
+    pub(super) fn within(decoded: &Decoded) -> Self {
+        let text = Arc::clone(&decoded.text);
+        let packages = decoded.packages.iter();
+        let packages = packages.map(|package| Later::of(package.details)).collect();
+        let links = decoded.links.iter();
+        let links = links.map(|link| Later::of(link.version_req.part)).collect();
+        let tables = Parts::at(&text, decoded.tables).list(|parts| Later::of(parts.field()));
+        Details {
+            packages,
+            links,
             tables,
             text,
         }
@@ -166,11 +180,7 @@ impl Parts<'_> {
     }
 
     fn registries(&mut self) -> Option<Vec<String>> {
-        if self.next() == b'*' {
-            self.take();
-            return None;
-        }
-        Some(self.texts())
+        (!self.takes(b'*')).then(|| self.texts())
     }
 
     // The library writes a version that it has read as one.
@@ -182,9 +192,12 @@ impl Parts<'_> {
     // The name of a feature; what it enables is passed over.
     fn named_feature(&mut self) -> Span {
         let name = self.field();
-        self.list(|parts| match parts.take() {
-            b's' | b'w' => [parts.field(), parts.field()][0],
-            _ => parts.field(),
+        self.pass_list(|parts| {
+            let is_of_dependency = [b's', b'w'].contains(&parts.take());
+            parts.pass();
+            if is_of_dependency {
+                parts.pass();
+            }
         });
         name
     }
@@ -204,7 +217,8 @@ impl Parts<'_> {
             rust_version: self.rust_version(),
             named_features: self.list(Self::named_feature),
             targets: {
-                let _optional_dependencies = self.texts();
+                // The names of optional dependencies.
+                self.pass_list(Parts::pass);
                 self.list(Self::target)
             },
         }
@@ -244,10 +258,9 @@ impl Parts<'_> {
     }
 }
 
-/// The rest of a link's record.
+/// The rest of a link's record, but for which versions it accepts.
 #[derive(Clone)]
 pub(super) struct LinkDetails {
-    pub(super) version_req: VersionReq,
     pub(super) registry: Option<Span>,
     pub(super) path: Option<Span>,
     pub(super) normal: SectionDetails,
@@ -258,11 +271,21 @@ pub(super) struct LinkDetails {
 /// What dependencies in one section ask of features.
 #[derive(Clone)]
 pub(super) struct SectionDetails {
-    pub(super) required: Features,
-    pub(super) optional: Features,
+    pub(super) required: Asked,
+    pub(super) optional: Asked,
 }
 
-/// The same of those that are required, or of those that are optional.
+/// The same of those that are required, or of those that are optional. Most sections have none.
+#[derive(Clone)]
+pub(super) struct Asked(Option<Box<Features>>);
+
+impl Asked {
+    pub(super) fn features(&self) -> &Features {
+        self.0.as_deref().unwrap_or(&NONE)
+    }
+}
+
+/// On which platforms features are asked for.
 #[derive(Clone)]
 pub(super) struct Features {
     pub(super) default_features: Platforms,
@@ -273,7 +296,19 @@ pub(super) struct Features {
 
 static NEVER: Platforms = Platforms::Specs(Vec::new());
 
+static NONE: Features = Features {
+    default_features: Platforms::Specs(Vec::new()),
+    no_default_features: Platforms::Specs(Vec::new()),
+    named: Vec::new(),
+};
+
 impl Features {
+    // Whether any are asked for, or a dependency that has none.
+    fn is_any(&self) -> bool {
+        let is_there = !self.default_features.is_never() || !self.no_default_features.is_never();
+        is_there || !self.named.is_empty()
+    }
+
     /// Where the feature is asked for. The text has the names.
     pub(super) fn status(&self, text: &str, feature: &str) -> &Platforms {
         let place = self
@@ -294,25 +329,43 @@ impl LinkDetails {
             normal: parts.section_details(),
             build: parts.section_details(),
             dev: parts.section_details(),
-            // The library writes a requirement that it has read as one.
-            version_req: VersionReq::parse(parts.up_to(part.end())).expect("a requirement"),
         }
     }
 }
 
+/// Which versions a link accepts whose details are that part of the text: they end with it.
+pub(super) fn version_req_of(text: &str, part: Span) -> VersionReq {
+    let mut parts = Parts::at(text, part.start());
+    // The registry and the path.
+    (0..2).for_each(|_| parts.pass_optional());
+    // Those that are required, and those that are optional, in each section.
+    (0..6).for_each(|_| parts.pass_features());
+    // The library writes a requirement that it has read as one.
+    VersionReq::parse(parts.up_to(part.end())).expect("a requirement")
+}
+
 impl Parts<'_> {
-    fn features(&mut self) -> Features {
-        Features {
+    fn asked(&mut self) -> Asked {
+        let features = Features {
             default_features: self.platforms(),
             no_default_features: self.platforms(),
             named: self.list(|parts| (parts.field(), parts.platforms())),
-        }
+        };
+        Asked(features.is_any().then(|| Box::new(features)))
+    }
+
+    fn pass_features(&mut self) {
+        (0..2).for_each(|_| self.pass_platforms());
+        self.pass_list(|parts| {
+            parts.pass();
+            parts.pass_platforms();
+        });
     }
 
     fn section_details(&mut self) -> SectionDetails {
         SectionDetails {
-            required: self.features(),
-            optional: self.features(),
+            required: self.asked(),
+            optional: self.asked(),
         }
     }
 }
@@ -420,12 +473,15 @@ mod tests {
             format!("3:own-*0;2;1:a*1:b1;9:cfg(unix){never}{never}{never}{never}0;*0;>=1.2, <2");
         let (text, part) = part(&text);
         let read = LinkDetails::of(&text, part);
-        assert_eq!(read.version_req, VersionReq::parse(">=1.2, <2").unwrap());
+        assert_eq!(
+            version_req_of(&text, part),
+            VersionReq::parse(">=1.2, <2").unwrap()
+        );
         assert_eq!(
             (read.registry.map(|it| it.of(&text)), read.path.is_none()),
             (Some("own"), true)
         );
-        let required = &read.normal.required;
+        let required = read.normal.required.features();
         assert!(matches!(required.default_features, Platforms::Always));
         assert!(required.no_default_features.is_never());
         assert!(matches!(required.status(&text, "a"), Platforms::Always));
@@ -433,7 +489,7 @@ mod tests {
         assert!(matches!(of_b, Platforms::Specs(specs) if specs[0].to_string() == "cfg(unix)"));
         assert!(required.status(&text, "c").is_never());
         assert!(matches!(
-            read.dev.optional.no_default_features,
+            read.dev.optional.features().no_default_features,
             Platforms::Always
         ));
     }

@@ -32,6 +32,7 @@ pub use workspace::Workspace;
 
 use crate::proved::{self, Components};
 use crate::{CargoMetadata, Error, MetadataCommand, PackageId};
+use camino::Utf8Path;
 use decode::Decoded;
 use details::Details;
 use links_at::LinksAt;
@@ -75,25 +76,28 @@ pub struct PackageGraph {
     // The positions of the workspace's members, by path and by name.
     members_by_path: Vec<usize>,
     members_by_name: Vec<usize>,
-    // Read when they are first asked for.
+    // Whether the text with the packages and links has details, too. Else they are read when they are first asked for.
+    has_details: bool,
     details: OnceLock<Details>,
 }
 
-// The members by what names each, which is no other's.
-fn sorted_by<K: Ord + fmt::Display>(
+// The members by a key of what names each, which is no other's.
+fn sorted_by<'d, K: Ord>(
     what: &str,
     members: &[usize],
-    key: impl Fn(usize) -> K,
+    name: impl Fn(usize) -> &'d str,
+    key: impl Fn(&'d str) -> K,
 ) -> Result<Vec<usize>, Error> {
-    let mut sorted = members.to_vec();
-    sorted.sort_by_key(|at| key(*at));
-    let same = sorted.windows(2).find(|pair| key(pair[0]) == key(pair[1]));
+    let keys = members.iter().map(|at| (key(name(*at)), *at));
+    let mut sorted: Vec<(K, usize)> = keys.collect();
+    sorted.sort_unstable();
+    let same = sorted.windows(2).find(|pair| pair[0].0 == pair[1].0);
     match same {
         Some(pair) => Err(Error::PackageGraphConstructError(format!(
             "two members have the {what} {}",
-            key(pair[0])
+            name(pair[0].1)
         ))),
-        None => Ok(sorted),
+        None => Ok(sorted.into_iter().map(|(_, at)| at).collect()),
     }
 }
 
@@ -120,14 +124,18 @@ impl PackageGraph {
     /// link or default member is of no package, or two members have one path or one name.
     pub fn from_metadata(metadata: CargoMetadata) -> Result<Self, Error> {
         let (json, records) = metadata.into_parts();
-        let decoded = Decoded::of(records)?;
+        let decoded = Decoded::of(records.text)?;
         let (packages, ends) = (&decoded.packages, &decoded.ends);
         let count = packages.len();
         let components =
             proved::components(ends, &decoded.firm, count).map_err(|fault| decoded.told(fault))?;
         let members: Vec<_> = (0..count).filter(|at| packages[*at].is_member()).collect();
-        let members_by_path = sorted_by("path", &members, |at| decoded.path(at))?;
-        let members_by_name = sorted_by("name", &members, |at| decoded.part(packages[at].name))?;
+        let path = |at| decoded.path(at).as_str();
+        // What a path has between slashes is parted once.
+        let parted = |path| Utf8Path::new(path).components().collect::<Vec<_>>();
+        let members_by_path = sorted_by("path", &members, path, parted)?;
+        let name = |at: usize| decoded.part(packages[at].name);
+        let members_by_name = sorted_by("name", &members, name, |name| name)?;
         Ok(PackageGraph {
             json,
             all: vec![true; ends.len()],
@@ -136,6 +144,7 @@ impl PackageGraph {
             entering: LinksAt::of(count, ends, |link| link.to),
             members_by_path,
             members_by_name,
+            has_details: records.have_details,
             details: OnceLock::new(),
             decoded,
         })
@@ -184,7 +193,13 @@ impl PackageGraph {
     }
 
     fn details(&self) -> &Details {
-        self.details.get_or_init(|| Details::of(&self.json))
+        self.details.get_or_init(|| {
+            if self.has_details {
+                Details::within(&self.decoded)
+            } else {
+                Details::read(&self.json)
+            }
+        })
     }
 
     fn position(&self, id: &PackageId) -> Result<usize, Error> {

@@ -1,4 +1,4 @@
-use super::details::{Later, PackageDetails};
+use super::details::PackageDetails;
 use super::parts::Span;
 use super::{
     BuildTarget, BuildTargetId, BuildTargetKind, DependencyDirection, PackageGraph, PackageLink,
@@ -21,7 +21,7 @@ pub(super) struct Package {
     pub(super) description: Option<Span>,
     pub(super) license: Option<Span>,
     pub(super) repository: Option<Span>,
-    pub(super) details: Later<PackageDetails>,
+    pub(super) details: Span,
 }
 
 impl Package {
@@ -198,7 +198,8 @@ impl<'g> PackageMetadata<'g> {
 }
 
 /// The rest of what its manifest says, which is what the JSON says, too: that is proved. The first of these calls on any
-/// package or link of a graph reads the JSON once more, and keeps what it has of details.
+/// package or link of a graph reads the JSON once more, and keeps what it has of details, unless it was read with them
+/// ([`CargoMetadata::with_details`](crate::CargoMetadata::with_details)).
 ///
 /// They panic where the details are not such as Cargo prints, of any package or link of the JSON.
 impl<'g> PackageMetadata<'g> {

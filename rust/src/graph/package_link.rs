@@ -15,7 +15,7 @@ pub(super) struct Link {
     pub(super) normal: Section,
     pub(super) build: Section,
     pub(super) dev: Section,
-    pub(super) details: Later<LinkDetails>,
+    pub(super) version_req: Later<VersionReq>,
 }
 
 impl Link {
@@ -177,7 +177,8 @@ impl<'g> DependencyReq<'g> {
     // That of the features that the function picks.
     fn of_features(&self, pick: impl Fn(&'g Features) -> &'g Platforms) -> EnabledStatus<'g> {
         let details = self.details();
-        EnabledStatus::of(pick(&details.required), pick(&details.optional))
+        let (required, optional) = (details.required.features(), details.optional.features());
+        EnabledStatus::of(pick(required), pick(optional))
     }
 
     /// Where it is there with its default features.
@@ -194,7 +195,7 @@ impl<'g> DependencyReq<'g> {
     pub fn features(&self) -> impl Iterator<Item = &'g str> + use<'g> {
         let (text, details) = (self.link.graph.details().text(), self.details());
         let both = [&details.required, &details.optional];
-        let named = both.into_iter().flat_map(|features| &features.named);
+        let named = both.into_iter().flat_map(|asked| &asked.features().named);
         named.map(move |(name, _)| name.of(text))
     }
 

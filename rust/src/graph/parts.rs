@@ -34,28 +34,38 @@ impl<'t> Parts<'t> {
         Parts { text, place }
     }
 
-    /// The byte that stands next.
-    pub(super) fn next(&self) -> u8 {
+    // The byte that stands next.
+    fn next(&self) -> u8 {
         self.text.as_bytes()[self.place]
     }
 
-    /// The same, which is passed.
+    /// The byte that stands next, which is passed.
     pub(super) fn take(&mut self) -> u8 {
         let byte = self.next();
         self.place += 1;
         byte
     }
 
+    /// Whether the byte stands next, which then is passed.
+    pub(super) fn takes(&mut self, byte: u8) -> bool {
+        let stands = self.next() == byte;
+        if stands {
+            self.place += 1;
+        }
+        stands
+    }
+
     /// The number in front of the mark.
     pub(super) fn number(&mut self, mark: u8) -> usize {
-        let rest = &self.text[self.place..];
-        let digits = rest.bytes().take_while(u8::is_ascii_digit).count();
-        assert_eq!(rest.as_bytes()[digits], mark, "a mark behind each number");
-        self.place += digits + 1;
-        let digits = rest[..digits]
-            .bytes()
-            .map(|digit| usize::from(digit - b'0'));
-        digits.fold(0, |number, digit| 10 * number + digit)
+        let mut number = 0;
+        loop {
+            let byte = self.take();
+            if byte == mark {
+                return number;
+            }
+            assert!(byte.is_ascii_digit(), "a mark behind each number");
+            number = 10 * number + usize::from(byte - b'0');
+        }
     }
 
     /// A text.
@@ -90,20 +100,39 @@ impl<'t> Parts<'t> {
 
     /// A text, or none.
     pub(super) fn optional(&mut self) -> Option<Span> {
-        if self.next() == b'-' {
-            self.take();
-            None
-        } else {
-            Some(self.field())
-        }
+        (!self.takes(b'-')).then(|| self.field())
     }
 
     /// Some platforms.
     pub(super) fn platforms(&mut self) -> Platforms {
-        if self.next() == b'*' {
-            self.take();
+        if self.takes(b'*') {
             return Platforms::Always;
         }
         Platforms::Specs(self.list(|parts| TargetSpec::as_written(parts.text())))
+    }
+
+    /// Passes over a list, each item of which the function passes over.
+    pub(super) fn pass_list(&mut self, pass: impl Fn(&mut Self)) {
+        let count = self.number(b';');
+        (0..count).for_each(|_| pass(self));
+    }
+
+    /// Passes over a text.
+    pub(super) fn pass(&mut self) {
+        self.field();
+    }
+
+    /// Passes over a text, or none.
+    pub(super) fn pass_optional(&mut self) {
+        if !self.takes(b'-') {
+            self.pass();
+        }
+    }
+
+    /// Passes over some platforms.
+    pub(super) fn pass_platforms(&mut self) {
+        if !self.takes(b'*') {
+            self.pass_list(Self::pass);
+        }
     }
 }

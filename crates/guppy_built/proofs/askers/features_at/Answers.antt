@@ -59,8 +59,8 @@ returns c =
     let r = c.package_at-package.result.now in
     let given = all_given (keys r.named_features) c.loop-name.yielded c.loop-name.name-iterator (c.loop-name.invariant.all r c.package_at-package.ensures) c.in-None.ensures.steps.0 in
     let names : map (λ (n : Bor (String Global)). string_bytes n.now) c.loop-name.yielded ≡ feature_names r =
-        sym (map-map string_bytes (λ (n : Bor (String Global)). n.now) c.loop-name.yielded) ∙ ap (map string_bytes) given
-        ∙ map-map string_bytes (λ (e : String Global × Vec NamedFeatureDep Global). e.0) r.named_features.entries in
+    sym (map-map string_bytes (λ (n : Bor (String Global)). n.now) c.loop-name.yielded) ∙ ap (map string_bytes) given
+    ∙ map-map string_bytes (λ (e : String Global × Vec NamedFeatureDep Global). e.0) r.named_features.entries in
     let rows = c.loop-name.rows.items in
     let names_told = map (λ (row : FeatureData). row.name) (map feature_shown rows) in
     let told : names_told ≡ map (λ (on : FeatureOn). on.name.now) rows = map-map (λ (row : FeatureData). row.name) feature_shown rows in
