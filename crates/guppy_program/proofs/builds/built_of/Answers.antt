@@ -1,8 +1,10 @@
 use Rattle.std.proofs.Common.{refl, sym, subst, map}
 use Rattle.std.specs.Prelude.{All}
+use Rattle.guppy.specs.Graph.{GraphData}
 use Rattle.guppy.specs.Ids.{IsKnown}
-use Rattle.guppy_built.specs.Asked.{choice_of}
-use Rattle.guppy_built.specs.Rows.{row_of}
+use Rattle.guppy_built.specs.Asked.{choice_of, IsChoiceFault}
+use Rattle.guppy_built.specs.Rows.{AreBuilt, row_of}
+use Rattle.guppy_built.specs.declared.fault.BuiltFault.TheVariants.{UnknownFeature}
 use Rattle.guppy_command.specs.Command.{built}
 use Rattle.guppy_command.specs.Shown.{asked_shown, request_shown}
 use Rattle.guppy_program.specs.Answer.{IsFaultOn}
@@ -11,7 +13,9 @@ use Rattle.guppy_program.proofs.RefusedFeatures.{refused_told}
 use Rattle.guppy_program.proofs.builds.built_of.Goals as goal
 
 pub built_packages-requires : goal.built_packages-requires
-built_packages-requires g c = subst (All (IsKnown c.args.graph.now.packages)) (sym c.question_of-question.ensures.members) c.requires.known
+built_packages-requires g c =
+    subst (λ (graph : GraphData). All (IsKnown graph.packages) c.question_of-question.result.members.now) (sym c.records.ensures)
+    (subst (All (IsKnown c.args.graph.now.packages)) (sym c.question_of-question.ensures.members) c.requires.known)
 
 pub returns-in-Ok-clause-ok : goal.returns-in-Ok-clause-ok
 returns-in-Ok-clause-ok g c =
@@ -20,7 +24,7 @@ returns-in-Ok-clause-ok g c =
       choice = choice_of c.question_of-question.result;
       chosen = c.question_of-question.ensures.chosen c.args.graph.now (g.F.Format.format.meant packages) c.requires.named c.requires.known;
       rows = map row_of c.in-Ok.rows.items;
-      exact = rw c.in-Ok.is at c.built_packages.ensures.ok;
+      exact = subst (λ (graph : GraphData). AreBuilt graph (choice_of c.question_of-question.result) (map row_of c.in-Ok.rows.items)) c.records.ensures c.in-Ok.ensures.ok;
       told = refl;
     }
 
@@ -32,5 +36,5 @@ returns-in-Err-UnknownFeature-clause-err g c call =
     let request = request_shown c.args.request.now in
     refused_told places c.args.graph.now meant request (choice_of c.question_of-question.result)
     (c.question_of-question.ensures.chosen c.args.graph.now meant c.requires.named c.requires.known) c.in-Err-UnknownFeature.place
-    (rw c.in-Err-UnknownFeature.is at c.built_packages.ensures.err)
+    (subst (λ (graph : GraphData). IsChoiceFault graph (choice_of c.question_of-question.result) (UnknownFeature c.in-Err-UnknownFeature.place)) c.records.ensures (subst (IsChoiceFault c.records.result.now (choice_of c.question_of-question.result)) c.in-Err-UnknownFeature.field-0-is c.in-Err-UnknownFeature.ensures.err))
     (IsFaultOn format places call (built request) c.args.graph.now c.refused.result) (λ text is. is) tt _ c.refused.ensures

@@ -1,8 +1,11 @@
 use Rattle.std.proofs.Common.{◌≡◌, ⊎_elim, refl, sym, subst, map}
 use Rattle.std.specs.Prelude.{All}
+use Rattle.guppy.specs.Graph.{GraphData}
 use Rattle.guppy.specs.Ids.{IsKnown}
 use Rattle.guppy_built.specs.Asked.{choice_of}
 use Rattle.guppy_built.specs.Names.{step_shown}
+use Rattle.guppy_built.specs.Why.{IsWhy, IsWhyFault}
+use Rattle.guppy_built.specs.declared.fault.BuiltFault.TheVariants.{FeatureOff, UnknownFeature}
 use Rattle.guppy_command.specs.Command.{why_feature}
 use Rattle.guppy_command.specs.Shown.{asked_shown, request_shown}
 use Rattle.guppy_program.specs.Answer.{IsFaultOn}
@@ -11,7 +14,9 @@ use Rattle.guppy_program.proofs.RefusedFeatures.{refused_told}
 use Rattle.guppy_program.proofs.builds.why_of.Goals as goal
 
 pub why_feature-requires-clause-members : goal.why_feature-requires-clause-members
-why_feature-requires-clause-members g c = subst (All (IsKnown c.args.graph.now.packages)) (sym c.question_of-question.ensures.members) c.requires.known
+why_feature-requires-clause-members g c =
+    subst (λ (graph : GraphData). All (IsKnown graph.packages) c.question_of-question.result.members.now) (sym c.records.ensures)
+    (subst (All (IsKnown c.args.graph.now.packages)) (sym c.question_of-question.ensures.members) c.requires.known)
 
 pub returns-in-Ok-clause-ok : goal.returns-in-Ok-clause-ok
 returns-in-Ok-clause-ok g c =
@@ -22,7 +27,7 @@ returns-in-Ok-clause-ok g c =
       id = c.args.id.now;
       is_meant = c.requires.is_meant;
       steps = map step_shown c.in-Ok.steps.items;
-      exact = rw c.in-Ok.is at c.why_feature.ensures.ok;
+      exact = subst (λ (graph : GraphData). IsWhy graph (choice_of c.question_of-question.result) c.args.id.now c.args.name.now (map step_shown c.in-Ok.steps.items)) c.records.ensures c.in-Ok.ensures.ok;
       told = refl;
     }
 
@@ -34,7 +39,7 @@ returns-in-Err-UnknownFeature-clause-err g c call =
     let request = request_shown c.args.request.now in
     refused_told places c.args.graph.now meant request (choice_of c.question_of-question.result)
     (c.question_of-question.ensures.chosen c.args.graph.now meant c.requires.named c.requires.known) c.in-Err-UnknownFeature.place
-    (rw c.in-Err-UnknownFeature.is at c.why_feature.ensures.err)
+    (subst (λ (graph : GraphData). IsWhyFault graph (choice_of c.question_of-question.result) c.args.id.now c.args.name.now (UnknownFeature c.in-Err-UnknownFeature.place)) c.records.ensures (subst (IsWhyFault c.records.result.now (choice_of c.question_of-question.result) c.args.id.now c.args.name.now) c.in-Err-UnknownFeature.field-0-is c.in-Err-UnknownFeature.ensures.err))
     (IsFaultOn format places call (why_feature request c.args.word.now c.args.name.now) c.args.graph.now c.refused.result) (λ text is. is) tt _ c.refused.ensures
 
 pub returns-in-Err-FeatureOff-clause-err : goal.returns-in-Err-FeatureOff-clause-err
@@ -44,7 +49,7 @@ returns-in-Err-FeatureOff-clause-err g c call =
     let word = c.args.word.now in
     let name = c.args.name.now in
     let P = IsFaultOn format (places_of (asked_shown c.args.asked.now)) call (why_feature (request_shown c.args.request.now) word name) c.args.graph.now c.feature_off.result in
-    let off = rw c.in-Err-FeatureOff.is at c.why_feature.ensures.err in
+    let off = subst (λ (graph : GraphData). IsWhyFault graph (choice_of c.question_of-question.result) c.args.id.now c.args.name.now (FeatureOff)) c.records.ensures (subst (IsWhyFault c.records.result.now (choice_of c.question_of-question.result) c.args.id.now c.args.name.now) c.in-Err-FeatureOff.field-0-is c.in-Err-FeatureOff.ensures.err) in
     ⊎_elim
     (λ told. subst P (sym told) (
       refl,
