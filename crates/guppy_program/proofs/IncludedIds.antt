@@ -1,9 +1,7 @@
 -- The IDs of the packages in a set, and what was given where nothing is left.
-use Rattle.std.proofs.Common.{◌≡◌, ◌↔◌, ◌⊎◌, ⊎_elim, inl, inr, ℕ, zero, suc, List, [], ◌∷◌, length, map, Contains, refl, arith}
-use Rattle.std.specs.Iterator.{Yields, YieldsFirstBy}
+use Rattle.std.proofs.Common.{◌≡◌, ◌↔◌, ◌⊎◌, ⊎_elim, inl, inr, ℕ, zero, suc, List, [], ◌∷◌, length, Contains, refl, arith}
 use Rattle.std.specs.List.{concat, cons_option}
 use Rattle.std.specs.Prelude.{Option, Some, None, IsSomeAnd, option_map, slice_get}
-use Rattle.std.proofs.lemmas.Iterator.Consumers.{YieldsList-from_first, YieldsList-end}
 use Rattle.guppy_core.specs.Listing.{IsListing, Stands}
 use Rattle.guppy_core.proofs.SetMembers.{listed_members}
 use Rattle.guppy_search.specs.declared.ix.direction.DependencyDirection.{DependencyDirection}

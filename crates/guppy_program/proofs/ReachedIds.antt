@@ -1,30 +1,19 @@
 -- What a query from a list of IDs reaches, and the IDs that a sorted set lists.
-use Rattle.std.proofs.Common.{◌≡◌, ◌∙◌, ◌↔◌, ℕ, zero, suc, arith, Bool, true, List, [], ◌∷◌, length, map, take, drop, Contains, refl, sym, subst, None, Ok, Err}
-use Rattle.std.specs.Prelude.{Option, Result, IfOk, All}
+use Rattle.std.proofs.Common.{◌≡◌, ◌∙◌, ◌↔◌, ℕ, zero, suc, arith, Bool, true, List, [], ◌∷◌, map, Contains, sym, subst}
+use Rattle.std.specs.Prelude.{All}
 use Rattle.std.specs.List.{AllByRecursion}
 use Rattle.std.specs.List.Sorted.{IsStrictlySortedBy}
 use Rattle.std.specs.declared.cmp.Ordering.{Ordering}
 use Rattle.std.specs.declared.cmp.Ordering.TheVariants.{Less}
-use Rattle.std.specs.Iterator.{Drains}
 use denote.Ref.{Bor}
-use Rattle.std.proofs.lemmas.List.{take-append-drop}
-use Rattle.std.proofs.lemmas.List.Elements.{All-contains, Contains-append_right}
-use Rattle.std.proofs.lemmas.Iterator.{YieldsList}
-use Rattle.std.proofs.lemmas.Iterator.Consumers.{YieldsList-so_far, YieldsList-end}
 use Rattle.guppy_search.specs.declared.ix.direction.DependencyDirection.{DependencyDirection}
 use Rattle.guppy_core.specs.IxSet.{IsIn}
 use Rattle.guppy_core.specs.Reach.{LinkStep, ReachedFrom}
-use Rattle.guppy_data.specs.declared.texts.error.Error.{Error}
-use Rattle.guppy_data.specs.declared.texts.error.Error.TheVariants.{PackageGraphConstructError, UnknownPackageId, UnknownFeatureId, UnknownWorkspacePath, UnknownWorkspaceName, PackageGraphInternalError, FeatureGraphInternalError, OutOfMemory}
-use Rattle.guppy_data.specs.declared.records.PackageRecord.{PackageRecord}
 use Rattle.guppy_data.specs.Sorted.{KeepsUpTo}
-use Rattle.guppy.specs.Ids.{HasId, IsKnown}
+use Rattle.guppy.specs.Ids.{HasId}
 use Rattle.guppy.specs.Graph.{GraphData}
 use Rattle.guppy.specs.Query.{IsSetOfIds, IncludesId, SetData}
-use Rattle.guppy.specs.Refused.{NamesId, named_id, IsFirstUnknown, EndsInUnknown}
-use Rattle.guppy.specs.Read.{ReadsTo, text_now}
 use Rattle.guppy.proofs.CyclicComponents.{Contains-map, from_map}
-use Rattle.guppy.proofs.UnknownTexts.{NamesText-along, first_unknown-read}
 use Rattle.guppy_program.specs.Answer.{IsReached}
 
 -- what is reached from the named packages

@@ -1,4 +1,4 @@
-use Rattle.std.proofs.Common.{◌≡◌, ⊎_elim, refl, sym, subst, map}
+use Rattle.std.proofs.Common.{⊎_elim, refl, sym, subst, map}
 use Rattle.std.specs.Prelude.{All}
 use Rattle.guppy.specs.Graph.{GraphData}
 use Rattle.guppy.specs.Ids.{IsKnown}

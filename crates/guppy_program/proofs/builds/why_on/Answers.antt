@@ -1,4 +1,4 @@
-use Rattle.std.proofs.Common.{◌∷◌, [], ◌++◌, refl, sym, subst, List, ℕ}
+use Rattle.std.proofs.Common.{◌∷◌, [], ◌++◌, refl, sym, subst}
 use Rattle.std.specs.Prelude.{All}
 use Rattle.std.specs.List.{AllZip}
 use Rattle.std.proofs.lemmas.Result.{err_from_is_err_and}
