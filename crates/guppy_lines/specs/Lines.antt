@@ -1,5 +1,5 @@
 -- What `guppy-run` is asked, and the lines of an input, as it reads them.
-use Rattle.std.specs.Prelude.{◌≡◌, ℕ, List, [], ◌∷◌, None, false, is_some, map, if◌then◌else◌}
+use Rattle.std.specs.Prelude.{◌≡◌, ℕ, List, [], ◌∷◌, false, is_some, map, option_map, if◌then◌else◌}
 use Rattle.guppy_data.specs.declared.records.PackageRecord.{PackageRecord}
 use Rattle.guppy_data.specs.declared.records.LinkRecord.{LinkRecord}
 use Rattle.guppy_data.specs.declared.records.WorkspaceRecord.{WorkspaceRecord}
@@ -30,14 +30,14 @@ TellsBadLine input _ = ⊥
 abbrev pub meant_by_id : List PackageRecord → List ℕ → List (List ℕ)
 meant_by_id packages word = if has_id word packages then word ∷ [] else []
 
--- the options, which stand in front of a command, and the commands, which take all of them
+-- the options, which stand in front of a command, with the commands that take each, and the commands
 abbrev pub lines_program : Program
 lines_program = record {
   options = map (λ row. record {
     name = row.0.now;
     takes_value = is_some row.1;
     repeats = row.2;
-    commands = None;
+    commands = option_map (λ commands. map (λ name. name.now) commands.now) row.3;
   }) OPTIONS.now;
   anywhere = false;
   commands = map (λ name. name.now) COMMANDS.now;
