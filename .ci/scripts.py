@@ -357,7 +357,7 @@ def try_installed(world):
     left = sorted(str(it.relative_to(prefix)) for it in prefix.rglob("*") if it.is_file())
     wanted = ["bin/cargo-guppy", "bin/guppy-cargo", "bin/guppy-run", "libexec/guppy/guppy-cargo", "libexec/guppy/guppy-run"]
     wanted += [f"libexec/guppy/{it}.sh" for it in ("builds", "metadata", "platforms", "since", "start", "tests", "words")]
-    yield "nothing else is there", left == wanted and not world.left(), (left, world.left())
+    yield "nothing else is there", left == sorted(wanted) and not world.left(), (left, world.left())
     metadata = world.room / "metadata.json"
     metadata.write_text("{}")
     heap = ":glibc.malloc.top_pad=2097152:glibc.malloc.mmap_threshold=1073741824:glibc.malloc.trim_threshold=4294967296"
