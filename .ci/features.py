@@ -36,7 +36,7 @@ GUPPY_CARGO = os.path.join(CRATES, "guppy_cargo_main", "out", "guppy_cargo_main"
 # So many workspaces are drawn, so many to try the judge itself, with so many questions each.
 DRAWN, OWN, ASKED = 150, 40, 6
 # Of so many guppy-cargo is asked by its command.
-BY_COMMAND = 25
+BY_COMMAND = 100
 # So many are drawn over crates of Debian's, where some are installed.
 OVER_CRATES = 20
 SECONDS = 120
