@@ -1,16 +1,19 @@
 #!/usr/bin/env python3
 """Judges `guppy-cargo affected` by cargo itself. In workspaces that are made here all tests are built, a file is
 changed, and they are built again: the answer for the paths that changed must tell each member of which cargo built a
-test anew. Folders that only the compiler knows a package to read are given to it, and some are told for these alone.
+test anew, and so must the answer for these and the state before (`--before`). Folders that only the compiler knows a
+package to read are given to it, and some are told for these alone.
 
-What is told beyond these is counted, by what was changed. After two minutes nothing more is changed, and what was tried
-counts. Needs cargo, git, and the program as built, or one that the first argument names; a second one says in how many
-workspaces, then without an end. The last line is 'N passed, M failed'.
+What is told beyond these is counted, by what was changed: where that shows in the metadata, the state before has to
+take at least a quarter of it away. After two minutes nothing more is changed, and what was tried counts. Needs cargo, git, and the program as built, or one that
+the first argument names; a second one says in how many workspaces, then without an end. The last line is
+'N passed, M failed'.
 """
 
 import json
 import os
 import random
+import re
 import shutil
 import subprocess
 import sys
@@ -23,7 +26,7 @@ HERE = Path(__file__).resolve().parent
 BUILT = HERE.parent / "crates/guppy_cargo_main/out/guppy_cargo_main"
 PROGRAM = sys.argv[1] if sys.argv[1:] else str(BUILT)
 # So many workspaces are drawn, of so many packages, and so much is changed in each, one after the other.
-DRAWN, SIZE, CHANGES = int(sys.argv[2]) if sys.argv[2:] else 10, 8, 8
+DRAWN, SIZE, CHANGES = int(sys.argv[2]) if sys.argv[2:] else 16, 8, 8
 # No more is changed after so many seconds, however slow the machine.
 END = time.monotonic() + (120 if not sys.argv[2:] else 24 * 3600)
 CARGO = {"CARGO_INCREMENTAL": "0", "CARGO_BUILD_JOBS": "1", "CARGO_PROFILE_DEV_DEBUG": "0", "CARGO_NET_OFFLINE": "true"}
@@ -35,6 +38,9 @@ MACRO = "[lib]\nproc-macro = true\n"
 FAR = {"far.rs": "mod part;\n", "part.rs": ""}
 # Where files lie that several packages include.
 SHARED = ["shared", "../proto"]
+# A package of a registry, in the versions that there are, and cargo's settings by which it comes from a folder.
+KEPT, VERSIONS = "kept", ["1.0.0", "1.0.1"]
+SOURCES = '[source.crates-io]\nreplace-with = "near"\n[source.near]\ndirectory = "../registry"\n'
 
 
 class TimeIsUp(Exception):
@@ -64,21 +70,26 @@ class Package:
         self.far = drawn.choice(["shared", "../far", "p0/tests", "crates/far"]) if drawn.random() < 0.3 else None
         # Some include a file of a folder in another package.
         self.borrows = os.path.join(drawn.choice(others).folder, "lent") if others and drawn.random() < 0.4 else None
+        # Some need a package of the registry, and of others the names of those that are asked for a feature.
+        self.needs_kept, self.wants = drawn.random() < 0.6, set()
 
     def manifest(self, root):
         """Its manifest; `root` is the workspace's table where it lies at the root."""
         head = f'[package]\nname = "{self.name}"\nversion = "0.1.{self.version}"\nedition = "2021"\n'
         if self.is_member and self.folder.startswith("../"):
             head += f'workspace = "{os.path.relpath("ws", os.path.join("ws", self.folder))}"\n'
-        asked = (f'[{section}dependencies]\n{it.name}.path = "{self.path_to(it)}"\n' for section, it in self.asks)
+        asked = [f"[{section}dependencies]\n{it.name} = {self.source_of(it)}\n" for section, it in self.asks]
+        asked += [f'[dependencies]\n{KEPT} = "1"\n'] if self.needs_kept else []
         far = f'[[test]]\nname = "far"\npath = "{self.from_here(self.far)}/{self.name}/far.rs"\n' if self.far else ""
-        return head + (MACRO if self.is_macro else "") + far + tables(asked) + root
+        return head + (MACRO if self.is_macro else "") + far + tables(asked) + "[features]\nf = []\n" + root
 
     def from_here(self, folder):
         return os.path.relpath(os.path.join("ws", folder), os.path.join("ws", self.folder)) or "."
 
-    def path_to(self, other):
-        return self.from_here(other.folder)
+    def source_of(self, other):
+        """Where the other package is found, and which features of it are asked for."""
+        features = ["f"] if other.name in self.wants else []
+        return f'{{ path = "{self.from_here(other.folder)}", features = {json.dumps(features)} }}'
 
     def given(self):
         """What it reads outside of its folder, as an option each."""
@@ -111,7 +122,7 @@ class Workspace:
 
     def __init__(self, room, seed):
         self.drawn, self.top, self.seed = random.Random(seed), Path(room) / str(seed), seed
-        self.root, self.rooted, self.packages = self.top / "ws", seed % 2 == 1, []
+        self.root, self.rooted, self.packages, self.profile = self.top / "ws", seed % 2 == 1, [], ""
         for number in range(SIZE):
             self.packages.append(Package(self.drawn, number, self.packages, self.rooted))
         for number, it in enumerate(self.packages):
@@ -128,6 +139,12 @@ class Workspace:
             write(self.root / "Cargo.toml", self.table())
         for folder in SHARED:
             write(self.root / folder / "text.txt", "")
+        for version in VERSIONS:
+            folder = self.top / "registry" / version
+            write(folder / "Cargo.toml", f'[package]\nname = "{KEPT}"\nversion = "{version}"\nedition = "2021"\n')
+            write(folder / "src/lib.rs", "")
+            write(folder / ".cargo-checksum.json", '{"files": {}, "package": "' + "0" * 64 + '"}')
+        self.set_up("")
         write(self.root / "README.md", "")
         write(self.top / ".gitignore", "target\n")
         for words in (["init", "-q"], ["add", "-A"]):
@@ -143,7 +160,11 @@ class Workspace:
 
     def table(self):
         members = [it.folder for it in self.packages if it.is_member and it.folder]
-        return f'[workspace]\nresolver = "2"\nmembers = {json.dumps(members)}\nexclude = ["vendor"]\n'
+        return f'[workspace]\nresolver = "2"\nmembers = {json.dumps(members)}\nexclude = ["vendor"]\n{self.profile}'
+
+    def set_up(self, settings):
+        """Writes cargo's settings."""
+        write(self.root / ".cargo/config.toml", SOURCES + settings)
 
     def write_manifest(self, package):
         root = self.table() if self.rooted and not package.folder else ""
@@ -183,19 +204,29 @@ class Workspace:
         return kind
 
     def tries(self):
-        """What was changed in turn, the members of which a test was built anew, those that were told, and those that
-        are where no folder is given to a package."""
+        """What was changed in turn, the members of which a test was built anew, those that were told, those that are
+        where no folder is given to a package, and those that are with the state before."""
         self.build()
+        state = self.metadata()
         for number in range(CHANGES):
-            before = self.files()
+            before, was = self.files(), state
             kind = self.change(number)
-            metadata = self.cargo("metadata", "--format-version", "1", "--all-features")
+            state = metadata = self.metadata()
             after = self.files()
             changed = sorted(it for it in before.keys() | after.keys() if before.get(it) != after.get(it))
             paths = [self.told(it) for it in changed]
             known = {it["name"] for it in json.loads(metadata)["packages"]}
             given = [option for it in self.packages if it.name in known for option in it.given()]
-            yield kind, paths, self.build(), affected(metadata, [*given, *paths]), affected(metadata, paths)
+            write(self.top / "target/before.json", was)
+            since = ["--before", str(self.top / "target/before.json"), "--resolver", "2"]
+            # The build script of the package at the root may look at each file in its folder, as the scripts say, too.
+            is_read = self.rooted and self.packages[0].script is not None
+            since += ["build.rs"] if is_read and "Cargo.lock" in paths else []
+            answers = (affected(metadata, words) for words in ([*given, *paths], paths, [*since, *given, *paths]))
+            yield kind, paths, self.build(), *answers
+
+    def metadata(self):
+        return self.cargo("metadata", "--format-version", "1", "--all-features")
 
     def told(self, path):
         """The path as git tells it: some folders count as one, as a submodule does."""
@@ -275,10 +306,37 @@ def change_outside(workspace, package, number):
 
 
 def change_settings(workspace, package, number):
-    write(workspace.root / ".cargo/config.toml", f'[build]\nrustflags = ["--cfg", "x{number}"]\n')
+    workspace.set_up(f'[build]\nrustflags = ["--cfg", "x{number}"]\n')
+
+
+def change_profile(workspace, package, number):
+    workspace.profile = f"[profile.dev]\nopt-level = {number % 2 + 1}\n"
+    write(workspace.root / "Cargo.toml", workspace.packages[0].manifest(workspace.table()) if workspace.rooted else workspace.table())
+
+
+def ask_for_feature(workspace, package, number):
+    asking = [it for it in workspace.packages if it.asks]
+    it = workspace.drawn.choice(asking)
+    it.wants ^= {workspace.drawn.choice(it.asks)[1].name}
+    workspace.write_manifest(it)
+
+
+def update(workspace, package, number):
+    lock = workspace.root / "Cargo.lock"
+    text = lock.read_text()
+    version = re.search(f'name = "{KEPT}"\nversion = "([0-9.]*)"', text)
+    if not version:
+        return change_outside(workspace, package, number)
+    # By itself, cargo takes no other version from a folder.
+    other = VERSIONS[version[1] == VERSIONS[0]]
+    return write(lock, text.replace(version[0], version[0].replace(version[1], other)))
 
 
 UNREAD, LENT = "a file that nobody reads", "what some include of another package"
+# By the paths alone this may be missed: the other package is built anew, and nothing in its folder changed.
+FEATURE = "a feature that is asked for"
+# What shows in the metadata.
+SHOWN = {"a version", "a new dependency", FEATURE, "a version in Cargo.lock"}
 KINDS = {
     "a source": change_source,
     "a test": change_test,
@@ -292,13 +350,17 @@ KINDS = {
     LENT: change_lent,
     UNREAD: change_outside,
     "settings": change_settings,
+    "a profile": change_profile,
+    FEATURE: ask_for_feature,
+    "a version in Cargo.lock": update,
 }
 
 
 def affected(metadata, words):
     """The members that the program tells."""
     ways = {"input": metadata, "capture_output": True, "text": True, "timeout": time_left()}
-    ran = subprocess.run([PROGRAM, "affected", *words], check=False, **ways)
+    # A file that has no path says that nothing may have changed.
+    ran = subprocess.run([PROGRAM, "affected", "--paths-from", os.devnull, *words], check=False, **ways)
     if ran.returncode or ran.stderr:
         sys.exit(f"affected: {words}: status {ran.returncode}, {ran.stderr}")
     return set(ran.stdout.split())
@@ -321,24 +383,29 @@ def tries_of(room, seed):
 def main():
     if not os.access(PROGRAM, os.X_OK):
         return f"affected: {PROGRAM} is not there"
-    passed = failed = beyond = whole = gained = 0
-    counts = {it: [0, 0] for it in KINDS}
+    passed = failed = whole = gained = 0
+    counts = {it: [0, 0, 0] for it in KINDS}
+    beyond, shown = [0, 0], [0, 0]
     with tempfile.TemporaryDirectory(ignore_cleanup_errors=True) as room, ThreadPoolExecutor(4) as workers:
         for seed, tried in workers.map(lambda it: tries_of(room, it), range(DRAWN)):
             whole += len(tried) == CHANGES
-            for kind, paths, built, answer, without in tried:
+            for kind, paths, built, answer, without, since in tried:
                 # What is told with no folder given to a package is told anyway.
-                missed = (built | without) - answer
+                missed = (without if kind == FEATURE else built | without) - answer | built - since
                 gained += kind == LENT and len((built & answer) - without)
-                passed, failed, beyond = passed + (not missed), failed + bool(missed), beyond + len(answer - built)
-                counts[kind] = [counts[kind][0] + len(built), counts[kind][1] + len(answer)]
+                passed, failed = passed + (not missed), failed + bool(missed)
+                for at, told in enumerate((built, answer, since)):
+                    counts[kind][at] += len(told)
+                for counted in (beyond, shown) if kind in SHOWN else (beyond,):
+                    counted[:] = [counted[0] + len(answer - built), counted[1] + len(since - built)]
                 if missed:
-                    print(f"affected: workspace {seed}: FAILED: {kind}, {paths}: {sorted(missed)} missed, {sorted(answer)} told")
+                    told = f"{sorted(answer)} told, with the state before {sorted(since)}"
+                    print(f"affected: workspace {seed}: FAILED: {kind}, {paths}: {sorted(missed)} missed, {told}")
     in_time = whole == DRAWN
     if not in_time:
         print(f"affected: the time was up: {whole} of {DRAWN} workspaces were tried whole")
-    for kind, (anew, told) in counts.items():
-        print(f"affected: {kind}: cargo built tests of {anew} members anew, and {told} are told")
+    for kind, (anew, told, since) in counts.items():
+        print(f"affected: {kind}: cargo built tests of {anew} members anew; {told} are told, with the state before {since}")
         if not anew and kind != UNREAD and in_time:
             print(f"affected: {kind}: FAILED: cargo built no test anew, so nothing was judged")
             failed += 1
@@ -346,8 +413,13 @@ def main():
     if not gained and in_time:
         print("affected: --also: FAILED: cargo built no test anew that --also alone tells, so it was not judged")
         failed += 1
-    anew, told = (sum(it[at] for it in counts.values()) for at in (0, 1))
-    print(f"affected: together: cargo built tests of {anew} members anew; {told} are told, {beyond} of them beyond")
+    anew, told, since = (sum(it[at] for it in counts.values()) for at in (0, 1, 2))
+    print(f"affected: together: cargo built tests of {anew} members anew; {told} are told, {beyond[0]} of them beyond")
+    print(f"affected: with the state before {since} are told, {beyond[1]} of them beyond")
+    print(f"affected: where the metadata show the change, {shown[0]} are beyond, and with the state before {shown[1]}")
+    if shown[1] * 4 > shown[0] * 3 and in_time:
+        print("affected: FAILED: that is more than three quarters")
+        failed += 1
     print(f"{passed} passed, {failed} failed")
     return failed > 0
 

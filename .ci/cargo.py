@@ -22,7 +22,7 @@ from concurrent.futures import ThreadPoolExecutor
 
 from breaks import broken
 from platforms import cfgs_of
-from workspaces import metadata_of, tree_in, workspaces_in
+from workspaces import cargo_in, metadata_of, tree_in, workspaces_in
 
 HERE = os.path.dirname(os.path.realpath(__file__))
 BUILT = os.path.join(os.path.dirname(HERE), "crates", "guppy_cargo_main", "out", "guppy_cargo_main")
@@ -50,7 +50,7 @@ TARGETS_FOLDERS = ("src", "tests", "examples", "benches")
 COMMANDS = "affected publish-order depends why reach order roots links cycles duplicates dot verify".split()
 OF_BUILDS = "built features why-feature".split()
 COMMANDS += OF_BUILDS
-EVERY_COMMANDS = "--kinds --platform --cfgs --host --host-cfgs --workspace --ids".split()
+EVERY_COMMANDS = "--kinds --platform --cfgs --host --host-cfgs --workspace --ids --null".split()
 BUILDS = "-p --features --all-features --no-default-features --tests --resolver".split()
 NO_COMMAND = "give a command: guppy-cargo help lists them"
 NO_KIND = "other is no kind: give some of normal,build,dev, separated by commas"
@@ -64,8 +64,8 @@ NO_NULS = "its paths aren't each ended by a NUL: give it what git writes with -z
 class Graph:
     """What is read off the JSON of a workspace, each package under the name that the program is to give it."""
 
-    def __init__(self, text, tree=None):
-        self.text, self.data, self.tree = text, json.loads(text), tree
+    def __init__(self, text, tree=None, cargo=None):
+        self.text, self.data, self.tree, self.cargo = text, json.loads(text), tree, cargo
         packages, nodes = self.data["packages"], self.data["resolve"]["nodes"]
         self.forms = {it["id"]: (it["name"], f"{it['name']}@{it['version']}", it["id"]) for it in packages}
         self.meant = {it: [it] for it in self.forms}
@@ -449,6 +449,46 @@ def try_names(graph):
             yield f"{key} {name}", "status 1", ending(["order"], text)
 
 
+def try_formats(graph):
+    """Lines that end with a NUL, by way of xargs, and packages as flags, which cargo takes for these packages."""
+    given, some = graph.text.encode(), graph.starts[0]
+    for words in (
+        ["order"],
+        ["links", "forward"],
+        ["cycles"],
+        ["duplicates"],
+        ["why", some, some],
+        ["reach", "reverse", some],
+        ["built"],
+        ["order", "--ids"],
+    ):
+        lines, nulls = run(words, given), run([*words, "--null"], given)
+        asked = f"{' '.join(words)} --null"
+        yield asked, (lines[0], lines[1].replace("\n", "\0"), lines[2]), nulls
+        by_xargs = subprocess.run(["xargs", "-0r", "printf", "%s\\n"], input=nulls[1].encode(), capture_output=True, check=False)
+        yield f"{asked}, by way of xargs", lines[1], by_xargs.stdout.decode()
+    flags = {}
+    for it, (_, full, _) in graph.forms.items():
+        flags[graph.called[it]] = f"--package={full if graph.meant[full] == [it] else it}"
+    order = graph.ask("order")
+    yield "order --format flags", [flags[it] for it in order], graph.ask("order", "--format", "flags")
+    yield "order --format=flags --ids", [f"--package={graph.ids[it]}" for it in order], graph.ask("order", "--ids", "--format=flags")
+    reached = graph.ask("reach", "forward", some)
+    yield "reach --format flags", sorted(flags[it] for it in reached), graph.ask("reach", "forward", some, "--format", "flags")
+    yield "order --format lines", order, graph.ask("order", "--format", "lines")
+    for it in [*graph.starts, *(it for it in order if graph.called[graph.ids[it]] == graph.ids[it])]:
+        yield f"cargo pkgid {flags[it]}", graph.ids[it], graph.cargo("pkgid", flags[it]).rstrip("\n")
+    for words, fault in (
+        ("order --format", "a value is missing behind --format"),
+        ("order --format flag", "flag is no format: give lines or flags"),
+        ("links forward --format flags", "links takes no --format"),
+        ("verify --format lines", "verify takes no --format"),
+        ("dot --null", "dot takes no --null"),
+        ("depends a b --null", "depends takes no --null"),
+    ):
+        yield words, (2, "", f"error: {fault}\n"), run(words.split(), given)
+
+
 def try_options(graph):
     """Links of some kinds alone, members alone, and IDs; an option stands anywhere."""
     for kinds in ("normal", "build", "dev", "build,normal", "dev,build,normal"):
@@ -587,7 +627,10 @@ def try_tree(graph):
     shown = graph.tree("-e", "normal,build,dev", "-d", "--depth", "0")
     versions = collections.Counter(it.split("@")[0] for it in shown)
     wanted = {it for it in shown if versions[it.split("@")[0]] > 1}
-    yield "duplicates, as cargo tree has them", wanted, {full.get(it, it) for it in duplicates_of(graph)}
+    # Cargo tree shows two packages of one version as one.
+    versions = [(it["name"], it["version"]) for it in graph.data["packages"]]
+    if len(set(versions)) == len(versions):
+        yield "duplicates, as cargo tree has them", wanted, {full.get(it, it) for it in duplicates_of(graph)}
 
 
 def duplicates_of(graph):
@@ -627,7 +670,12 @@ def try_help(graph):
     told = run(["help"], b"")[1]
     yield "help, the commands", sorted(COMMANDS), sorted(re.findall(r"^  ([a-z][a-z-]+)", told, re.M))
     yield "help, lines of more than 90 letters", [], [it for it in told.splitlines() if len(it) > 90]
-    for command, own in (("order", []), ("publish-order", ["--publishable"]), ("affected", ["--ignore", "--also", "--paths-from"])):
+    for command, own in (
+        ("links", []),
+        ("order", ["--format"]),
+        ("publish-order", ["--format", "--publishable"]),
+        ("affected", ["--format", "--ignore", "--also", "--paths-from", "--before", "--resolver"]),
+    ):
         options = re.findall(r"^  (--[a-z-]+)", run(["help", command], b"")[1], re.M)
         yield f"help {command}, its options", [*EVERY_COMMANDS, *own], options
     for command in OF_BUILDS:
@@ -722,6 +770,7 @@ PARTS = {
     "what is left out": try_left_out,
     "what is given": try_given,
     "names": try_names,
+    "formats": try_formats,
     "options": try_options,
     "platforms": try_platforms,
     "what cargo tree shows": try_tree,
@@ -756,7 +805,7 @@ def tries_of(part, where, graph):
 def graph_of(room, folder, flags):
     """The graph of a workspace; `cargo tree` is asked about those that are for all platforms."""
     tree = None if "platform" in flags else tree_in(room, folder, flags)
-    return Graph(metadata_of(room, folder, flags), tree)
+    return Graph(metadata_of(room, folder, flags), tree, lambda *words: cargo_in(room, folder, *words))
 
 
 def main():

@@ -288,6 +288,28 @@ def try_flags(world):
     yield "no file of flags is left", not world.left(), world.left()
 
 
+def try_built_for(world):
+    """For which platforms packages are told to be built where none is named, beside what cargo builds by its settings."""
+    top, host = world.room / "a workspace", "x86_64-unknown-linux-gnu"
+    make(top)
+    world.build()
+    (top / ".cargo").mkdir()
+    for settings, named in (
+        ("", ""),
+        ('[build]\ntarget = "x86_64-pc-windows-msvc"\n', ""),
+        ('[build]\ntarget = ["x86_64-pc-windows-msvc", "host-tuple"]\n', ""),
+        ("", "wasm32-unknown-unknown"),
+    ):
+        (top / ".cargo/config.toml").write_text(settings)
+        environment = {"CARGO_BUILD_TARGET": named} if named else {}
+        ran = world.run(["cargo", "build", "--unit-graph", "-Z", "unstable-options"], where=top, environment=environment | {"RUSTC_BOOTSTRAP": "1"})
+        graph = json.loads(ran[1])
+        wanted = {graph["units"][it]["platform"] or host for it in graph["roots"]}
+        told = world.run(["guppy-cargo", "built"], where=top, environment=environment)[1].splitlines()
+        yield f"{settings!r}, {named!r}", {it.split()[1] for it in told} == wanted, (told, wanted)
+    yield "no file of platforms is left", not world.left(), world.left()
+
+
 def tested_with(top, member, triple):
     """The packages that cargo builds for the platform, or to build for it, where it tests the member."""
     command = ["cargo", "test", "-p", member, "--target", triple, "--unit-graph", "-Z", "unstable-options"]

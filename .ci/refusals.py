@@ -68,6 +68,8 @@ COMMANDS = [
     "verify",
     "publish-order",
     "publish-order --publishable",
+    "--null --format flags order",
+    "--format flags reach forward a",
     "--platform x --cfgs CFGS --platform y --cfgs CFGS --host z --host-cfgs CFGS order",
 ]
 # The link of the graph that makes a cycle over links that aren't dev-only, and what ends in a fault for that.

@@ -18,8 +18,8 @@ import time
 from concurrent.futures import ThreadPoolExecutor
 from pathlib import Path
 
-from metadata import try_asked, try_declared, try_flags, try_given, try_host, try_metadata_refused, try_platforms, try_publishable
-from since import try_since, try_since_answers, try_since_locked, try_since_refused
+from metadata import try_asked, try_built_for, try_declared, try_flags, try_given, try_host, try_metadata_refused, try_platforms, try_publishable
+from since import try_since, try_since_answers, try_since_locked, try_since_refused, try_since_states
 from tested import try_tests, try_tests_on_branches, try_tests_refused
 from told import try_told, try_told_of_hosts
 
@@ -27,7 +27,7 @@ HERE = Path(__file__).resolve().parent
 TOP = HERE.parent
 # What the scripts call beside rt, cargo and python3.
 TOOLS = "awk basename cat chmod cp cut dirname env find git grep head ls mkdir mktemp mv pwd readlink rm sed sh sha256sum"
-TOOLS += " sleep sort stat tail tr true wc xargs"
+TOOLS += " cmp sleep sort stat tail touch tr true wc xargs"
 BUILT = os.environ.get("BUILT", str(TOP / "crates"))
 SECONDS = 300
 
@@ -295,6 +295,7 @@ def try_run_platforms(world, **how):
     for words, wanted in (
         ("--platform x86_64-unknown-linux-gnu order", (0, "a\nb\n", "")),
         (f"--ids --platform=x86_64-pc-windows-gnu --platform x --cfgs={on} order", (0, "a\nb\n", "")),
+        ("--null --format flags --platform=x86_64-pc-windows-gnu order", (0, "--package=a\0--package=b\0", "")),
         (f"--platform x --cfgs {world.room / 'none'} order", (2, "", "error: bad arguments\n")),
         (f"--host x86_64-unknown-linux-gnu --platform x --cfgs={on} order", (0, "a\nb\n", "")),
         (f"--host=x --host-cfgs {on} --platform x --cfgs={on} order", (0, "a\nb\n", "")),
@@ -356,7 +357,7 @@ def try_installed(world):
     yield "no workspace", ran[0] == 3 and ran[2].endswith("metadata by --metadata FILE\n"), ran
     left = sorted(str(it.relative_to(prefix)) for it in prefix.rglob("*") if it.is_file())
     wanted = ["bin/cargo-guppy", "bin/guppy-cargo", "bin/guppy-run", "libexec/guppy/guppy-cargo", "libexec/guppy/guppy-run"]
-    wanted += [f"libexec/guppy/{it}.sh" for it in ("builds", "metadata", "platforms", "since", "start", "tests", "words")]
+    wanted += [f"libexec/guppy/{it}.sh" for it in ("before", "builds", "metadata", "platforms", "since", "start", "tests", "words")]
     yield "nothing else is there", left == sorted(wanted) and not world.left(), (left, world.left())
     metadata = world.room / "metadata.json"
     metadata.write_text("{}")
@@ -438,6 +439,7 @@ PARTS = {
     "changes": (try_since, []),
     "changes, answers": (try_since_answers, []),
     "changes, a new lock file": (try_since_locked, []),
+    "changes, two states": (try_since_states, []),
     "changes, refusals": (try_since_refused, []),
     "tests of changes": (try_tests, []),
     "tests of changes, on branches": (try_tests_on_branches, []),
@@ -446,6 +448,7 @@ PARTS = {
     "what members declare": (try_declared, []),
     "members that can be published": (try_publishable, []),
     "flags that cargo gives": (try_flags, []),
+    "platforms that cargo builds for": (try_built_for, []),
     "members on a platform": (try_platforms, []),
     "members on the host": (try_host, []),
     "what cargo builds": (try_told, []),

@@ -166,13 +166,24 @@ def noted(world, changing, words=("--since", "HEAD"), others=(), **how):
     how["environment"] = environment | how.get("environment", {})
     ran = world.run(["guppy-cargo", "affected", *words], **how)
     # An untracked repository is given with a slash at its end.
-    # Behind the paths stands an empty file that may have more.
-    told = [it.removesuffix(b"/") for it in note.read_bytes().split(b"\0")][:-2]
-    got = told[1:-1]
+    told = [it.removesuffix(b"/") for it in note.read_bytes().split(b"\0")][:-1]
+    got = paths_of(told[1:])
     changed = [b"./" + it if it.startswith(b"-") else it for it in changing.changed()]
     wanted = sorted([*changed, *others])
-    is_right = ran[0] == 0 and told[:1] + told[-1:] == [b"affected", b"--paths-from"] and sorted(got) == wanted
+    is_right = ran[0] == 0 and told[:1] == [b"affected"] and sorted(got) == wanted
     return is_right, (ran, [it for it in got if it not in wanted], [it for it in wanted if it not in got])
+
+
+def paths_of(words):
+    """The paths among words, beside which stand an empty file that may have more, the state before, where it is known,
+    and the resolver."""
+    paths, is_value = [], False
+    for it in words:
+        is_option = it in (b"--paths-from", b"--before")
+        if not (is_option or is_value or it.startswith(b"--resolver=")):
+            paths.append(it)
+        is_value = is_option
+    return paths
 
 
 def metadata_file(changing):
@@ -250,7 +261,57 @@ def try_since_locked(world):
     write(manifest, manifest.read_text().replace("0.1.0", "0.2.0"))
     for turn in ("first", "again"):
         ran = world.run(["guppy-cargo", "affected", "--since", "HEAD"], where=changing.root)
-        yield f"a version is raised, asked {turn}", ran[0] == 0 and sorted(ran[1].split()) == ["a", "b", "c"], ran
+        # Nobody needs c, and nothing else in Cargo.lock changed.
+        is_known = "isn't known" not in ran[2]
+        yield f"a version is raised, asked {turn}", ran[:2] == (0, "c\n") and is_known, ran
+    manifest.write_text(manifest.read_text().replace("0.2.0", "0.1.0"))
+    lock = changing.root / "Cargo.lock"
+    lock.write_text(lock.read_text().replace('name = "c"\nversion = "0.1.0"', 'name = "c"\nversion = "0.3.0"'))
+    changing.commit()
+    ran = world.run(["guppy-cargo", "affected", "--since", "HEAD"], where=changing.root)
+    told = "guppy-cargo: what cargo built at HEAD isn't known, so each change of a Cargo.lock affects all members: "
+    is_told = told in ran[2] and "--locked" in ran[2]
+    yield "where Cargo.lock doesn't fit", ran[0] == 0 and sorted(ran[1].split()) == ["a", "b", "c"] and is_told, ran
+
+
+def try_since_states(world):
+    """What cargo builds in another way is told, and what it doesn't isn't."""
+    changing = Changing(world.room / "repository", "a workspace")
+    root, manifest = changing.root, changing.root / "Cargo.toml"
+    write(changing.top / ".gitignore", "")
+    metadata_file(changing)
+    changing.commit()
+    table = manifest.read_text()
+    shared = '[workspace.dependencies]\nout.path = "../out"\n'
+    features = "[features]\nf = []\n"
+
+    def added(path, text):
+        return lambda: write(path, path.read_text() + text)
+
+    for what, change, wanted in (
+        ("tables of dependencies", added(manifest, shared), ""),
+        ("features", added(root / "c/Cargo.toml", features), "c"),
+        ("more features", added(root / "a/Cargo.toml", features), "ab"),
+        ("a feature of a that b asks for", lambda: ask_for_feature(root), "ab"),
+        ("a profile", added(manifest, "[profile.dev]\nopt-level = 1\n"), "abc"),
+        ("a dependency of c on b", lambda: write_package(root / "c", [changing.out, root / "b"]), "c"),
+        ("nothing", lambda: None, ""),
+        ("all of the root's manifest", lambda: write(manifest, table), "abc"),
+        ("the resolver", lambda: write(manifest, table.replace("2", "1")), "abc"),
+        ("the lock alone", lambda: write(root / "Cargo.lock", (root / "Cargo.lock").read_text() + "\n"), ""),
+    ):
+        change()
+        ran = world.run(["guppy-cargo", "affected", "--since", "HEAD"], where=root)
+        is_known = "isn't known" not in ran[2]
+        yield what, ran[0] == 0 and is_known and sorted(ran[1].split()) == list(wanted), ran
+        yield f"{what}: what is left behind", world.left() == [], world.left()
+        changing.commit()
+
+
+def ask_for_feature(root):
+    """Package b asks for a feature of a."""
+    manifest = root / "b/Cargo.toml"
+    write(manifest, manifest.read_text().replace('a.path = "../a"', 'a = { path = "../a", features = ["f"] }'))
 
 
 def try_since_refused(world):

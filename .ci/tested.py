@@ -69,7 +69,22 @@ def try_tests(world):
     change(changing, "c/src/lib.rs", FAILS)
     ran = run(world, [*words, "--ignore=docs", *LIBRARIES], changing.root)
     yield "a test that fails", ran[0] == 101 and tested(ran) == "c", ran
+    yield from try_flags(world, changing)
     yield from try_given_words(world, changing, words)
+
+
+def try_flags(world, changing):
+    """What cargo builds where it is given the members as flags."""
+    changing.commit()
+    change(changing, "a/src/lib.rs", PASSES + "// flags\n")
+    (world.bin / "guppy-cargo").symlink_to(world.top / "guppy-cargo")
+    for words in (
+        "cargo test --no-run $(guppy-cargo affected --since HEAD --format flags)",
+        "guppy-cargo affected --since HEAD --format flags --null | xargs -0 cargo test --no-run",
+    ):
+        ran = run(world, ["sh", "-c", words], changing.root)
+        built = re.findall(r"Executable unittests \S+ \(.*deps/(\w+)-", ran[2])
+        yield words, ran[0] == 0 and sorted(built) == ["a", "b"], ran
 
 
 def try_given_words(world, changing, words):
@@ -138,6 +153,9 @@ def try_tests_refused(world):
         (["--since"], 2, "--since needs a value"),
         ([], 2, "error: affected needs a path, --paths-from FILE or, of the scripts, --since REVISION"),
         ([*since, "--publishable"], 2, "error: affected takes no --publishable"),
+        ([*since, "--null"], 2, "test takes no --null"),
+        ([*since, "--format", "flags"], 2, "test takes no --format"),
+        (["--format=lines", *since], 2, "test takes no --format"),
     ):
         ran = world.run(["guppy-cargo", "test", *words], where=changing.root)
         yield f"{words}", ran[:2] == (status, "") and ran[2].splitlines()[-1].endswith(told), ran

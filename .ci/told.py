@@ -41,10 +41,13 @@ TOLD = [
     ("built --host x --host-cfgs y --platform z --cfgs y", ["built --host-cfgs y --platform z --cfgs y --host x --resolver=2"]),
     ("order", ["order"]),
     ("order --tests", ["order --tests"]),
+    ("--null --format flags order", ["order --null --format flags"]),
+    ("order --format=flags", ["order --format flags"]),
 ]
 WRONG = [
     ("built --resolver", "--resolver needs a value"),
     ("built -p", "-p needs a value"),
+    ("order --format", "--format needs a value"),
     ("built -p --ids", "-p needs a value"),
     ("built --host x --host-cfgs y", "give --platform TRIPLE beside --host-cfgs FILE"),
     ("built --metadata x", "give --resolver N beside --metadata FILE"),

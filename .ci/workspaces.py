@@ -1,5 +1,6 @@
 """Makes workspaces, and has cargo print their metadata."""
 
+import json
 import os
 import random
 import re
@@ -77,6 +78,15 @@ def write_drawn(room, seed):
     write(room, "Cargo.toml", f'[workspace]\nresolver = "2"\nmembers = {members}\nexclude = ["outside"]\n')
 
 
+def write_twice(room):
+    """A member that depends on two packages of one name and version: one of a registry's, and one in a folder."""
+    write_package(room, "ws", "app", "0.1.0", ["src/lib.rs"], '[dependencies]\nleaf = "1"\nown.package = "leaf"\nown.path = "../own"')
+    for folder in ("registry/leaf", "own"):
+        write_package(room, folder, "leaf", "1.0.0", ["src/lib.rs"], "")
+    write(room, "registry/leaf/.cargo-checksum.json", json.dumps({"files": {}, "package": "0" * 64}))
+    write(room, "ws/.cargo/config.toml", f'[source.crates-io]\nreplace-with = "own"\n[source.own]\ndirectory = "{room}/registry"\n')
+
+
 def take_debian(room):
     """Unpacks Debian's crates below the folder, and changes nothing outside of it."""
     own = [f"Dir::State::lists={room}/lists", f"Dir::Cache={room}/cache", "APT::Sandbox::User=root"]
@@ -136,6 +146,8 @@ def workspaces_in(room):
     for seed in range(DRAWN):
         write_drawn(os.path.join(room, f"drawn{seed}"), seed)
         found[f"drawn {seed}"] = (f"drawn{seed}", FLAGS[seed % len(FLAGS)])
+    write_twice(os.path.join(room, "twice"))
+    found["a version twice"] = ("twice/ws", "")
     archive = os.path.join(room, "archive")
     try:
         take_debian(archive)

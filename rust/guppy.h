@@ -20,7 +20,7 @@ extern "C" {
 #endif
 
 // The number of this interface; `guppy_version` answers that of the archive.
-#define GUPPY_C_VERSION 2
+#define GUPPY_C_VERSION 3
 
 // Three functions that the program which links the archive defines, over one allocator. A call uses them on its own
 // thread, so they must be fit for as many threads as call at once. They return: nothing is thrown or jumped out of them.
@@ -98,7 +98,8 @@ struct guppy_ends {
 
 // Writes what `guppy-cargo` prints for the arguments, which zero bytes part, of the workspace that the JSON
 // describes: what `cargo metadata --format-version 1` prints. Options and commands are those of `guppy-cargo
-// help`, but no file is read. A refusal says why, with no newline at its end.
+// help`, but no file is read: what it has stands in the place of its name, as `unix` behind `--cfgs`. A refusal
+// says why, with no newline at its end.
 struct guppy_answer guppy_answer(const uint8_t *json, size_t json_len, const uint8_t *args, size_t args_len, uint8_t *out, size_t out_len);
 
 // Writes all positions as `guppy_order` does, and marks the places of the list at which a component

@@ -7,7 +7,7 @@ is_of_builds() {
     return 1
 }
 
-# Whether that is asked, and no word names the platform that cargo builds for, which is the host then.
+# Whether that is asked, and no word names the platform that cargo builds for.
 needs_platform() {
     is_of_builds "${1-}" && ! asks_for_help "$@" && [ -z "$(of_kind named)$(of_kind 'asked --platform')" ]
 }
@@ -21,6 +21,41 @@ take_host_as_platform() {
     [ -n "$host" ] || fail "rustc does not say on which platform it runs: give that by --platform TRIPLE"
     take_asked --platform --cfgs print_cfgs "$host"
     platforms=$platforms$(quote --host "$host" --host-cfgs "/dev/fd/$((next - 1))")
+}
+
+# Prints the platforms that cargo builds for here by its settings, a line each, and nothing where these name none. That takes
+# an option of cargo's that isn't stable.
+print_built_for() {
+    [ -n "${asks_cargo-}" ] || return 0
+    RUSTC_BOOTSTRAP=1 "${CARGO:-cargo}" -Z unstable-options config get build.target --format json-value \
+        < /dev/null 2> /dev/null | LC_ALL=C tr -d '[]" ' | tr , '\n'
+}
+
+# Adds to platforms the words that name each of these, and those of the host, which is told apart where cargo is told for
+# which platforms to build.
+take_built_for() {
+    for platform do
+        case $platform in
+        host-tuple)
+            need_rustc --platform --cfgs "$platform"
+            take_platforms "$("$RUSTC" -vV < /dev/null | sed -n 's/^host: //p')"
+            ;;
+        *) take_platforms "$platform" ;;
+        esac
+    done
+}
+
+# Adds to platforms the words that name the platforms that cargo builds for where no word does: those of its settings or
+# else the host, which is this one or, where none is named, the one on which rustc runs.
+take_own_platforms() {
+    built_for=$(print_built_for)
+    if [ -z "$built_for" ]; then
+        take_host_as_platform "$@"
+        return
+    fi
+    names_host || take_own_host TRIPLE
+    take_hosts "$@"
+    take_built_for $built_for
 }
 
 # Sets resolver to the word that tells the program which resolver the workspace's manifest names, where no other does.

@@ -105,7 +105,7 @@ take_options() {
     while [ $# -gt 0 ]; do
         case $1 in
         --platform=?* | --host=?*) take_platform "${1%%=*}" "${1#*=}" "${2-}" ;;
-        --*=* | -p=* | --workspace | --ids | --all-features | --no-default-features | --tests)
+        --*=* | -p=* | --workspace | --ids | --null | --all-features | --no-default-features | --tests)
             platforms=$platforms$(quote "$1")
             ;;
         -p | --?*)

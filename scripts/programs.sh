@@ -105,19 +105,19 @@ try_program() {
 }
 
 # Prints each word in a line, the second as "${2}", for which the shell puts that word. The program opens only what rt is
-# told to hand it: each file behind --paths-from, --cfgs or --host-cfgs gets a copy, and its word is the name of that.
+# told to hand it: each file behind --paths-from, --before, --cfgs or --host-cfgs gets a copy, and its word is the name of that.
 hand_files() {
     at=0 is_file=
     for word do
         at=$((at + 1)) option=
-        case $word in --paths-from=* | --cfgs=* | --host-cfgs=*) option=${word%%=*}= is_file=1 ;; esac
+        case $word in --paths-from=* | --before=* | --cfgs=* | --host-cfgs=*) option=${word%%=*}= is_file=1 ;; esac
         if [ -n "$is_file" ] && cp -- "${word#"$option"}" "$room/paths$at" 2> /dev/null; then
             echo "${option}paths$at"
         else
             echo "\"\${$at}\""
         fi
         is_file=
-        case $word in --paths-from | --cfgs | --host-cfgs) is_file=1 ;; esac
+        case $word in --paths-from | --before | --cfgs | --host-cfgs) is_file=1 ;; esac
     done
 }
 

@@ -14,6 +14,7 @@ sort_tests() {
             ;;
         ,--) kind=given ;;
         ,--with) kind=with ;;
+        ,--null | ,--format | ,--format=*) refuse "test takes no ${word%%=*}" ;;
         ,--with=*) echo "with \"\${$at#*=}\"" ;;
         *) echo "asked \"\${$at}\"" ;;
         esac

@@ -22,15 +22,17 @@ sort_words() {
         case $option,$word in ,--cfgs | ,--cfgs=*) ;; ,*) name_platform ;; esac
         case $option,$word in
         ,--metadata | ,--since | ,--manifest-path | ,--filter-platform | ,--features | ,-F | ,--paths-from | ,--kinds | \
-            ,--platform | ,--cfgs | ,--host | ,--host-cfgs | ,-p | ,--resolver)
+            ,--platform | ,--cfgs | ,--host | ,--host-cfgs | ,--format | ,-p | ,--resolver | ,--before)
             option=$word
             ;;
         ,--metadata=* | ,--since=* | ,--manifest-path=* | ,--filter-platform=* | ,--features=* | ,-F=* | ,--paths-from=* | \
-            ,--kinds=* | ,--platform=* | ,--cfgs=* | ,--host=* | ,--host-cfgs=* | ,-p=* | ,--resolver=*)
+            ,--kinds=* | ,--platform=* | ,--cfgs=* | ,--host=* | ,--host-cfgs=* | ,--format=* | ,-p=* | ,--resolver=* | \
+            ,--before=*)
             sort_option "${word%%=*}" "${word#*=}" "\"\${$at#*=}\""
             ;;
         ,-F?*) sort_option -F "${word#-F}" "\"\${$at#-F}\"" ;;
-        ,--locked | ,--offline | ,--frozen | ,--all-features | ,--no-default-features | ,--workspace | ,--ids | ,--tests)
+        ,--locked | ,--offline | ,--frozen | ,--all-features | ,--no-default-features | ,--workspace | ,--ids | ,--null | \
+            ,--tests)
             sort_option "$word"
             ;;
         ,*)
@@ -77,17 +79,17 @@ sort_option() {
     value=$3
     case $1,$2 in
     --metadata,- | --metadata,/dev/stdin) input=${input:+$input and }$1 value=- ;;
-    --paths-from,- | --paths-from,/dev/stdin | --cfgs,- | --cfgs,/dev/stdin | --host-cfgs,- | --host-cfgs,/dev/stdin)
+    --paths-from,- | --paths-from,/dev/stdin | --before,- | --before,/dev/stdin | --cfgs,- | --cfgs,/dev/stdin | --host-cfgs,- | --host-cfgs,/dev/stdin)
         input=${input:+$input and }$1 value=/dev/fd/3
         ;;
     --platform, | --host,) refuse "$1 needs a value" ;;
     esac
     case $1 in
-    --paths-from)
+    --paths-from | --before)
         echo "left $1 $value"
         return
         ;;
-    --kinds | -p | --resolver)
+    --kinds | --format | -p | --resolver)
         echo "asked $1 $value"
         return
         ;;
@@ -111,7 +113,7 @@ sort_option() {
         host_cfgs="asked --host"
         return
         ;;
-    --workspace | --ids | --tests)
+    --workspace | --ids | --null | --tests)
         echo "asked $1"
         return
         ;;
@@ -167,11 +169,21 @@ ask_rustc() {
     platforms= named=$(of_kind named)
     [ -z "$named" ] || names_host || eval "take_own_host $named"
     if eval "needs_platform $(of_kind left)"; then
-        eval "take_host_as_platform $(of_kind host)"
+        eval "take_own_platforms $(of_kind host)"
         return
     fi
     eval "take_hosts $(of_kind host)"
     eval "take_platforms $named"
+}
+
+# Whether the words name a file with the state before.
+gives_before() {
+    [ -n "$(of_kind 'left --before')" ]
+}
+
+# Whether cargo is asked about the state before.
+makes_before() {
+    [ -n "$revision" ] && [ -n "$asks_cargo" ] && ! gives_before
 }
 
 # Ends as the program does with the words, on the metadata that they want.
@@ -187,7 +199,7 @@ answer() {
     # The command stands first: the program takes its options behind it too.
     eval "set -- $(of_kind left) $(of_kind asked) $platforms"
     # Nothing else depends on what standard input is.
-    case $sorted in *"left --paths-from /dev/fd/3"* | *"cfgs /dev/fd/3"*) exec 3<&0 ;; esac
+    case $sorted in *"left --paths-from /dev/fd/3"* | *"left --before /dev/fd/3"* | *"cfgs /dev/fd/3"*) exec 3<&0 ;; esac
     [ "$metadata" = - ] || exec < /dev/null
     ! asks_for_help "$@" || run "$@"
     if is_of_builds "${1-}"; then
@@ -204,15 +216,17 @@ answer() {
     ! refuses "$@" || run "$@"
     # Which members a change affects, and in which order they can be published, depends on optional dependencies too.
     case ${1-} in affected | publish-order) features=${features:---all-features} ;; esac
-    if is_of_builds "${1-}"; then
+    if is_of_builds "${1-}" || gives_before || makes_before; then
         take_resolver
         set -- "$@" $resolver
     fi
     take_metadata
     if [ -n "$revision" ]; then
         take_changed
+        before=
+        ! makes_before || take_before
         shift
-        eval "set -- affected $changed \"\$@\""
+        eval "set -- affected $changed $before \"\$@\""
         are_few "$@"
     fi
     run "$@"

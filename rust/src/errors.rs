@@ -18,7 +18,7 @@ pub enum Error {
     PackageGraphConstructError(String),
     /// The graph has no package with this ID.
     UnknownPackageId(PackageId),
-    /// Kept for programs that name it: there is no feature graph here, and it never comes.
+    /// No package with this ID has this feature.
     UnknownFeatureId(PackageId, String),
     /// The workspace has no member at this path.
     UnknownWorkspacePath(Utf8PathBuf),

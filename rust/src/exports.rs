@@ -9,7 +9,7 @@
 // that has threads.
 
 /// The number of this interface.
-pub(crate) const VERSION: u32 = 2;
+pub(crate) const VERSION: u32 = 3;
 
 /// How a call ended that writes a text.
 #[repr(C)]
@@ -80,7 +80,8 @@ pub(crate) struct Ends {
 extern "C" {
     /// Writes what `guppy-cargo` prints for the arguments, which zero bytes part, of the workspace that the JSON
     /// describes: what `cargo metadata --format-version 1` prints. Options and commands are those of `guppy-cargo
-    /// help`, but no file is read. A refusal says why, with no newline at its end.
+    /// help`, but no file is read: what it has stands in the place of its name, as `unix` behind `--cfgs`. A refusal
+    /// says why, with no newline at its end.
     fn guppy_answer(
         json: *const u8,
         json_len: usize,

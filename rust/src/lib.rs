@@ -52,7 +52,8 @@ pub use semver::{Version, VersionReq};
 pub use serde_json::Value as JsonValue;
 
 /// What `guppy-cargo` prints for these words of the workspace that the JSON describes, as `["why", "app", "core"]`: the
-/// commands and options of docs/PROGRAM.md, but no file is read. It isn't in guppy. Proved.
+/// commands and options of docs/PROGRAM.md, but no file is read: what it has stands in the place of its name. It isn't in
+/// guppy. Proved.
 ///
 /// # Errors
 ///

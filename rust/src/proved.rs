@@ -177,10 +177,10 @@ pub(crate) enum RefusalKind {
 
 // The text that a call writes, or why it refuses, told once more where the first room is too small.
 fn text_of(room: usize, call: impl Fn(&mut [u8]) -> Answer) -> Result<String, Refusal> {
-    let mut out = vec![0; room];
+    let mut out = sys::zeros(room);
     let mut answer = call(&mut out);
     if answer.status == 2 {
-        out = vec![0; answer.len];
+        out = sys::zeros(answer.len);
         answer = call(&mut out);
     }
     out.truncate(answer.len);

@@ -11,6 +11,11 @@ extern crate guppy_proved as guppy;
 
 use camino::{Utf8Path, Utf8PathBuf};
 use guppy::errors::TargetSpecError;
+use guppy::graph::cargo::{BuildPlatform, CargoOptions, CargoResolverVersion, CargoSet};
+use guppy::graph::feature::{
+    named_feature_filter, FeatureFilter, FeatureFilterFn, FeatureGraph, FeatureId, FeatureLabel,
+    FeatureList, FeatureSet, StandardFeatures,
+};
 use guppy::graph::{
     BuildTarget, BuildTargetId, BuildTargetKind, Cycles, DependencyDirection, DependencyReq,
     DependsCache, DotWrite, EnabledStatus, ExternalSource, GitReq, PackageDotVisitor, PackageGraph,
@@ -110,6 +115,16 @@ fn types_have_their_traits() {
     is_copied::<(BuildTargetId<'_>, PackagePublish<'_>)>();
     is_compared::<(BuildTargetId<'_>, BuildTargetKind<'_>, PackagePublish<'_>)>();
     is_ordered::<(BuildTargetId<'_>, BuildTargetKind<'_>)>();
+    is_shared::<(FeatureGraph<'_>, FeatureSet<'_>, FeatureList<'_>)>();
+    is_shared::<(CargoOptions<'_>, CargoSet<'_>)>();
+    is_cloned::<(FeatureSet<'_>, FeatureList<'_>)>();
+    is_cloned::<(CargoOptions<'_>, CargoSet<'_>)>();
+    is_copied::<(FeatureGraph<'_>, FeatureId<'_>, FeatureLabel<'_>)>();
+    is_copied::<(StandardFeatures, BuildPlatform, CargoResolverVersion)>();
+    is_compared::<(FeatureId<'_>, FeatureLabel<'_>, StandardFeatures)>();
+    is_ordered::<(FeatureId<'_>, FeatureLabel<'_>, BuildPlatform)>();
+    is_displayed::<FeatureId<'_>>();
+    is_displayed::<FeatureLabel<'_>>();
     is_displayed::<PackageId>();
     is_displayed::<DependencyKind>();
     is_displayed::<PackageSource<'_>>();
@@ -152,6 +167,36 @@ fn is_covariant<'a: 'b, 'b>(
     ),
 ) {
     (it, more)
+}
+
+fn features_are_covariant<'a: 'b, 'b>(
+    it: (FeatureSet<'a>, FeatureList<'a>, FeatureId<'a>, CargoSet<'a>),
+    options: CargoOptions<'a>,
+) -> (
+    (FeatureSet<'b>, FeatureList<'b>, FeatureId<'b>, CargoSet<'b>),
+    CargoOptions<'b>,
+) {
+    (it, options)
+}
+
+// Filters are taken in each form.
+fn features_are_filtered<'g>(
+    set: &PackageSet<'g>,
+    boxed: Box<dyn FeatureFilter<'g> + '_>,
+    names: &[&str],
+) -> [FeatureSet<'g>; 4] {
+    let mut odd = false;
+    let mut every_other = FeatureFilterFn::new(|_: &FeatureGraph<'g>, _: FeatureId<'g>| {
+        odd = !odd;
+        odd
+    });
+    let named = named_feature_filter(StandardFeatures::Default, names.iter().copied());
+    [
+        set.to_feature_set(boxed),
+        set.to_feature_set(&mut every_other),
+        set.to_feature_set(&mut every_other as &mut dyn FeatureFilter<'g>),
+        set.to_feature_set(named_feature_filter(named, ["more"])),
+    ]
 }
 
 // What is taken out of a view lives as long as the graph, and not only as the view.

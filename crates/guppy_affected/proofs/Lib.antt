@@ -6,3 +6,4 @@ pub mod Local
 pub mod Targets
 pub mod Owners
 pub mod Members
+pub mod IdSets

@@ -11,6 +11,7 @@ use Rattle.guppy.specs.Ordered.{FirmStep}
 use Rattle.guppy.specs.Query.{SetData}
 use Rattle.guppy.specs.Reach.{LinkStep, Walk}
 use Rattle.guppy_affected.specs.Folders.{Given, Holds, IsHeldByRoot, Changes}
+use Rattle.guppy_affected.specs.Named.{HasOneOf}
 pub use Rattle.guppy_folders.specs.Touched.{IsIgnored, OfOne, IsPath, IsOfWorkspace, IsOfRootsTargets}
 
 -- the path is everyone's: it is of the workspace, or no folder of a package of this machine holds it, or only
@@ -36,24 +37,43 @@ abbrev pub IsAffected : GraphData → List (List ℕ) → List (List ℕ) → Li
 IsAffected g paths ignored also p =
     IsMember g.packages p × OfOne paths ignored (λ path. Affects g also path p)
 
+-- one of the packages with these IDs is one that the package at the position is tested with
+abbrev pub IsTestedWithOne : GraphData → List (List ℕ) → ℕ → Type 0
+IsTestedWithOne g changed p = (q : ℕ) × HasOneOf g.packages changed q × IsTestedWith g p q
+
+-- the package at the position is a member, and one of the paths affects it, or it is tested with one of these
+abbrev pub IsAffectedAfter : GraphData → List (List ℕ) → List (List ℕ) → List (List ℕ) → List Given → ℕ → Type 0
+IsAffectedAfter g changed paths ignored also p =
+    IsAffected g paths ignored also p ⊎ (IsMember g.packages p × IsTestedWithOne g changed p)
+
 -- the graph's order of packages from its end, kept to a set of them
 abbrev pub IsListedInReverse : GraphData → List ℕ → Type 0
 IsListedInReverse g order =
     (set : SetData) × (set.graph ≡ g) × (order ≡ positions_listed Reverse set)
 
--- the members that the paths affect, each once, as a set is listed in reverse: where links that aren't
--- dev-only have no cycle, each after those to which a walk over these leads from it
-pub record IsAffectedOrder (g : GraphData) (paths ignored : List (List ℕ)) (also : List Given)
-    (order : List ℕ) : Type 0 where
+-- those of which P holds, each once, as a set is listed in reverse: where links that aren't dev-only have no cycle, each
+-- after those to which a walk over these leads from it
+pub record IsOrderOf (g : GraphData) (P : ℕ → Type 0) (order : List ℕ) : Type 0 where
   pub once : IsOnce order
-  pub members : (p : ℕ) → Stands order p ↔ IsAffected g paths ignored also p
+  pub members : (p : ℕ) → Stands order p ↔ P p
   pub listed : IsListedInReverse g order
   pub after : HasNoFirmCycle g → (x y : ℕ) → Stands order x → Stands order y → x ≢ y
       → Walk (FirmStep g.links) x y → Precedes order y x
 
 -- the IDs of the packages of such an order
-pub record AreAffectedIds (g : GraphData) (paths ignored : List (List ℕ)) (also : List Given)
-    (ids : List (List ℕ)) : Type 0 where
+pub record AreIdsOf (g : GraphData) (P : ℕ → Type 0) (ids : List (List ℕ)) : Type 0 where
   pub order : List ℕ
-  pub is_order : IsAffectedOrder g paths ignored also order
+  pub is_order : IsOrderOf g P order
   pub ids_are : ids ≡ ids_at g.packages order
+
+-- the members that the paths affect
+abbrev pub IsAffectedOrder : GraphData → List (List ℕ) → List (List ℕ) → List Given → List ℕ → Type 0
+IsAffectedOrder g paths ignored also = IsOrderOf g (IsAffected g paths ignored also)
+
+abbrev pub AreAffectedIds : GraphData → List (List ℕ) → List (List ℕ) → List Given → List (List ℕ) → Type 0
+AreAffectedIds g paths ignored also = AreIdsOf g (IsAffected g paths ignored also)
+
+-- and those that are tested with one of the packages with these IDs, too
+abbrev pub AreAffectedIdsAfter : GraphData → List (List ℕ) → List (List ℕ) → List (List ℕ) → List Given
+    → List (List ℕ) → Type 0
+AreAffectedIdsAfter g changed paths ignored also = AreIdsOf g (IsAffectedAfter g changed paths ignored also)

@@ -1,4 +1,5 @@
 pub mod Folders
+pub mod Named
 pub mod Affected
 pub mod Found
 pub mod Changed

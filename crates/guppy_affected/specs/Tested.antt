@@ -9,6 +9,7 @@ use Rattle.guppy.specs.Reach.{LinkStep, Walk}
 use Rattle.guppy_affected.specs.Affected.{IsTestedWith}
 use Rattle.guppy_affected.specs.Changed.{AreChanged}
 use Rattle.guppy_affected.specs.Folders.{Given}
+use Rattle.guppy_affected.specs.Named.{HasOneOf}
 
 -- exactly the packages from which walks over links that aren't dev-only lead into the set
 abbrev pub AreBuiltFrom : SetData → SetData → Type 0
@@ -26,7 +27,9 @@ abbrev pub AreTestedWith : SetData → SetData → Type 0
 AreTestedWith set tested = (p : ℕ) → IsIn tested.included p
     ↔ ((q : ℕ) × IsIn set.included q × IsTestedWith set.graph p q)
 
--- exactly the packages that are tested with one that the paths touch
-abbrev pub AreTestedAfter : GraphData → List (List ℕ) → List (List ℕ) → List Given → SetData → Type 0
-AreTestedAfter g paths ignored also tested = (changed : SetData) × (changed.graph ≡ g)
-    × AreChanged g paths ignored also changed.included × AreTestedWith changed tested
+-- exactly the packages that are tested with one that the paths touch, or with one of those with these IDs
+abbrev pub AreTestedAfter : GraphData → List (List ℕ) → List (List ℕ) → List (List ℕ) → List Given → SetData → Type 0
+AreTestedAfter g changed paths ignored also tested = (touched : SetData) × (both : SetData) × (both.graph ≡ g)
+    × AreChanged g paths ignored also touched.included
+    × ((p : ℕ) → IsIn both.included p ↔ (IsIn touched.included p ⊎ HasOneOf g.packages changed p))
+    × AreTestedWith both tested

@@ -5,15 +5,15 @@
 //! - `folders`: the folders of the packages of this machine; `guppy_folders` tells which of them holds a path;
 //! - `elsewhere`: targets whose sources lie outside of their packages' folders;
 //! - `given`: folders that are given to packages beside their own;
-//! - `touched`: the packages that changed themselves;
+//! - `touched`: the packages that changed themselves; `named`: those of which it is told by their IDs;
 //! - `tested`: the packages whose tests are built from changed ones;
 //! - the crate itself: the members among these;
-//! - `laws`: what folders that are given add.
+//! - `laws`: what folders that are given add, and packages of which it is told.
 #![tactic(auto)]
 
 ghost use Rattle.std.specs.Prelude.{◌≡◌, map, string_bytes, IfOk, IsOkUnless};
 ghost use Rattle.guppy.specs.Query.{IsSetWhere};
-ghost use Rattle.guppy_affected.specs.Affected.{AreAffectedIds, IsAffected};
+ghost use Rattle.guppy_affected.specs.Affected.{AreAffectedIds, AreAffectedIdsAfter, IsAffectedAfter};
 ghost use Rattle.guppy_affected.specs.Folders.{given_in};
 ghost use Rattle.guppy_affected.specs.Tested.{AreTestedAfter};
 
@@ -21,9 +21,11 @@ mod elsewhere;
 mod folders;
 mod given;
 pub mod laws;
+mod named;
 mod tested;
 mod touched;
 
+use crate::named::packages_named;
 use crate::tested::tested_with;
 use crate::touched::changed_packages;
 use guppy::graph::DependencyDirection;
@@ -32,33 +34,37 @@ use guppy::{Error, PackageGraph, PackageId, PackageSet};
 // The packages that are tested with those that changed.
 fn tested_set<'g>(
     graph: &'g PackageGraph,
+    changed: &[&PackageId],
     paths: &[String],
     ignored: &[String],
     also: &[(&str, PackageId)],
 ) -> Result<PackageSet<'g>, Error>
     ensures graph { IfOk result (λ set. set.graph ≡ graph.now) }
-    ensures tested { IfOk result (AreTestedAfter graph.now (map string_bytes paths.now)
-        (map string_bytes ignored.now) (given_in also.now)) }
+    ensures tested { IfOk result (AreTestedAfter graph.now (map (λ id. id.now) changed.now)
+        (map string_bytes paths.now) (map string_bytes ignored.now) (given_in also.now)) }
     ensures error { IsOkUnless result Error.OutOfMemory }
 {
-    let changed = changed_packages(graph, paths, ignored, also)?;
-    tested_with(&changed)
+    let touched = changed_packages(graph, paths, ignored, also)?;
+    let named = packages_named(graph, changed)?;
+    let both = touched.union(&named)?;
+    tested_with(&both)
 }
 
 // The members to test.
 fn affected_set<'g>(
     graph: &'g PackageGraph,
+    changed: &[&PackageId],
     paths: &[String],
     ignored: &[String],
     also: &[(&str, PackageId)],
 ) -> Result<PackageSet<'g>, Error>
     ensures graph { IfOk result (λ set. set.graph ≡ graph.now) }
     ensures members { IfOk result (λ set. IsSetWhere graph.now.packages
-        (IsAffected graph.now (map string_bytes paths.now) (map string_bytes ignored.now) (given_in also.now))
-        set.included) }
+        (IsAffectedAfter graph.now (map (λ id. id.now) changed.now) (map string_bytes paths.now)
+        (map string_bytes ignored.now) (given_in also.now)) set.included) }
     ensures error { IsOkUnless result Error.OutOfMemory }
 {
-    let tested = tested_set(graph, paths, ignored, also)?;
+    let tested = tested_set(graph, changed, paths, ignored, also)?;
     let members = graph.resolve_workspace()?;
     tested.intersection(&members)
 }
@@ -102,7 +108,29 @@ pub fn affected<'g>(
         (map string_bytes ignored.now) (given_in also.now) (map (λ id. id.now) ids.items)) }
     ensures error { IsOkUnless result Error.OutOfMemory }
 {
-    let members = affected_set(graph, paths, ignored, also)?;
+    affected_after(graph, &[], paths, ignored, also)
+}
+
+/// The IDs of the workspace's members to test when the files at `paths` changed, and the packages with the IDs of
+/// `changed` did, for whatever reason: those that [`affected`] lists for the paths, and those that are tested with one of
+/// these packages. In the same order, each once. An ID that no package has counts for nothing.
+///
+/// `OutOfMemory` comes where a growth was refused, and no other error. Takes the time and memory of [`affected`], and
+/// the time for each package that a logarithm of the IDs takes; each package with one of the IDs counts there as one
+/// that changed.
+pub fn affected_after<'g>(
+    graph: &'g PackageGraph,
+    changed: &[&PackageId],
+    paths: &[String],
+    ignored: &[String],
+    also: &[(&str, PackageId)],
+) -> Result<Vec<&'g PackageId>, Error>
+    ensures answer { IfOk result (λ ids. AreAffectedIdsAfter graph.now (map (λ id. id.now) changed.now)
+        (map string_bytes paths.now) (map string_bytes ignored.now) (given_in also.now)
+        (map (λ id. id.now) ids.items)) }
+    ensures error { IsOkUnless result Error.OutOfMemory }
+{
+    let members = affected_set(graph, changed, paths, ignored, also)?;
     let ids = members.package_ids(DependencyDirection::Reverse);
     Ok(ids.collect(graph.alloc())?)
 }

@@ -6,7 +6,8 @@ use Rattle.std.proofs.lemmas.List.Elements.{filter_more}
 use Rattle.std.proofs.lemmas.Slice.Eq.{bytes_eq-Decides}
 use Rattle.semver.specs.Identifiers.{version_text}
 use Rattle.guppy_data.specs.declared.records.PackageRecord.{PackageRecord}
-use Rattle.guppy_arguments.specs.Names.{name_of, full_name_of, is_called, called}
+use Rattle.guppy_command.specs.Ids.{full_name_of}
+use Rattle.guppy_arguments.specs.Names.{name_of, is_called, called}
 
 -- no text goes on behind itself
 longer : (name rest : List ℕ) → name ≡ name ++ codes "@" ++ rest → ⊥

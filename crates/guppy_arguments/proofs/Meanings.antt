@@ -6,8 +6,8 @@ use Rattle.std.specs.Str.{bytes_eq}
 use Rattle.std.proofs.lemmas.Bool.{false≢true}
 use Rattle.std.proofs.lemmas.Slice.Eq.{bytes_eq-Decides}
 use Rattle.guppy_data.specs.declared.records.PackageRecord.{PackageRecord}
-use Rattle.guppy_command.specs.Ids.{has_id}
-use Rattle.guppy_arguments.specs.Names.{name_of, full_name_of, called, meant, is_only, printed, text}
+use Rattle.guppy_command.specs.Ids.{has_id, is_only, full_name_of}
+use Rattle.guppy_arguments.specs.Names.{name_of, called, meant, printed, text}
 
 -- an ID that is the only one of a list is all of it
 only_one : (id : List ℕ) (ids : List (List ℕ)) → is_only id ids ≡ true → ids ≡ id ∷ []

@@ -9,7 +9,7 @@ use Rattle.guppy_metadata.specs.declared.fault.MetadataFault.TheVariants.{OutOfM
 use Rattle.guppy_command.specs.BuildFault.{build_fault_text}
 use Rattle.guppy_command.specs.Cause.{Cause, library, bad_arguments, ambiguous, bad_input}
 use Rattle.guppy_command.specs.Shown.{cause_shown}
-use Rattle.guppy_command.specs.declared.fault.Fault.TheVariants.{Library, BadArguments, NoWalk, Unpublishable, Build, InputFailed, OutputFailed}
+use Rattle.guppy_command.specs.declared.fault.Fault.TheVariants.{Library, BadArguments, NoWalk, Unpublishable, Build, Before, InputFailed, OutputFailed}
 use Rattle.guppy_arguments.specs.declared.fault.CargoFault.{CargoFault}
 use Rattle.guppy_arguments.specs.declared.fault.CargoFault.TheVariants.{Program, Ambiguous, Unknown, Cycle, Arguments, Metadata, NoText}
 use Rattle.guppy_arguments.specs.Told.{arguments_text}
@@ -29,6 +29,7 @@ status_of (Program (Library error)) = 1
 status_of (Program (NoWalk from to)) = 1
 status_of (Program (Unpublishable member needed)) = 1
 status_of (Program (Build fault)) = 1
+status_of (Program (Before text)) = 1
 status_of (Program fault) = 2
 status_of (Arguments fault) = 2
 status_of _ = 1
@@ -41,6 +42,7 @@ fault_text (Program (NoWalk from to)) =
 fault_text (Program (Unpublishable member needed)) = string_bytes member
     ++ (codes " can't be published: it needs " ++ (string_bytes needed ++ codes ", which isn't publishable"))
 fault_text (Program (Build fault)) = build_fault_text fault
+fault_text (Program (Before text)) = codes "the state before: " ++ string_bytes text
 fault_text (Ambiguous word choices) =
     codes "ambiguous package " ++ string_bytes word ++ codes ": give " ++ string_bytes choices
 fault_text (Unknown word nearest) =

@@ -8,17 +8,12 @@ use Rattle.indexmap.specs.IndexMap.{IndexMap, get_by_text}
 use Rattle.std.specs.Str.{bytes_eq}
 use Rattle.std.specs.String.{string_bytes}
 use Rattle.indexmap.specs.IndexSet.{IndexSet, contains_by}
-use Rattle.semver.specs.Identifiers.{version_text}
 use Rattle.guppy_data.specs.declared.records.PackageRecord.{PackageRecord}
-use Rattle.guppy_command.specs.Ids.{has_id}
+use Rattle.guppy_command.specs.Ids.{has_id, is_only, full_name_of}
 use Rattle.guppy_arguments.specs.declared.names.Names.{Names}
 
 abbrev pub name_of : PackageRecord → List ℕ
 name_of r = string_bytes r.name
-
--- `name@version`
-abbrev pub full_name_of : PackageRecord → List ℕ
-full_name_of r = name_of r ++ codes "@" ++ version_text r.version
 
 -- the text is the package's name, or its name with its version
 abbrev pub is_called : List ℕ → PackageRecord → Bool
@@ -31,11 +26,6 @@ called packages text = map (λ r. r.id) (filter (is_called text) packages)
 -- the IDs of the packages that a word may mean: the one whose ID it is, and else those called so
 abbrev pub meant : List PackageRecord → List ℕ → List (List ℕ)
 meant packages word = if has_id word packages then word ∷ [] else called packages word
-
--- the ID is the only one of these
-abbrev pub is_only : List ℕ → List (List ℕ) → Bool
-is_only id (other ∷ []) = bytes_eq id other
-is_only id _ = false
 
 -- the first of the package's name, its name with its version, and its ID that means it alone
 abbrev pub printed : List PackageRecord → PackageRecord → List ℕ

@@ -4,12 +4,12 @@ use Rattle.std.specs.declared.alloc.Global.{Global}
 use Rattle.std.specs.Fmt.{decimal}
 use Rattle.guppy_data.specs.declared.texts.error.Error.TheVariants.{OutOfMemory}
 use Rattle.guppy_command.specs.declared.fault.Fault.TheVariants.{Library}
-use Rattle.guppy_command.specs.Grammar.{Misread, no_option, no_value, needless_value, repeated, not_taken, no_command, unknown_command, bad_words, bad_kinds, bad_resolver, lone_platform, lone_host, all_ignored, no_paths, cfgs_failed, bad_cfg, paths_failed, unended_paths, bad_also}
+use Rattle.guppy_command.specs.Grammar.{Misread, no_option, no_value, needless_value, repeated, not_taken, no_command, unknown_command, bad_words, bad_kinds, bad_resolver, bad_format, lone_platform, lone_host, all_ignored, no_paths, cfgs_failed, bad_cfg, paths_failed, unended_paths, bad_also, before_failed}
 use Rattle.guppy_command.specs.Asked.{IsMisread}
 use Rattle.guppy_arguments.specs.declared.fault.CargoFault.{CargoFault}
 use Rattle.guppy_arguments.specs.declared.fault.CargoFault.TheVariants.{Program, Arguments}
 use Rattle.guppy_arguments.specs.declared.told.ArgumentsFault.{ArgumentsFault}
-use Rattle.guppy_arguments.specs.declared.told.ArgumentsFault.TheVariants.{NoOption, NoValue, NeedlessValue, Repeated, NotTaken, NoCommand, UnknownCommand, BadWords, BadKinds, BadResolver, LonePlatform, LoneHost, AllIgnored, NoPaths, CfgsFailed, BadCfg, PathsFailed, UnendedPaths, OfScripts, BadAlso}
+use Rattle.guppy_arguments.specs.declared.told.ArgumentsFault.TheVariants.{NoOption, NoValue, NeedlessValue, Repeated, NotTaken, NoCommand, UnknownCommand, BadWords, BadKinds, BadResolver, BadFormat, LonePlatform, LoneHost, AllIgnored, NoPaths, CfgsFailed, BadCfg, PathsFailed, UnendedPaths, OfScripts, BadAlso, BeforeFailed}
 use Rattle.guppy_arguments.specs.Nearest.{IsFar, IsNearest}
 use Rattle.guppy_arguments.specs.Scripts.{all_names, is_of_scripts}
 use Rattle.guppy_arguments.specs.Table.{cargo_program, command_names, usage_of}
@@ -26,6 +26,7 @@ misread_of (UnknownCommand word nearest) = unknown_command (string_bytes word)
 misread_of (BadWords command) = bad_words (string_bytes command)
 misread_of (BadKinds value) = bad_kinds (string_bytes value)
 misread_of (BadResolver value) = bad_resolver (string_bytes value)
+misread_of (BadFormat value) = bad_format (string_bytes value)
 misread_of LonePlatform = lone_platform
 misread_of LoneHost = lone_host
 misread_of (AllIgnored folder) = all_ignored (string_bytes folder)
@@ -35,6 +36,7 @@ misread_of (CfgsFailed file) = cfgs_failed (string_bytes file)
 misread_of (BadCfg triple before) = bad_cfg (string_bytes triple) before
 misread_of (PathsFailed file) = paths_failed (string_bytes file)
 misread_of (UnendedPaths file) = unended_paths (string_bytes file)
+misread_of (BeforeFailed file) = before_failed (string_bytes file)
 
 -- it is the nearest of the names to the word, or none is near
 abbrev pub IsNearestIfAny : List (List ℕ) → List ℕ → Option (String Global) → Type 0
@@ -80,6 +82,7 @@ arguments_text (BadWords command) =
 arguments_text (BadKinds value) =
     string_bytes value ++ codes " is no kind: give some of normal,build,dev, separated by commas"
 arguments_text (BadResolver value) = string_bytes value ++ codes " is no resolver: give 1, 2 or 3"
+arguments_text (BadFormat value) = string_bytes value ++ codes " is no format: give lines or flags"
 arguments_text LonePlatform = codes "give --cfgs FILE behind each --platform TRIPLE"
 arguments_text LoneHost = codes "give both --host TRIPLE and --host-cfgs FILE"
 arguments_text (AllIgnored folder) =
@@ -93,3 +96,4 @@ arguments_text (BadCfg triple before) = string_bytes triple ++ (codes ": line " 
 arguments_text (PathsFailed file) = string_bytes file ++ codes ": the paths in it can't be read"
 arguments_text (UnendedPaths file) =
     string_bytes file ++ codes ": its paths aren't each ended by a NUL: give it what git writes with -z"
+arguments_text (BeforeFailed file) = string_bytes file ++ codes ": the state before can't be read"

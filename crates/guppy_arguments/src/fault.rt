@@ -63,6 +63,7 @@ impl fmt::Display for CargoFault {
                 "{member} can't be published: it needs {needed}, which isn't publishable"
             ),
             CargoFault::Program(Fault::Build(fault)) => write!(f, "{fault}"),
+            CargoFault::Program(Fault::Before(text)) => write!(f, "the state before: {text}"),
             CargoFault::Ambiguous { word, choices } => {
                 write!(f, "ambiguous package {word}: give {choices}")
             }
@@ -100,7 +101,8 @@ impl ProgramFault for CargoFault {
                 Fault::Library(_)
                 | Fault::NoWalk { .. }
                 | Fault::Unpublishable { .. }
-                | Fault::Build(_),
+                | Fault::Build(_)
+                | Fault::Before(_),
             ) => 1,
             CargoFault::Program(_) | CargoFault::Arguments(_) => 2,
             _ => 1,

@@ -5,7 +5,8 @@ ghost use Rattle.std.specs.Option.{option_map_or};
 ghost use Rattle.indexmap.specs.IndexMap.{get_by_text};
 ghost use Rattle.std.specs.Str.{bytes_eq};
 ghost use Rattle.guppy_data.specs.declared.records.PackageRecord.{PackageRecord};
-ghost use Rattle.guppy_arguments.specs.Names.{name_of, full_name_of, called, meant, is_only, printed, text, AreIds, AreCalled, AreTexts, AreNames};
+ghost use Rattle.guppy_command.specs.Ids.{full_name_of, is_only};
+ghost use Rattle.guppy_arguments.specs.Names.{name_of, called, meant, printed, text, AreIds, AreCalled, AreTexts, AreNames};
 
 use guppy_data::{PackageId, PackageRecord};
 use indexmap::{IndexMap, IndexSet};
@@ -177,6 +178,14 @@ impl Names {
             Some(ids) => ids.as_slice(),
             None => &[],
         }
+    }
+
+    /// Whether the package with this ID is the only one that is called so, by name or as `name@version`.
+    pub fn is_only_one(&self, word: &str, id: &PackageId) -> bool
+        ensures { (packages : List PackageRecord) → AreNames self.now packages
+            → result ≡ is_only id.now (called packages word.now) }
+    {
+        is_only(id, self.called(word))
     }
 
     /// What is printed for the package with the ID: the first of its name, `name@version` and the ID that means

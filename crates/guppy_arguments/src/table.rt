@@ -5,8 +5,9 @@ ghost use Rattle.guppy_arguments.specs.Table.{cargo_program, usage_of};
 
 use guppy_command::grammar::{OptionRow, Program};
 use guppy_command::table::{
-    ALL_FEATURES, ALSO, CFGS, FEATURES, HOST, HOST_CFGS, IDS, IGNORE, KINDS, MEMBER,
-    NO_DEFAULT_FEATURES, PATHS_FROM, PLATFORM, PUBLISHABLE, RESOLVER, TESTS, WORKSPACE,
+    ALL_FEATURES, ALSO, BEFORE, CFGS, FEATURES, FORMAT, HOST, HOST_CFGS, IDS, IGNORE, KINDS,
+    MEMBER, NO_DEFAULT_FEATURES, NULL, PATHS_FROM, PLATFORM, PUBLISHABLE, RESOLVER, TESTS,
+    WORKSPACE,
 };
 
 // The commands that ask about links.
@@ -25,8 +26,30 @@ const OF_LINKS: &[&str] = &[
     "verify",
 ];
 
+// The commands whose answer is a list, an item a line.
+const OF_LISTS: &[&str] = &[
+    "affected",
+    "publish-order",
+    "why",
+    "reach",
+    "order",
+    "roots",
+    "links",
+    "cycles",
+    "duplicates",
+    "built",
+    "features",
+    "why-feature",
+];
+
+// The commands whose answer is packages alone.
+const OF_PACKAGES: &[&str] = &["affected", "publish-order", "reach", "order", "roots"];
+
 // The commands that ask what Cargo builds.
 const OF_BUILDS: &[&str] = &["built", "features", "why-feature"];
+
+// The commands that look at what Cargo builds.
+const WITH_RESOLVER: &[&str] = &["affected", "built", "features", "why-feature"];
 
 /// The options, each with its value, whether it may come again, the commands that take it, where not all do, and its
 /// help.
@@ -76,6 +99,21 @@ pub const OPTIONS: &[OptionRow] = &[
     ),
     (IDS, None, false, None, "prints packages by their IDs"),
     (
+        NULL,
+        None,
+        false,
+        Some(OF_LISTS),
+        "ends each line with a NUL, as xargs -0 takes them",
+    ),
+    (
+        FORMAT,
+        Some("FORMAT"),
+        false,
+        Some(OF_PACKAGES),
+        "lines, which is meant where none is given, or flags: --package=NAME@VERSION, as\n      \
+         cargo takes them",
+    ),
+    (
         PUBLISHABLE,
         None,
         false,
@@ -103,6 +141,14 @@ pub const OPTIONS: &[OptionRow] = &[
         true,
         Some(&["affected"]),
         "adds the paths in this file, each ended by a NUL, as git writes them with -z;\n      to the scripts - is standard input",
+    ),
+    (
+        BEFORE,
+        Some("FILE"),
+        false,
+        Some(&["affected"]),
+        "what cargo metadata printed before the changes: adds what cargo builds in another way\n      \
+         since, and a changed Cargo.lock counts for that alone",
     ),
     (
         MEMBER,
@@ -143,7 +189,7 @@ pub const OPTIONS: &[OptionRow] = &[
         RESOLVER,
         Some("N"),
         false,
-        Some(OF_BUILDS),
+        Some(WITH_RESOLVER),
         "by this resolver, 1, 2 or 3: 2 where none is given; the scripts read it from the\n      \
          Cargo.toml of the workspace",
     ),

@@ -62,6 +62,8 @@ pub enum ArgumentsFault {
     BadKinds(String),
     /// This is no resolver.
     BadResolver(String),
+    /// This is no format.
+    BadFormat(String),
     /// There is a platform without a file that has what is set there, or such a file without a platform.
     LonePlatform,
     /// The host has no file with what is set there, or there is such a file without a host.
@@ -85,6 +87,8 @@ pub enum ArgumentsFault {
     PathsFailed(String),
     /// The paths in the file aren't each ended by a NUL.
     UnendedPaths(String),
+    /// The file with the state before can't be read.
+    BeforeFailed(String),
 }
 
 impl fmt::Display for ArgumentsFault {
@@ -132,6 +136,9 @@ impl fmt::Display for ArgumentsFault {
             ArgumentsFault::BadResolver(value) => {
                 write!(f, "{value} is no resolver: give 1, 2 or 3")
             }
+            ArgumentsFault::BadFormat(value) => {
+                write!(f, "{value} is no format: give lines or flags")
+            }
             ArgumentsFault::LonePlatform => {
                 f.write_str("give --cfgs FILE behind each --platform TRIPLE")
             }
@@ -161,6 +168,9 @@ impl fmt::Display for ArgumentsFault {
                 f,
                 "{file}: its paths aren't each ended by a NUL: give it what git writes with -z"
             ),
+            ArgumentsFault::BeforeFailed(file) => {
+                write!(f, "{file}: the state before can't be read")
+            }
         }
     }
 }
@@ -232,6 +242,7 @@ fn told(alloc: Global, misread: Misread<'_>) -> Result<ArgumentsFault, AllocErro
         Misread::BadWords(command) => Ok(ArgumentsFault::BadWords(copy(command)?)),
         Misread::BadKinds(value) => Ok(ArgumentsFault::BadKinds(copy(value)?)),
         Misread::BadResolver(value) => Ok(ArgumentsFault::BadResolver(copy(value)?)),
+        Misread::BadFormat(value) => Ok(ArgumentsFault::BadFormat(copy(value)?)),
         Misread::LonePlatform => Ok(ArgumentsFault::LonePlatform),
         Misread::LoneHost => Ok(ArgumentsFault::LoneHost),
         Misread::AllIgnored(folder) => Ok(ArgumentsFault::AllIgnored(copy(folder)?)),
@@ -244,6 +255,7 @@ fn told(alloc: Global, misread: Misread<'_>) -> Result<ArgumentsFault, AllocErro
         }),
         Misread::PathsFailed(file) => Ok(ArgumentsFault::PathsFailed(copy(file)?)),
         Misread::UnendedPaths(file) => Ok(ArgumentsFault::UnendedPaths(copy(file)?)),
+        Misread::BeforeFailed(file) => Ok(ArgumentsFault::BeforeFailed(copy(file)?)),
         Misread::OutOfMemory => Err(AllocError),
     }
 }

@@ -60,7 +60,8 @@ fn refuse(alloc: Global, fault: CargoFault, out: &mut [u8]) -> Answer
 
 /// Writes what `guppy-cargo` prints for the arguments, which zero bytes part, of the workspace that the JSON
 /// describes: what `cargo metadata --format-version 1` prints. Options and commands are those of `guppy-cargo
-/// help`, but no file is read. A refusal says why, with no newline at its end.
+/// help`, but no file is read: what it has stands in the place of its name, as `unix` behind `--cfgs`. A refusal
+/// says why, with no newline at its end.
 #[unsafe(no_mangle)]
 pub extern "C" fn guppy_answer(alloc: Global, json: &[u8], args: &[u8], out: &mut [u8]) -> Answer
     ensures answered { result.status ≡ 0

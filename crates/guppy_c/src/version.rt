@@ -5,7 +5,7 @@ ghost use Rattle.std.specs.Prelude.{◌≡◌};
 /// other call: the number changes with each export, parameter, struct and status.
 #[unsafe(no_mangle)]
 pub extern "C" fn guppy_version() -> u32
-    ensures number { result ≡ 2 }
+    ensures number { result ≡ 3 }
 {
-    2
+    3
 }

@@ -76,6 +76,25 @@ impl Format for Json {
         CargoFault::Cycle { ids, round }
     }
 
+    fn told(alloc: Global, fault: &CargoFault) -> Result<String, AllocError> {
+        format!(in alloc; "{fault}")
+    }
+
+    fn means(
+        alloc: Global,
+        graph: &PackageGraph,
+        names: &Names,
+        word: &str,
+        id: &PackageId,
+    ) -> Result<bool, AllocError> {
+        let other = PackageId::new(String::from_str(alloc, word)?);
+        match has_package(graph, &other) {
+            Ok(true) => Ok(*id == other),
+            Ok(false) => Ok(names.is_only_one(word, id)),
+            Err(_) => Err(AllocError),
+        }
+    }
+
     fn find(
         alloc: Global,
         graph: &PackageGraph,

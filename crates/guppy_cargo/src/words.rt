@@ -1,16 +1,31 @@
 //! Arguments as one run of bytes, answered, for callers that are no process.
-ghost use Rattle.std.specs.Prelude.{string_bytes, IfOk, IfErr};
+ghost use Rattle.std.specs.Prelude.{◌≡◌, string_bytes, IfOk, IfErr};
 ghost use Rattle.guppy_cargo.specs.Words.{IsJsonAnswer, IsJsonFault};
 
 use crate::input::Json;
 use guppy_arguments::{CargoFault, arguments_in};
-use guppy_command::{Fault, NoFiles};
+use guppy_command::{Fault, FileFault, Files};
 use guppy_program::answer_bytes;
 use std::alloc::Global;
 use std::str;
 
-/// What the program prints for the arguments, which zero bytes part, of the workspace that the JSON describes; no file
-/// can be read.
+/// Files in whose names' places stands what they have.
+#[derive(Clone, Copy, Debug)]
+struct InPlace;
+
+impl Files for InPlace {
+    ghost has = { λ files name bytes. bytes ≡ name };
+
+    fn read(&self, alloc: Global, name: &str) -> Result<Vec<u8>, FileFault> {
+        match name.as_bytes().to_vec(alloc) {
+            Ok(bytes) => Ok(bytes),
+            Err(_) => Err(FileFault::OutOfMemory),
+        }
+    }
+}
+
+/// What the program prints for the arguments, which zero bytes part, of the workspace that the JSON describes. No file
+/// is read: what it has stands in the place of its name.
 ///
 /// A fault is one that the program would tell; arguments that are no UTF-8 are bad ones. Takes memory for a text a word
 /// beside what the program takes, and lets go of all but the text. Time grows as the program's.
@@ -22,5 +37,5 @@ pub fn answer_json(alloc: Global, args: &[u8], json: &[u8]) -> Result<String, Ca
         return Err(CargoFault::Program(Fault::BadArguments));
     };
     let words = arguments_in(alloc, text)?;
-    answer_bytes::<Json, NoFiles>(alloc, words.as_slice(), &NoFiles, json)
+    answer_bytes::<Json, InPlace>(alloc, words.as_slice(), &InPlace, json)
 }

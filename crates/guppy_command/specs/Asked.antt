@@ -1,5 +1,5 @@
 -- What arguments ask.
-use Rattle.std.specs.Prelude.{◌≡◌, ◌⊎◌, ℕ, Contains, ◌==◌, Bool, true, false, not, ◌&&◌, ◌||◌, List, [], ◌∷◌, ◌++◌, length, map, Option, Some, None, is_some, Result, Ok, Err, codes, if◌then◌else◌}
+use Rattle.std.specs.Prelude.{◌≡◌, ◌⊎◌, ℕ, Contains, ◌==◌, Bool, true, false, not, ◌&&◌, ◌||◌, List, [], ◌∷◌, ◌++◌, length, map, Option, Some, None, is_some, IsSomeAnd, Result, Ok, Err, codes, if◌then◌else◌}
 use Rattle.std.specs.List.{AllZip, filter_map, find, flat_map, list_any, zip}
 use Rattle.std.specs.Option.{option_and_then, option_map_or}
 use Rattle.std.specs.Str.{bytes_eq}
@@ -12,30 +12,38 @@ use Rattle.guppy_features.specs.declared.options.StandardFeatures.TheVariants.{N
 use Rattle.guppy_target.specs.Platform.{PlatformData, IsFirstFault}
 use Rattle.guppy_command.specs.declared.options.Kinds.{Kinds}
 use Rattle.guppy_command.specs.declared.options.Options.{Options}
-use Rattle.guppy_command.specs.declared.table.TheConstants.{KINDS, PLATFORM, CFGS, HOST, HOST_CFGS, WORKSPACE, IDS, PUBLISHABLE, IGNORE, PATHS_FROM, MEMBER, FEATURES, ALL_FEATURES, NO_DEFAULT_FEATURES, TESTS, RESOLVER, ALSO}
-use Rattle.guppy_command.specs.Grammar.{OptionRow, Program, Argument, option, word, Misread, not_taken, repeated, no_command, unknown_command, bad_words, bad_kinds, bad_resolver, lone_platform, lone_host, all_ignored, no_paths, cfgs_failed, bad_cfg, paths_failed, unended_paths, called, Reads, bad_also, name_in, value_in}
+use Rattle.guppy_command.specs.declared.options.OutputFormat.{OutputFormat}
+use Rattle.guppy_command.specs.declared.options.OutputFormat.TheVariants.{Lines}
+use Rattle.guppy_command.specs.declared.table.TheConstants.{KINDS, PLATFORM, CFGS, HOST, HOST_CFGS, WORKSPACE, IDS, NULL, FORMAT, PUBLISHABLE, IGNORE, PATHS_FROM, MEMBER, FEATURES, ALL_FEATURES, NO_DEFAULT_FEATURES, TESTS, RESOLVER, ALSO, BEFORE}
+use Rattle.guppy_command.specs.Grammar.{OptionRow, Program, Argument, option, word, Misread, not_taken, repeated, no_command, unknown_command, bad_words, bad_kinds, bad_resolver, bad_format, lone_platform, lone_host, all_ignored, no_paths, cfgs_failed, bad_cfg, paths_failed, unended_paths, called, Reads, bad_also, name_in, value_in, before_failed}
 use Rattle.guppy_command.specs.Builds.{features_of, resolver_of}
 use Rattle.guppy_command.specs.Command.{BuildRequest, Command, affected, build_command_of, command_of, from_root}
-use Rattle.guppy_command.specs.Options.{kinds_of}
+use Rattle.guppy_command.specs.Options.{format_of, kinds_of}
 use Rattle.guppy_command.specs.Paths.{are_ended, paths_of}
 use Rattle.guppy_command.specs.Platforms.{IsPlatform}
 use Rattle.guppy_command.specs.Text.{is_empty}
 
 -- what is asked of every command, the platforms by their names, each with the file that says what is set there, so
--- the host, where it is named, the command, and the files that have more paths
+-- the host, where it is named, the command, the files that have more paths, that of the state before, and the resolver
+-- by which the states are compared
 pub record Wanted : Type 0 where
   pub options : Options
   pub platforms : List (List ℕ × List ℕ)
   pub host : List (List ℕ × List ℕ)
   pub command : Command
   pub path_files : List (List ℕ)
+  pub before : List (List ℕ)
+  pub resolver : CargoResolverVersion
 
--- what is asked of every command, the platforms on which links count, the host, and the command
+-- what is asked of every command, the platforms on which links count, the host, the command, and the input of the state
+-- before, where there is one, with the resolver by which the states are compared
 pub record Asked : Type 0 where
   pub options : Options
   pub question : Question PlatformData
   pub host : Question PlatformData
   pub command : Command
+  pub before : Option (List ℕ)
+  pub resolver : CargoResolverVersion
 
 infixl 10 ◌>>=◌
 abbrev pub ◌>>=◌ : {A B : Type 0} → Result A Misread → (A → Result B Misread) → Result B Misread
@@ -121,13 +129,21 @@ platforms_in given = option_map_or (λ pairs. Ok pairs) (pairs_in PLATFORM.now C
 abbrev pub host_in : List Argument → Result (List (List ℕ × List ℕ)) Misread
 host_in given = option_map_or (λ pairs. Ok pairs) (pairs_in HOST.now HOST_CFGS.now given) (Err lone_host)
 
+-- the format that is named, or lines
+abbrev pub format_in : List (List ℕ) → Result OutputFormat Misread
+format_in [] = Ok Lines
+format_in (value ∷ values) = option_map_or (λ format. Ok format) (format_of value) (Err (bad_format value))
+
 -- how an answer is shown, and of which links
 abbrev pub options_in : List Argument → Result Options Misread
-options_in given = kinds_in (values_of KINDS.now given) >>= λ kinds. Ok (record {
-  kinds = kinds;
-  members_alone = has WORKSPACE.now given;
-  by_id = has IDS.now given;
-})
+options_in given = kinds_in (values_of KINDS.now given) >>= λ kinds.
+    format_in (values_of FORMAT.now given) >>= λ format. Ok (record {
+      kinds = kinds;
+      members_alone = has WORKSPACE.now given;
+      by_id = has IDS.now given;
+      nul_ended = has NULL.now given;
+      format = format;
+    })
 
 -- there are none
 abbrev pub no_words : List (List ℕ) → Bool
@@ -138,9 +154,9 @@ no_words (text ∷ words) = false
 abbrev pub is_all : List ℕ → Bool
 is_all folder = is_among ([] ∷ codes "." ∷ []) (from_root folder)
 
--- paths are given, or files that have some
-abbrev pub has_paths : List Argument → List (List ℕ) → Bool
-has_paths given paths = not (no_words paths) || has PATHS_FROM.now given
+-- it is said what changed: by paths, by files that have some, or by the state before
+abbrev pub says_changes : List Argument → List (List ℕ) → Bool
+says_changes given paths = not (no_words paths) || (has PATHS_FROM.now given || has BEFORE.now given)
 
 -- the folder and the package that the text names, parted by its first `=`
 abbrev pub halves_of : List ℕ → Option (List ℕ × List ℕ)
@@ -163,7 +179,7 @@ ignored_in given = option_map_or (λ folder. Err (all_ignored folder)) (find is_
 
 -- the members that changes at these paths affect, with folders to leave out, and folders that belong to packages
 abbrev pub affected_of : List Argument → List (List ℕ) → Result Command Misread
-affected_of given paths = if not (has_paths given paths) then Err no_paths
+affected_of given paths = if not (says_changes given paths) then Err no_paths
     else (ignored_in given >>= λ ignored. also_in given >>= λ also.
     Ok (affected ignored also (map from_root paths)))
 
@@ -210,6 +226,7 @@ wanted_of p given = command_in p (words_in given) >>= λ found.
     options_in given >>= λ options.
     platforms_in given >>= λ platforms.
     host_in given >>= λ host.
+    resolver_in (values_of RESOLVER.now given) >>= λ resolver.
     asked_by given found.0 found.1 >>= λ command.
     Ok (record {
       options = options;
@@ -217,6 +234,8 @@ wanted_of p given = command_in p (words_in given) >>= λ found.
       host = host;
       command = command;
       path_files = values_of PATHS_FROM.now given;
+      before = values_of BEFORE.now given;
+      resolver = resolver;
     })
 
 -- these platforms are in question, or any where none is named
@@ -228,6 +247,11 @@ question_on (platform ∷ platforms) = OnPlatforms (platform ∷ platforms)
 abbrev pub with_paths : List (List ℕ) → Command → Command
 with_paths more (affected ignored also paths) = affected ignored also (paths ++ more)
 with_paths more command = command
+
+-- the file with the state before, the first of these, can't be read
+abbrev pub IsBeforeFault : List (List ℕ) → Misread → Type 0
+IsBeforeFault (file ∷ files) (before_failed other) = other ≡ file
+IsBeforeFault files misread = ⊥
 
 -- P holds of one of these, and of this
 abbrev pub IsOfOne : {A B : Type 0} → (A → B → Type 0) → List A → B → Type 0
@@ -245,6 +269,11 @@ module _ (has_bytes : List ℕ → List ℕ → Type 0) where
     pub read : has_bytes file bytes
     pub ended : are_ended bytes ≡ true
 
+  -- these are the bytes of the state before, where a file is named that has it
+  abbrev pub IsBefore : List (List ℕ) → Option (List ℕ) → Type 0
+  IsBefore [] before = before ≡ None
+  IsBefore (file ∷ files) before = IsSomeAnd before (has_bytes file)
+
   -- it is what is wanted, with what the files have
   pub record IsAsked (wanted : Wanted) (asked : Asked) : Type 0 where
     pub options : asked.options ≡ wanted.options
@@ -257,6 +286,8 @@ module _ (has_bytes : List ℕ → List ℕ → Type 0) where
     pub lists : List (List ℕ)
     pub read : AllZip HasPaths wanted.path_files lists
     pub command : asked.command ≡ with_paths (flat_map paths_of lists) wanted.command
+    pub before : IsBefore wanted.before asked.before
+    pub resolver : asked.resolver ≡ wanted.resolver
 
   -- the platform's file can't be read, or has a line that doesn't say what is set there
   abbrev pub IsPlatformFault : List ℕ × List ℕ → Misread → Type 0
@@ -275,7 +306,8 @@ module _ (has_bytes : List ℕ → List ℕ → Type 0) where
   -- why a file that is named doesn't have what is wanted
   abbrev pub IsUnfound : Wanted → Misread → Type 0
   IsUnfound wanted misread = IsOfOne IsPlatformFault wanted.platforms misread
-      ⊎ (IsOfOne IsPlatformFault wanted.host misread ⊎ IsOfOne IsPathsFault wanted.path_files misread)
+      ⊎ (IsOfOne IsPlatformFault wanted.host misread
+      ⊎ (IsOfOne IsPathsFault wanted.path_files misread ⊎ IsBeforeFault wanted.before misread))
 
   -- the words ask this, of which the files that they name have some
   pub record Asks (p : Program) (words : List (List ℕ)) (asked : Asked) : Type 0 where

@@ -14,7 +14,8 @@ pub data BuildCause : Type 0 where
 -- an error of the library, which also tells that memory ran out; the arguments, or that they could not
 -- be had; a word, and a text that tells what it may mean; two words, from whose first package no links
 -- lead to the second one's; what a member is called that can be published by itself, and one that it
--- needs and that can't; why there is no answer on what Cargo builds; what the input says; the source; the sink.
+-- needs and that can't; why there is no answer on what Cargo builds; the state before, by the text of why it is none; what
+-- the input says; the source; the sink.
 -- A program says which of its faults is blamed on what, and `IsRun` when each comes
 pub data Cause : Type 0 where
   library : Error → Cause
@@ -23,6 +24,7 @@ pub data Cause : Type 0 where
   no_walk : List ℕ → List ℕ → Cause
   unpublishable : List ℕ → List ℕ → Cause
   build : BuildCause → Cause
+  bad_before : List ℕ → Cause
   bad_input : Cause
   input_failed : Cause
   output_failed : Cause

@@ -25,9 +25,10 @@ pub data Argument : Type 0 where
 
 -- why arguments ask nothing: no option is called so; the option lacks its value, takes none, comes again,
 -- or is not the command's; there is no command, or none is called so; the words behind the command don't fit it, or the
--- value no kinds, or no resolver; a platform has no file with what is set there, or a file no platform; so of the host;
+-- value no kinds, no resolver or no format; a platform has no file with what is set there, or a file no platform; so of the host;
 -- the folder to leave out is all; the value names no folder and package; no path is given; the file of a platform can't
--- be read, or has a bad line behind so many; a file with paths can't be read, or one of them isn't ended
+-- be read, or has a bad line behind so many; a file with paths can't be read, or one of them isn't ended; the file with the
+-- state before can't be read
 pub data Misread : Type 0 where
   no_option : List ℕ → Misread
   no_value : List ℕ → Misread
@@ -39,6 +40,7 @@ pub data Misread : Type 0 where
   bad_words : List ℕ → Misread
   bad_kinds : List ℕ → Misread
   bad_resolver : List ℕ → Misread
+  bad_format : List ℕ → Misread
   lone_platform : Misread
   lone_host : Misread
   all_ignored : List ℕ → Misread
@@ -48,6 +50,7 @@ pub data Misread : Type 0 where
   bad_cfg : List ℕ → ℕ → Misread
   paths_failed : List ℕ → Misread
   unended_paths : List ℕ → Misread
+  before_failed : List ℕ → Misread
 
 -- the word begins as an option does
 abbrev pub is_dashed : List ℕ → Bool

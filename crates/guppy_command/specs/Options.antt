@@ -5,6 +5,8 @@ use Rattle.std.specs.Str.{bytes_eq}
 use Rattle.guppy_data.specs.declared.records.LinkRecord.{LinkRecord}
 use Rattle.guppy_platforms.specs.Counting.{is_asked_for}
 use Rattle.guppy_command.specs.declared.options.Kinds.{Kinds}
+use Rattle.guppy_command.specs.declared.options.OutputFormat.{OutputFormat}
+use Rattle.guppy_command.specs.declared.options.OutputFormat.TheVariants.{Lines, Flags}
 use Rattle.guppy_command.specs.Text.{section_of}
 
 -- the link has a section of one of these kinds: it is asked for in it, required or optional, on some platform
@@ -35,3 +37,8 @@ kinds_of word = if list_all is_kind (names_in word) then Some (record {
   build = names_kind word (codes "build");
   dev = names_kind word (codes "dev");
 }) else None
+
+-- the format that the word names
+abbrev pub format_of : List ℕ → Option OutputFormat
+format_of word = if bytes_eq word (codes "lines") then Some Lines
+    else (if bytes_eq word (codes "flags") then Some Flags else None)

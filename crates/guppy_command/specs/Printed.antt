@@ -2,20 +2,29 @@
 use Rattle.std.specs.Prelude.{ℕ, Bool, List, [], ◌∷◌, ◌++◌, codes, if◌then◌else◌}
 use Rattle.std.specs.List.{flat_map, join_by}
 use Rattle.guppy_command.specs.declared.options.Kinds.{Kinds}
+use Rattle.guppy_command.specs.declared.options.Options.{Options}
 
-abbrev pub line_of : List ℕ → List ℕ
-line_of text = text ++ 10 ∷ []
+abbrev pub newline : List ℕ
+newline = 10 ∷ []
 
--- these texts, one a line
-abbrev pub lines_of : List (List ℕ) → List ℕ
-lines_of texts = flat_map line_of texts
+-- what ends a line of an answer that is a list: a newline, or a NUL
+abbrev pub line_end : Options → List ℕ
+line_end options = if options.nul_ended then 0 ∷ [] else newline
+
+-- the text, with this end
+abbrev pub line_of : List ℕ → List ℕ → List ℕ
+line_of end text = text ++ end
+
+-- these texts, one a line, each with this end
+abbrev pub lines_of : List ℕ → List (List ℕ) → List ℕ
+lines_of end texts = flat_map (line_of end) texts
 
 -- these texts, parted by spaces
 abbrev pub joined : List (List ℕ) → List ℕ
 joined texts = join_by (λ text. text) (32 ∷ []) texts
 
 abbrev pub truth_line : Bool → List ℕ
-truth_line answer = line_of (if answer then codes "true" else codes "false")
+truth_line answer = line_of newline (if answer then codes "true" else codes "false")
 
 -- the names of the kinds
 abbrev pub kind_names : Kinds → List (List ℕ)

@@ -6,7 +6,7 @@ use Rattle.guppy_data.specs.Platform.{question_of}
 use Rattle.guppy_command.specs.declared.grammar.Argument.{Argument as GivenArgument}
 use Rattle.guppy_command.specs.declared.grammar.Argument.TheVariants.{Option as GivenOption, Word}
 use Rattle.guppy_command.specs.declared.grammar.Misread.{Misread as GivenMisread}
-use Rattle.guppy_command.specs.declared.grammar.Misread.TheVariants.{NoOption, NoValue, NeedlessValue, Repeated, NotTaken, NoCommand, UnknownCommand, BadWords, BadKinds, BadResolver, LonePlatform, LoneHost, AllIgnored, NoPaths, CfgsFailed, BadCfg, PathsFailed, UnendedPaths, OutOfMemory, BadAlso}
+use Rattle.guppy_command.specs.declared.grammar.Misread.TheVariants.{NoOption, NoValue, NeedlessValue, Repeated, NotTaken, NoCommand, UnknownCommand, BadWords, BadKinds, BadResolver, BadFormat, LonePlatform, LoneHost, AllIgnored, NoPaths, CfgsFailed, BadCfg, PathsFailed, UnendedPaths, OutOfMemory, BadAlso, BeforeFailed}
 use Rattle.guppy_command.specs.declared.grammar.Program.{Program as GivenProgram}
 use Rattle.guppy_command.specs.declared.command.BuildRequest.{BuildRequest as GivenRequest}
 use Rattle.guppy_command.specs.declared.command.Command.{Command as GivenCommand}
@@ -14,11 +14,11 @@ use Rattle.guppy_command.specs.declared.command.Command.TheVariants.{Reach, Depe
 use Rattle.guppy_command.specs.declared.asked.Asked.{Asked as GivenAsked}
 use Rattle.guppy_command.specs.declared.asked.Wanted.{Wanted as GivenWanted}
 use Rattle.guppy_command.specs.declared.fault.Fault.{Fault}
-use Rattle.guppy_command.specs.declared.fault.Fault.TheVariants.{Library, BadArguments, NoWalk, Unpublishable, Build, InputFailed, OutputFailed}
-use Rattle.guppy_command.specs.Grammar.{OptionRow, Program, Argument, option, word, Misread, no_option, no_value, needless_value, repeated, not_taken, no_command, unknown_command, bad_words, bad_kinds, bad_resolver, lone_platform, lone_host, all_ignored, no_paths, cfgs_failed, bad_cfg, paths_failed, unended_paths, bad_also}
+use Rattle.guppy_command.specs.declared.fault.Fault.TheVariants.{Library, BadArguments, NoWalk, Unpublishable, Build, InputFailed, OutputFailed, Before}
+use Rattle.guppy_command.specs.Grammar.{OptionRow, Program, Argument, option, word, Misread, no_option, no_value, needless_value, repeated, not_taken, no_command, unknown_command, bad_words, bad_kinds, bad_resolver, bad_format, lone_platform, lone_host, all_ignored, no_paths, cfgs_failed, bad_cfg, paths_failed, unended_paths, bad_also, before_failed}
 use Rattle.guppy_command.specs.Asked.{Asked, Wanted}
 use Rattle.guppy_command.specs.BuildFault.{build_cause_of}
-use Rattle.guppy_command.specs.Cause.{Cause, library, bad_arguments, no_walk, unpublishable, build, input_failed, output_failed}
+use Rattle.guppy_command.specs.Cause.{Cause, library, bad_arguments, no_walk, unpublishable, build, bad_before, input_failed, output_failed}
 use Rattle.guppy_command.specs.Command.{BuildRequest, Command, reach, depends, why, order, roots, links, cycles, duplicates, built, features, why_feature, verify, publish_order, dot, affected}
 
 abbrev pub texts : List (Bor (List ℕ)) → List (List ℕ)
@@ -77,6 +77,8 @@ wanted_shown wanted = record {
   host = map (λ named. (named.0.now, named.1.now)) wanted.host.items;
   command = command_shown wanted.command;
   path_files = texts wanted.path_files.items;
+  before = texts wanted.before.items;
+  resolver = wanted.resolver;
 }
 
 abbrev pub asked_shown : GivenAsked → Asked
@@ -85,6 +87,8 @@ asked_shown asked = record {
   question = question_of asked.platforms;
   host = question_of asked.host;
   command = command_shown asked.command;
+  before = option_map (λ bytes. bytes.items) asked.before;
+  resolver = asked.resolver;
 }
 
 -- why arguments ask nothing, unless memory ran out
@@ -99,6 +103,7 @@ misread_shown (UnknownCommand text) = Some (unknown_command text.now)
 misread_shown (BadWords command) = Some (bad_words command.now)
 misread_shown (BadKinds value) = Some (bad_kinds value.now)
 misread_shown (BadResolver value) = Some (bad_resolver value.now)
+misread_shown (BadFormat value) = Some (bad_format value.now)
 misread_shown LonePlatform = Some lone_platform
 misread_shown LoneHost = Some lone_host
 misread_shown (AllIgnored folder) = Some (all_ignored folder.now)
@@ -108,6 +113,7 @@ misread_shown (CfgsFailed file) = Some (cfgs_failed file.now)
 misread_shown (BadCfg triple lines) = Some (bad_cfg triple.now lines)
 misread_shown (PathsFailed file) = Some (paths_failed file.now)
 misread_shown (UnendedPaths file) = Some (unended_paths file.now)
+misread_shown (BeforeFailed file) = Some (before_failed file.now)
 misread_shown OutOfMemory = None
 
 -- P holds of the outcome, unless memory ran out
@@ -125,5 +131,6 @@ cause_shown BadArguments = bad_arguments
 cause_shown (NoWalk from to) = no_walk (string_bytes from) (string_bytes to)
 cause_shown (Unpublishable member needed) = unpublishable (string_bytes member) (string_bytes needed)
 cause_shown (Build fault) = build (build_cause_of fault)
+cause_shown (Before text) = bad_before (string_bytes text)
 cause_shown InputFailed = input_failed
 cause_shown OutputFailed = output_failed

@@ -1,7 +1,8 @@
 //! What arguments ask.
 ghost use Rattle.std.specs.Prelude.{◌≡◌, map, string_bytes, option_map, IfOk};
 ghost use Rattle.std.specs.List.{filter_map, find, flat_map, zip};
-ghost use Rattle.guppy_command.specs.Asked.{word_of, value_for, picked, is_option, values_of, has, is_among, takes, may_repeat, command_in, judged, all_judged, kinds_in, pairs_in, platforms_in, host_in, options_in, has_paths, affected_of, standard_in, resolver_in, request_in, is_of_builds, asked_of_builds, asked_by, wanted_of, is_all, halves_of, is_unparted, also_in, ignored_in};
+ghost use Rattle.guppy_command.specs.Asked.{word_of, value_for, picked, is_option, values_of, has, is_among, takes, may_repeat, command_in, judged, all_judged, kinds_in, format_in, pairs_in, platforms_in, host_in, options_in, says_changes, affected_of, standard_in, resolver_in, request_in, is_of_builds, asked_of_builds, asked_by, wanted_of, is_all, halves_of, is_unparted, also_in, ignored_in};
+ghost use Rattle.guppy_command.specs.declared.table.TheConstants.{FORMAT, KINDS, RESOLVER};
 ghost use Rattle.guppy_command.specs.Builds.{features_of};
 ghost use Rattle.guppy_command.specs.Command.{from_root};
 ghost use Rattle.guppy_command.specs.Shown.{argument_shown, row_shown, program_shown, command_shown, request_shown, wanted_shown, texts, Gives};
@@ -9,10 +10,11 @@ ghost use Rattle.guppy_command.specs.Shown.{argument_shown, row_shown, program_s
 use crate::builds::{add_features, resolver_of};
 use crate::command::{BuildRequest, Command, build_command_of, command_of, from_root};
 use crate::grammar::{Argument, Misread, OptionRow, Program, called, parts_of};
-use crate::options::{Kinds, Options, kinds_of};
+use crate::options::{Kinds, Options, OutputFormat, format_of, kinds_of};
 use crate::table::{
-    ALL_FEATURES, ALSO, CFGS, FEATURES, HOST, HOST_CFGS, IDS, IGNORE, KINDS, MEMBER,
-    NO_DEFAULT_FEATURES, PATHS_FROM, PLATFORM, PUBLISHABLE, RESOLVER, TESTS, WORKSPACE,
+    ALL_FEATURES, ALSO, BEFORE, CFGS, FEATURES, FORMAT, HOST, HOST_CFGS, IDS, IGNORE, KINDS,
+    MEMBER, NO_DEFAULT_FEATURES, NULL, PATHS_FROM, PLATFORM, PUBLISHABLE, RESOLVER, TESTS,
+    WORKSPACE,
 };
 use guppy_data::PlatformSpec;
 use guppy_features::{CargoResolverVersion, StandardFeatures};
@@ -32,6 +34,10 @@ pub struct Wanted<'a> {
     pub command: Command<'a>,
     /// The files that have more paths.
     pub path_files: Vec<&'a str>,
+    /// The file that has the input of the state before, where one is named.
+    pub before: Vec<&'a str>,
+    /// The resolver by which the states are compared.
+    pub resolver: CargoResolverVersion,
 }
 
 /// What the program is asked.
@@ -45,6 +51,10 @@ pub struct Asked<'a> {
     pub host: PlatformSpec<Platform>,
     /// The command.
     pub command: Command<'a>,
+    /// The input of the state before, where it is named.
+    pub before: Option<Vec<u8>>,
+    /// The resolver by which the states are compared.
+    pub resolver: CargoResolverVersion,
 }
 
 fn word_of<'a>(argument: &Argument<'a>) -> Option<&'a str>
@@ -287,15 +297,47 @@ fn host_in<'a>(
     }
 }
 
+// The format that is named, or lines.
+fn format_in<'a>(values: &[&'a str]) -> Result<OutputFormat, Misread<'a>>
+    ensures { Gives (λ format. format) (format_in (texts values.now)) result }
+{
+    let [value, ..] = values else {
+        return Ok(OutputFormat::Lines);
+    };
+    match format_of(value) {
+        Some(format) => Ok(format),
+        None => Err(Misread::BadFormat(value)),
+    }
+}
+
+// The kinds that the option names, where it is given.
+fn kinds_given<'a>(alloc: Global, given: &[Argument<'a>]) -> Result<Option<Kinds>, Misread<'a>>
+    ensures { Gives (λ kinds. kinds) (kinds_in (values_of KINDS.now (map argument_shown given.now))) result }
+{
+    let values = values_of(alloc, KINDS, given)?;
+    kinds_in(values.as_slice())
+}
+
+// The format that the option names, or lines.
+fn format_given<'a>(alloc: Global, given: &[Argument<'a>]) -> Result<OutputFormat, Misread<'a>>
+    ensures { Gives (λ format. format) (format_in (values_of FORMAT.now (map argument_shown given.now))) result }
+{
+    let values = values_of(alloc, FORMAT, given)?;
+    format_in(values.as_slice())
+}
+
 // How an answer is shown, and of which links.
 fn options_in<'a>(alloc: Global, given: &[Argument<'a>]) -> Result<Options, Misread<'a>>
     ensures { Gives (λ options. options) (options_in (map argument_shown given.now)) result }
 {
-    let kinds = values_of(alloc, KINDS, given)?;
+    let kinds = kinds_given(alloc, given)?;
+    let format = format_given(alloc, given)?;
     Ok(Options {
-        kinds: kinds_in(kinds.as_slice())?,
+        kinds,
         members_alone: has(WORKSPACE, given),
         by_id: has(IDS, given),
+        nul_ended: has(NULL, given),
+        format,
     })
 }
 
@@ -325,11 +367,11 @@ fn first_all<'a>(folders: &[&'a str]) -> Option<&'a str>
     folders.iter().find(|folder| is_all(folder)).copied()
 }
 
-// Whether paths are given, or files that have some.
-fn has_paths(given: &[Argument<'_>], paths: &[&str]) -> bool
-    ensures { result ≡ has_paths (map argument_shown given.now) (texts paths.now) }
+// Whether it is said what changed: by paths, by files that have some, or by the state before.
+fn says_changes(given: &[Argument<'_>], paths: &[&str]) -> bool
+    ensures { result ≡ says_changes (map argument_shown given.now) (texts paths.now) }
 {
-    !paths.is_empty() || has(PATHS_FROM, given)
+    !paths.is_empty() || has(PATHS_FROM, given) || has(BEFORE, given)
 }
 
 // The folder and the package that the text names, parted by its first `=`.
@@ -407,7 +449,7 @@ fn affected_of<'a>(
 ) -> Result<Command<'a>, Misread<'a>>
     ensures { Gives command_shown (affected_of (map argument_shown given.now) (texts paths.now)) result }
 {
-    if !has_paths(given, paths) {
+    if !says_changes(given, paths) {
         return Err(Misread::NoPaths);
     }
     let ignored = ignored_in(alloc, given)?;
@@ -457,12 +499,23 @@ fn resolver_in<'a>(values: &[&'a str]) -> Result<CargoResolverVersion, Misread<'
     }
 }
 
+// The resolver that is given.
+fn resolver_given<'a>(
+    alloc: Global,
+    given: &[Argument<'a>],
+) -> Result<CargoResolverVersion, Misread<'a>>
+    ensures { Gives (λ resolver. resolver)
+        (resolver_in (values_of RESOLVER.now (map argument_shown given.now))) result }
+{
+    let values = values_of(alloc, RESOLVER, given)?;
+    resolver_in(values.as_slice())
+}
+
 // What Cargo is asked to build.
 fn request_in<'a>(alloc: Global, given: &[Argument<'a>]) -> Result<BuildRequest<'a>, Misread<'a>>
     ensures { Gives request_shown (request_in (map argument_shown given.now)) result }
 {
-    let resolvers = values_of(alloc, RESOLVER, given)?;
-    let resolver = resolver_in(resolvers.as_slice())?;
+    let resolver = resolver_given(alloc, given)?;
     let features = values_of(alloc, FEATURES, given)?;
     Ok(BuildRequest {
         members: values_of(alloc, MEMBER, given)?,
@@ -535,6 +588,7 @@ pub fn wanted_of<'a>(
     let options = options_in(alloc, given)?;
     let platforms = platforms_in(alloc, given)?;
     let host = host_in(alloc, given)?;
+    let resolver = resolver_given(alloc, given)?;
     let command = asked_by(alloc, given, command, words)?;
     Ok(Wanted {
         options,
@@ -542,5 +596,7 @@ pub fn wanted_of<'a>(
         host,
         command,
         path_files: values_of(alloc, PATHS_FROM, given)?,
+        before: values_of(alloc, BEFORE, given)?,
+        resolver,
     })
 }

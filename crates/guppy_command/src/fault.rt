@@ -89,6 +89,8 @@ pub enum Fault {
     },
     /// There is no answer on what Cargo builds.
     Build(BuildFault),
+    /// The state before is none, and why.
+    Before(String),
     /// The input could not be read.
     InputFailed,
     /// The output could not be written.

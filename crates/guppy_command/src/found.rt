@@ -1,8 +1,8 @@
 //! What arguments ask, with what the files have that they name.
-ghost use Rattle.std.specs.Prelude.{◌≡◌, ◌++◌, ℕ, List, map, string_bytes, IfOk, IfErr, IfSome, OnOk};
+ghost use Rattle.std.specs.Prelude.{◌≡◌, ◌++◌, ℕ, List, map, option_map, string_bytes, IfOk, IfErr, IfSome, OnOk};
 ghost use Rattle.std.specs.List.{AllZip, flat_map};
 ghost use Rattle.guppy_data.specs.Platform.{question_of};
-ghost use Rattle.guppy_command.specs.Asked.{Asks, IsAsked, IsMisread, IsNamed, IsOfOne, IsPathsFault, IsPlatformFault, IsUnfound, HasPaths, question_on, with_paths};
+ghost use Rattle.guppy_command.specs.Asked.{Asks, IsAsked, IsBefore, IsBeforeFault, IsMisread, IsNamed, IsOfOne, IsPathsFault, IsPlatformFault, IsUnfound, HasPaths, question_on, with_paths};
 ghost use Rattle.guppy_command.specs.Paths.{are_ended, paths_of};
 ghost use Rattle.guppy_command.specs.Shown.{asked_shown, command_shown, misread_shown, program_shown, wanted_shown, texts};
 
@@ -147,6 +147,27 @@ fn paths_in<'a, D: Files>(
     Ok(paths)
 }
 
+// What the file with the state before has, where one is named.
+fn before_in<'a, D: Files>(
+    alloc: Global,
+    files: &D,
+    names: &[&'a str],
+) -> Result<Option<Vec<u8>>, Misread<'a>>
+    ensures ok { IfOk result (λ before. IsBefore (D.has files.now) (texts names.now)
+        (option_map (λ bytes. bytes.items) before)) }
+    ensures err { IfErr result (λ misread. IfSome (misread_shown misread)
+        (IsBeforeFault (texts names.now))) }
+{
+    let [file, ..] = names else {
+        return Ok(None);
+    };
+    match files.read(alloc, file) {
+        Ok(bytes) => Ok(Some(bytes)),
+        Err(FileFault::OutOfMemory) => Err(Misread::OutOfMemory),
+        Err(FileFault::Unreadable) => Err(Misread::BeforeFailed(file)),
+    }
+}
+
 // The command with more paths.
 fn with_paths(command: Command<'_>, more: Vec<String>) -> Result<Command<'_>, AllocError>
     ensures { IfOk result (λ changed. command_shown changed
@@ -183,11 +204,14 @@ fn found<'a, D: Files>(
     let platforms = platforms_of(alloc, files, wanted.platforms.as_slice())?;
     let host = platforms_of(alloc, files, wanted.host.as_slice())?;
     let more = paths_in(alloc, files, wanted.path_files.as_slice())?;
+    let before = before_in(alloc, files, wanted.before.as_slice())?;
     Ok(Asked {
         options: wanted.options,
         platforms: question_on(platforms),
         host: question_on(host),
         command: with_paths(wanted.command, more)?,
+        before,
+        resolver: wanted.resolver,
     })
 }
 

@@ -59,6 +59,8 @@ pub enum Misread<'a> {
     BadKinds(&'a str),
     /// This is no resolver.
     BadResolver(&'a str),
+    /// This is no format.
+    BadFormat(&'a str),
     /// There is a platform without a file that has what is set there, or such a file without a platform.
     LonePlatform,
     /// The host has no file with what is set there, or there is such a file without a host.
@@ -77,6 +79,8 @@ pub enum Misread<'a> {
     PathsFailed(&'a str),
     /// A path in the file isn't ended by a NUL.
     UnendedPaths(&'a str),
+    /// The file with the state before can't be read.
+    BeforeFailed(&'a str),
     /// Memory is wanted.
     OutOfMemory,
 }

@@ -39,5 +39,5 @@ pub use device::{DeviceFault, IoSink, IoSource, Sink, Source};
 pub use fault::{BuildFault, Fault, ProgramFault};
 pub use files::{FileFault, Files, NoFiles};
 pub use grammar::{Argument, Misread, OptionRow, Program};
-pub use options::{Kinds, Options};
+pub use options::{Kinds, Options, OutputFormat};
 pub use process::{Ending, arguments};

@@ -2,7 +2,7 @@
 ghost use Rattle.std.specs.Prelude.{◌≡◌};
 ghost use Rattle.std.specs.List.{filter};
 ghost use Rattle.guppy_command.specs.Text.{section_of};
-ghost use Rattle.guppy_command.specs.Options.{is_kind, names_kind, kinds_of, is_of, kept_links};
+ghost use Rattle.guppy_command.specs.Options.{format_of, is_kind, names_kind, kinds_of, is_of, kept_links};
 
 use guppy_data::{DependencyKind, LinkRecord};
 use guppy_platforms::is_asked_for;
@@ -18,6 +18,15 @@ pub struct Kinds {
     pub dev: bool,
 }
 
+/// How an answer is written.
+#[derive(Clone, Copy, Debug, PartialEq, Eq)]
+pub enum OutputFormat {
+    /// What packages are called, on lines.
+    Lines,
+    /// Packages as flags that cargo takes, one a line.
+    Flags,
+}
+
 /// What is asked of every command.
 #[derive(Clone, Copy, Debug, PartialEq, Eq)]
 pub struct Options {
@@ -27,6 +36,10 @@ pub struct Options {
     pub members_alone: bool,
     /// Whether packages are called by their IDs.
     pub by_id: bool,
+    /// Whether each line of an answer that is a list ends with a NUL, in place of a newline.
+    pub nul_ended: bool,
+    /// How an answer is written.
+    pub format: OutputFormat,
 }
 
 /// The kind that the word names. Takes constant time, and no memory.
@@ -70,6 +83,19 @@ pub fn kinds_of(word: &str) -> Option<Kinds>
         build: names_kind(word, "build"),
         dev: names_kind(word, "dev"),
     })
+}
+
+/// The format that the word names. Takes constant time, and no memory.
+pub fn format_of(word: &str) -> Option<OutputFormat>
+    ensures { result ≡ format_of word.now }
+{
+    if word == "lines" {
+        Some(OutputFormat::Lines)
+    } else if word == "flags" {
+        Some(OutputFormat::Flags)
+    } else {
+        None
+    }
 }
 
 impl Kinds {

@@ -1,31 +1,39 @@
 //! Texts on lines, as answers are printed.
 ghost use Rattle.std.specs.Prelude.{◌≡◌, ◌∷◌, ◌++◌, [], map, string_bytes, codes, IfOk, OnOk, if◌then◌else◌};
-ghost use Rattle.guppy_command.specs.Printed.{joined, kind_names, line_of, lines_of, truth_line};
+ghost use Rattle.guppy_command.specs.Printed.{joined, kind_names, line_end, line_of, lines_of, truth_line};
 
-use crate::options::Kinds;
+use crate::options::{Kinds, Options};
 use std::alloc::{AllocError, Global};
 
-/// These texts, one a line. Takes memory for them.
-pub fn lines_of(alloc: Global, texts: &[&str]) -> Result<String, AllocError>
-    ensures { IfOk result (λ lines. string_bytes lines ≡ lines_of (map (λ text. text.now) texts.now)) }
+/// What ends a line of an answer that is a list: a newline or, where the options have it so, a NUL.
+pub fn line_end(options: &Options) -> &'static str
+    ensures { result.now ≡ line_end options.now }
+{
+    if options.nul_ended { "\0" } else { "\n" }
+}
+
+/// These texts, one a line, each with this end. Takes memory for them.
+pub fn lines_of(alloc: Global, end: &str, texts: &[&str]) -> Result<String, AllocError>
+    ensures { IfOk result (λ lines. string_bytes lines
+        ≡ lines_of end.now (map (λ text. text.now) texts.now)) }
 {
     let mut lines = String::new(alloc);
     for text in texts {
         lines.push_str(text)?;
-        lines.push('\n')?;
+        lines.push_str(end)?;
     }
     Ok(lines)
 }
 
-/// Adds two texts, parted by a space, on a line.
-pub fn push_pair(text: &mut String, from: &str, to: &str) -> Result<(), AllocError>
+/// Adds two texts, parted by a space, on a line with this end.
+pub fn push_pair(text: &mut String, end: &str, from: &str, to: &str) -> Result<(), AllocError>
     ensures { OnOk result (string_bytes text.new ≡ string_bytes text.old
-        ++ line_of (joined (from.now ∷ to.now ∷ []))) }
+        ++ line_of end.now (joined (from.now ∷ to.now ∷ []))) }
 {
     text.push_str(from)?;
     text.push(' ')?;
     text.push_str(to)?;
-    text.push('\n')
+    text.push_str(end)
 }
 
 // Adds a space and the name of a kind, if it is one of those that are told.
@@ -40,16 +48,16 @@ fn push_kind(text: &mut String, is_told: bool, name: &str) -> Result<(), AllocEr
     Ok(())
 }
 
-/// Adds what a package is called, and the names of the kinds, on a line.
-pub fn push_step(text: &mut String, called: &str, kinds: Kinds) -> Result<(), AllocError>
+/// Adds what a package is called, and the names of the kinds, on a line with this end.
+pub fn push_step(text: &mut String, end: &str, called: &str, kinds: Kinds) -> Result<(), AllocError>
     ensures { OnOk result (string_bytes text.new ≡ string_bytes text.old
-        ++ line_of (joined (called.now ∷ kind_names kinds))) }
+        ++ line_of end.now (joined (called.now ∷ kind_names kinds))) }
 {
     text.push_str(called)?;
     push_kind(text, kinds.normal, "normal")?;
     push_kind(text, kinds.build, "build")?;
     push_kind(text, kinds.dev, "dev")?;
-    text.push('\n')
+    text.push_str(end)
 }
 
 /// Whether something holds, on a line.

@@ -14,6 +14,10 @@ pub const HOST_CFGS: &str = "--host-cfgs";
 pub const WORKSPACE: &str = "--workspace";
 /// Packages are called by their IDs.
 pub const IDS: &str = "--ids";
+/// Lines end with a NUL.
+pub const NULL: &str = "--null";
+/// How an answer is written.
+pub const FORMAT: &str = "--format";
 /// Members that can be published are wanted alone.
 pub const PUBLISHABLE: &str = "--publishable";
 /// A folder whose paths count for nothing.
@@ -22,6 +26,8 @@ pub const IGNORE: &str = "--ignore";
 pub const ALSO: &str = "--also";
 /// A file that has more paths.
 pub const PATHS_FROM: &str = "--paths-from";
+/// A file that has the input of the state before.
+pub const BEFORE: &str = "--before";
 /// A member that Cargo builds.
 pub const MEMBER: &str = "-p";
 /// Features that Cargo is asked for.

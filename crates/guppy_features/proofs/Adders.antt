@@ -1,5 +1,5 @@
 -- What each step adds, of what the steps within it add.
-use Rattle.std.proofs.Common.{◌≡◌, ℕ, Bool, true, false, ◌&&◌, List, Option, Some, None, ◌∙◌, refl, sym, subst}
+use Rattle.std.proofs.Common.{◌≡◌, ℕ, Bool, true, false, not, ◌&&◌, List, Option, Some, None, ◌∙◌, refl, sym, subst}
 use Rattle.std.specs.Prelude.{IsTrue, Contains, length, slice_get}
 use Rattle.std.specs.Str.{bytes_eq}
 use Rattle.std.specs.declared.string.String.{String}
@@ -10,12 +10,13 @@ use Rattle.guppy_data.specs.declared.texts.named_feature.NamedFeatureDep.{NamedF
 use Rattle.guppy_closure.specs.declared.clause.Clause.{Clause}
 use Rattle.guppy_features.specs.declared.fact.BuildPlatform.{BuildPlatform}
 use Rattle.guppy_features.specs.declared.fact.Fact.{Fact}
-use Rattle.guppy_features.specs.Facts.{feature, feature_fact}
+use Rattle.guppy_features.specs.Facts.{feature, feature_fact, switched_fact}
 use Rattle.guppy_features.specs.Dependencies.{DependencyData}
 use Rattle.guppy_features.specs.Questions.{Question, may_ask, counts, use_of}
 use Rattle.guppy_features.specs.Adding.{Adds, Where, Behind, OfSome}
+use Rattle.guppy_features.specs.Resolved.{is_resolved}
 use Rattle.guppy_features.specs.Needs.{Needs, NeedsWhere, feature_there}
-use Rattle.guppy_features.specs.Values.{Gives, GivesEither, GivesThrough, GivesWeakly, GivesStrongly}
+use Rattle.guppy_features.specs.Values.{Gives, GivesEither, GivesThrough, GivesUnresolved, GivesWeakly, GivesStrongly}
 use Rattle.guppy_features.specs.Follows.{HasValue, feature_count}
 use Rattle.guppy_features.specs.Parts.{SwitchesAt}
 use Rattle.guppy_features.proofs.Adding.{adds_same, adds_then, adds_if, adds_if_not, behind_where, behind_either, behind_if}
@@ -71,3 +72,11 @@ both_true a b h k = rw (h, k) refl
 module _ (q : Question) (s : BuildPlatform) (d : DependencyData) (x name : List ℕ) (weak : Bool) (first : Option Fact) {old new : List (Clause Fact)} where
   pub adds_through : IsTrue (bytes_eq d.name x) → IsTrue (counts q s d) → Adds (Behind first (GivesEither q s name weak d)) old new → Adds (Behind first (GivesThrough q s x name weak d)) old new
   adds_through named counted a = behind_if first (adds_if (named, counted) a)
+
+module _ (q : Question) (p : ℕ) (s : BuildPlatform) (x : List ℕ) (weak : Bool) (first : Option Fact) where
+  -- nothing by a weak value, or of an optional dependency that is resolved
+  pub adds_resolved : (clauses : List (Clause Fact)) → (not weak && not (is_resolved q.graph p x)) ≡ false → Adds (Behind first (GivesUnresolved q p s x weak)) clauses clauses
+  adds_resolved clauses not_so = behind_if first (adds_if_not clauses (λ so. let e : true ≡ false = sym so ∙ not_so in absurd cc))
+
+  pub adds_unresolved : {old new : List (Clause Fact)} → IsTrue (not weak && not (is_resolved q.graph p x)) → Adds (Where first None (switched_fact q.graph.packages p s x)) old new → Adds (Behind first (GivesUnresolved q p s x weak)) old new
+  adds_unresolved so a = behind_if first (adds_if so (behind_where first None (switched_fact q.graph.packages p s x) a))

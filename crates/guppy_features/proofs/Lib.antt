@@ -4,3 +4,4 @@ pub mod Adders
 pub mod Follows
 pub mod Reasons
 pub mod ChosenLists
+pub mod Resolving

@@ -173,6 +173,12 @@ positions c = filter (λ p. not (is_at_root c p)) c.members ++ option_to_list c.
 abbrev pub initials : ChosenData → StandardFeatures → List Value → List InitialData
 initials c standard features = map (initial c standard features) (positions c)
 
+-- the feature's name has a slash, which Cargo refuses: the value is cut at the first one
+abbrev pub has_slash : Value → Bool
+has_slash (own name) = false
+has_slash (optional x) = false
+has_slash (through x name weak) = list_any (λ b. b == 47) name
+
 -- Cargo accepts what a chosen member takes, if none hides it
 abbrev pub is_accepted_by_one : ChosenData → Value → Bool
 is_accepted_by_one c v = list_any (λ p. is_some (taken c.graph p v)) c.members
@@ -187,7 +193,8 @@ is_accepted_at_root c root (through x name weak) =
     if is_beside c root x then is_beside_with c root x name else has_dependency c.graph root x
 
 abbrev pub is_accepted : ChosenData → Value → Bool
-is_accepted c v = option_map_or (λ root. is_accepted_at_root c root v) c.root (is_accepted_by_one c v)
+is_accepted c v = not (has_slash v)
+    && option_map_or (λ root. is_accepted_at_root c root v) c.root (is_accepted_by_one c v)
 
 -- the value at the place is the first that isn't accepted
 abbrev pub IsFirstRefused : ChosenData → List Value → ℕ → Type 0

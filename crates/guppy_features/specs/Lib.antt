@@ -1,11 +1,13 @@
 pub mod Facts
 pub mod Dependencies
 pub mod Questions
+pub mod Resolved
 pub mod Adding
 pub mod Needs
 pub mod Values
 pub mod Follows
 pub mod Parts
+pub mod Unresolved
 pub mod FactOrder
 pub mod Reasons
 pub mod Chosen

@@ -1,11 +1,11 @@
 //! Which packages are asked for which features of a command line.
-ghost use Rattle.std.specs.Prelude.{◌≡◌, ℕ, ◌<◌, not, All, IfOk, IsTrue, MatchOption, Option, is_some, filter, length, map, option_map};
+ghost use Rattle.std.specs.Prelude.{◌≡◌, ◌==◌, ℕ, ◌<◌, not, All, IfOk, IsTrue, MatchOption, Option, is_some, filter, length, map, option_map};
 ghost use Rattle.std.specs.List.{filter_map, list_any};
 ghost use Rattle.std.specs.Option.{IfSome};
 ghost use Rattle.std.specs.Str.{bytes_eq};
 ghost use Rattle.std.specs.String.{string_bytes};
 ghost use Rattle.guppy_features.specs.Dependencies.{links_from};
-ghost use Rattle.guppy_features.specs.Chosen.{AreWithin, IsRootFor, IsAnswer, IsFirstRefused, through, beside_root, chosen, chosen_of, has_dependency, has_feature, has_optional, hides, initial, initials, is_accepted, is_accepted_at_root, is_at_root, is_beside, is_beside_with, is_hidden, is_named, is_other, seen_initial, seen_value, seen_wanted, standard_of, taken, taken_at_root, taken_by_name, taken_of};
+ghost use Rattle.guppy_features.specs.Chosen.{AreWithin, IsRootFor, IsAnswer, IsFirstRefused, through, beside_root, chosen, chosen_of, has_dependency, has_feature, has_optional, has_slash, hides, initial, initials, is_accepted, is_accepted_at_root, is_at_root, is_beside, is_beside_with, is_hidden, is_named, is_other, seen_initial, seen_value, seen_wanted, standard_of, taken, taken_at_root, taken_by_name, taken_of};
 
 use crate::options::{CargoResolverVersion, Initial, StandardFeatures};
 use guppy_core::DependencyDirection;
@@ -45,7 +45,8 @@ impl From<AllocError> for ChosenFault {
 /// not for them.
 ///
 /// Fails with `UnknownFeature`, with the place of the first of the features that Cargo refuses: none of these packages
-/// has it, or one has an optional dependency of its name, which is used as `dep:x` alone; and `dep:x` itself. Whether a
+/// has it, or one has an optional dependency of its name, which is used as `dep:x` alone; and `dep:x` itself, and what has
+/// a second slash, as `x/F/G`. Whether a
 /// dependency x has the feature F of `x/F` isn't looked at. Dependencies that the metadata lack count only if they are
 /// optional. Else it fails with `OutOfMemory`, only where there is none.
 ///
@@ -148,6 +149,9 @@ impl Chosen<'_> {
         requires { AreWithin (chosen_of self) }
         ensures { result ≡ is_accepted (chosen_of self.entry) (seen_value feature.now) }
     {
+        if has_slash(feature) {
+            return false;
+        }
         match self.root {
             Some(root) => self.is_accepted_at_root(root, feature),
             None => self.is_taken(feature) && !self.is_hidden(feature),
@@ -371,6 +375,23 @@ impl Chosen<'_> {
                 })
             }
         }
+    }
+}
+
+// Whether the name has a slash.
+fn is_cut(name: &str) -> bool
+    ensures { result ≡ list_any (λ b. b == 47) name.now }
+{
+    name.as_bytes().iter().any(|byte| *byte == b'/')
+}
+
+// Whether the feature of a dependency has a slash in its name.
+fn has_slash(feature: &NamedFeatureDep) -> bool
+    ensures { result ≡ has_slash (seen_value feature.now) }
+{
+    match feature {
+        NamedFeatureDep::DependencyNamedFeature { feature, .. } => is_cut(feature.as_str()),
+        _ => false,
     }
 }
 

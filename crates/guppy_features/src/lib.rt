@@ -15,12 +15,14 @@
 //! - `options`: what is asked of Cargo;
 //! - `dependencies`: the dependencies of a package, six for each link that leaves it;
 //! - `question`: the graph with what is asked, and what both say of a dependency;
+//! - `resolved`: which optional dependencies links are of;
 //! - `rules`: a list of clauses, each of which says that a fact follows from at most two;
 //! - `needs`, `values` and `roots`: the clauses by what a dependency needs, by what a feature's value switches on, and by
 //!   what is asked of a chosen package;
 //! - `clauses`: all of them;
 //! - `reason`: why a fact holds, in steps;
 //! - `set`: the facts that hold;
+//! - `unresolved`: optional dependencies that are switched on though nothing is resolved for them;
 //! - `chosen`: which packages are asked for what, by a command line's features.
 #![tactic(auto)]
 
@@ -32,9 +34,11 @@ mod needs;
 mod options;
 mod question;
 mod reason;
+mod resolved;
 mod roots;
 mod rules;
 mod set;
+mod unresolved;
 mod values;
 
 pub use crate::chosen::{ChosenFault, initials_for};
@@ -43,4 +47,5 @@ pub use crate::options::{CargoOptions, CargoResolverVersion, Initial, StandardFe
 pub use crate::question::{Asked, is_macro_library, may_be_on};
 pub use crate::reason::Reason;
 pub use crate::set::CargoSet;
+pub use crate::unresolved::OptionalDependency;
 pub use guppy_closure::ClosureFault;

@@ -3,11 +3,12 @@ ghost use Rattle.std.specs.Prelude.{◌<◌, OnOk, length, map, All};
 ghost use Rattle.guppy_features.specs.Dependencies.{seen_dependency, AreOf, IsWithin};
 ghost use Rattle.guppy_features.specs.Questions.{question_of};
 ghost use Rattle.guppy_features.specs.Adding.{Adds, Behind, OfSome};
-ghost use Rattle.guppy_features.specs.Values.{Gives, GivesStrongly, GivesThrough, GivesWeakly};
+ghost use Rattle.guppy_features.specs.Values.{Gives, GivesStrongly, GivesThrough, GivesUnresolved, GivesWeakly};
 
 use crate::dependencies::Dependency;
 use crate::fact::{BuildPlatform, Fact};
 use crate::question::Asked;
+use crate::resolved::has_optional;
 use crate::rules::{Rules, add_rule};
 use guppy_data::NamedFeatureDep;
 use std::alloc::AllocError;
@@ -73,16 +74,52 @@ impl Asked<'_> {
                 dep_name,
                 feature,
                 weak,
-            } => self.add_through_all(
-                rules,
-                side,
-                dependencies,
-                first,
-                dep_name.as_str(),
-                feature.as_str(),
-                *weak,
-            ),
+            } => {
+                self.add_through_all(
+                    rules,
+                    side,
+                    dependencies,
+                    first,
+                    dep_name.as_str(),
+                    feature.as_str(),
+                    *weak,
+                )?;
+                self.add_unresolved(
+                    rules,
+                    position,
+                    side,
+                    dependencies,
+                    first,
+                    dep_name.as_str(),
+                    *weak,
+                )
+            }
         }
+    }
+
+    // Adds that the optional dependency of the name is switched on, unless it is resolved or the value is weak.
+    fn add_unresolved(
+        self,
+        rules: &mut Rules,
+        position: usize,
+        side: BuildPlatform,
+        dependencies: &[Dependency<'_>],
+        first: Option<Fact>,
+        name: &str,
+        weak: bool,
+    ) -> Result<(), AllocError>
+        requires within { position < length self.graph.now.packages }
+        requires dependencies { AreOf self.graph.now position dependencies.now }
+        ensures { OnOk result (Adds (Behind first (GivesUnresolved (question_of self.entry) position side name.now weak))
+            rules.old.items rules.new.items) }
+    {
+        if weak {
+            return Ok(());
+        }
+        if has_optional(dependencies, name) {
+            return Ok(());
+        }
+        add_rule(rules, first, None, self.switched(position, side, name))
     }
 
     // Adds what a feature of those dependencies that have the name switches on.

@@ -12,7 +12,7 @@ use Rattle.guppy_data.specs.declared.records.LinkRecord.{LinkRecord}
 use Rattle.guppy_data.specs.declared.records.WorkspaceRecord.{WorkspaceRecord}
 use Rattle.guppy_data.specs.declared.texts.dependency_kind.DependencyKind.{DependencyKind}
 use Rattle.guppy_lines.specs.declared.fault.RunFault.{RunFault}
-use Rattle.guppy_lines.specs.declared.fault.RunFault.TheVariants.{Library, BadArguments, NoWalk, Unpublishable, Build, BadLine, InputFailed, OutputFailed}
+use Rattle.guppy_lines.specs.declared.fault.RunFault.TheVariants.{Library, BadArguments, NoWalk, Unpublishable, Build, Before, BadLine, InputFailed, OutputFailed}
 use Rattle.guppy_data.specs.declared.records.Records.{Records}
 use Rattle.guppy_lines.specs.Text.{Statement, a_package, a_link, statement_of, is_good, words}
 use Rattle.guppy_lines.specs.Records.{AreRecordsOf, IsPackageOf, IsLinkOf, package_of, link_of}
@@ -84,6 +84,7 @@ bad_line text rest line after passed BadArguments was first is = is
 bad_line text rest line after passed (NoWalk from to) was first is = is
 bad_line text rest line after passed (Unpublishable member needed) was first is = is
 bad_line text rest line after passed (Build fault) was first is = is
+bad_line text rest line after passed (Before told) was first is = is
 bad_line text rest line after passed (BadLine n) was first is = record {
   before = passed;
   counted = is.0;

@@ -3,9 +3,9 @@ use Rattle.std.specs.Prelude.{ℕ, List, ◌++◌, codes, string_bytes}
 use Rattle.std.specs.Fmt.{decimal}
 use Rattle.guppy_data.specs.Texts.{error_text}
 use Rattle.guppy_command.specs.BuildFault.{build_cause_of, build_fault_text}
-use Rattle.guppy_command.specs.Cause.{Cause, library, bad_arguments, no_walk, unpublishable, build, bad_input, input_failed, output_failed}
+use Rattle.guppy_command.specs.Cause.{Cause, library, bad_arguments, no_walk, unpublishable, build, bad_before, bad_input, input_failed, output_failed}
 use Rattle.guppy_lines.specs.declared.fault.RunFault.{RunFault}
-use Rattle.guppy_lines.specs.declared.fault.RunFault.TheVariants.{Library, BadArguments, NoWalk, Unpublishable, Build, BadLine, InputFailed, OutputFailed}
+use Rattle.guppy_lines.specs.declared.fault.RunFault.TheVariants.{Library, BadArguments, NoWalk, Unpublishable, Build, Before, BadLine, InputFailed, OutputFailed}
 
 abbrev pub fault_text : RunFault → List ℕ
 fault_text (Library error) = error_text error
@@ -15,6 +15,7 @@ fault_text (NoWalk from to) =
 fault_text (Unpublishable member needed) = string_bytes member
     ++ (codes " can't be published: it needs " ++ (string_bytes needed ++ codes ", which isn't publishable"))
 fault_text (Build fault) = build_fault_text fault
+fault_text (Before text) = codes "the state before: " ++ string_bytes text
 fault_text (BadLine number) = codes "bad line " ++ decimal number
 fault_text InputFailed = codes "input failed"
 fault_text OutputFailed = codes "output failed"
@@ -32,6 +33,7 @@ cause_of BadArguments = bad_arguments
 cause_of (NoWalk from to) = no_walk (string_bytes from) (string_bytes to)
 cause_of (Unpublishable member needed) = unpublishable (string_bytes member) (string_bytes needed)
 cause_of (Build fault) = build (build_cause_of fault)
+cause_of (Before text) = bad_before (string_bytes text)
 cause_of (BadLine number) = bad_input
 cause_of InputFailed = input_failed
 cause_of OutputFailed = output_failed

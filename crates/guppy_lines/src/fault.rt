@@ -32,6 +32,8 @@ pub enum RunFault {
     },
     /// There is no answer on what Cargo builds.
     Build(BuildFault),
+    /// The state before is none, and why. No command of lines asks for it.
+    Before(String),
     /// This line is the first bad one, where all lines are counted from 1.
     BadLine(u64),
     /// The input could not be read.
@@ -72,6 +74,7 @@ impl fmt::Display for RunFault {
                 )
             }
             RunFault::Build(fault) => write!(f, "{fault}"),
+            RunFault::Before(text) => write!(f, "the state before: {text}"),
             RunFault::BadLine(number) => write!(f, "bad line {number}"),
             RunFault::InputFailed => write!(f, "input failed"),
             RunFault::OutputFailed => write!(f, "output failed"),
@@ -93,6 +96,7 @@ impl ProgramFault for RunFault {
             Fault::NoWalk { from, to } => RunFault::NoWalk { from, to },
             Fault::Unpublishable { member, needed } => RunFault::Unpublishable { member, needed },
             Fault::Build(fault) => RunFault::Build(fault),
+            Fault::Before(text) => RunFault::Before(text),
             Fault::InputFailed => RunFault::InputFailed,
             Fault::OutputFailed => RunFault::OutputFailed,
         }

@@ -11,8 +11,8 @@ use crate::records::id_of;
 use guppy::{Error, PackageGraph, PackageId};
 use guppy_command::found::asked_of;
 use guppy_command::table::{
-    ALL_FEATURES, CFGS, FEATURES, HOST, HOST_CFGS, IDS, KINDS, MEMBER, NO_DEFAULT_FEATURES,
-    PLATFORM, RESOLVER, TESTS, WORKSPACE,
+    ALL_FEATURES, CFGS, FEATURES, FORMAT, HOST, HOST_CFGS, IDS, KINDS, MEMBER, NO_DEFAULT_FEATURES,
+    NULL, PLATFORM, RESOLVER, TESTS, WORKSPACE,
 };
 use guppy_command::{Asked, Files, Misread, OptionRow, Program};
 use guppy_data::{PackageRecord, Records, VerifyFault};
@@ -35,6 +35,24 @@ const OF_LINKS: &[&str] = &[
     "dot",
 ];
 
+// The commands whose answer is a list, an item a line.
+const OF_LISTS: &[&str] = &[
+    "reach",
+    "why",
+    "order",
+    "roots",
+    "links",
+    "cycles",
+    "duplicates",
+    "built",
+    "features",
+    "why-feature",
+    "publish-order",
+];
+
+// The commands whose answer is packages alone.
+const OF_PACKAGES: &[&str] = &["reach", "order", "roots", "publish-order"];
+
 // The commands that ask what Cargo builds.
 const OF_BUILDS: &[&str] = &["built", "features", "why-feature"];
 
@@ -47,6 +65,8 @@ const OPTIONS: &[OptionRow] = &[
     (HOST_CFGS, Some("FILE"), false, None, ""),
     (WORKSPACE, None, false, None, ""),
     (IDS, None, false, None, ""),
+    (NULL, None, false, Some(OF_LISTS), ""),
+    (FORMAT, Some("FORMAT"), false, Some(OF_PACKAGES), ""),
     (MEMBER, Some("MEMBER"), true, Some(OF_BUILDS), ""),
     (FEATURES, Some("LIST"), true, Some(OF_BUILDS), ""),
     (ALL_FEATURES, None, false, Some(OF_BUILDS), ""),
@@ -138,6 +158,26 @@ impl Format for Lines {
 
     fn cycle(ids: Vec<PackageId>, _round: String) -> RunFault {
         RunFault::Library(Error::PackageGraphInternalError(VerifyFault::Cycle(ids)))
+    }
+
+    fn told(alloc: Global, fault: &RunFault) -> Result<String, AllocError> {
+        format!(in alloc; "{fault}")
+    }
+
+    fn means(
+        alloc: Global,
+        graph: &PackageGraph,
+        _names: &(),
+        word: &str,
+        id: &PackageId,
+    ) -> Result<bool, AllocError> {
+        let Ok(other) = id_of(alloc, word) else {
+            return Err(AllocError);
+        };
+        match has_package(graph, &other) {
+            Ok(has) => Ok(has && *id == other),
+            Err(_) => Err(AllocError),
+        }
     }
 
     fn find(

@@ -10,8 +10,8 @@ pub viewed_more : {X Y : Type 0} (view : X → Y) (items : List X) (i : ℕ) (x 
 viewed_more view items i x within is = ap (map view) (take_more items i x within) ∙ map_push view (take i items) (get_or items i x) ∙ ap (λ y. map view (take i items) ++ view y ∷ []) (sym is)
 
 -- their lines, with that of one more
-pub lines_more : {Y : Type 0} (text : Y → List ℕ) (ys : List Y) (y : Y) → lines_of (map text (ys ++ y ∷ [])) ≡ lines_of (map text ys) ++ line_of (text y)
-lines_more text ys y = ap lines_of (map_push text ys y) ∙ flat_map-append line_of (map text ys) (text y ∷ []) ∙ ap (λ l. lines_of (map text ys) ++ l) (append-nil (line_of (text y)))
+pub lines_more : {Y : Type 0} (end : List ℕ) (text : Y → List ℕ) (ys : List Y) (y : Y) → lines_of end (map text (ys ++ y ∷ [])) ≡ lines_of end (map text ys) ++ line_of end (text y)
+lines_more end text ys y = ap (lines_of end) (map_push text ys y) ∙ flat_map-append (line_of end) (map text ys) (text y ∷ []) ∙ ap (λ l. lines_of end (map text ys) ++ l) (append-nil (line_of end (text y)))
 
 -- these texts, each with an arrow behind it
 abbrev pub arrowed : List (List ℕ) → List ℕ

@@ -6,6 +6,7 @@ pub mod Refusals
 pub mod GivenFolders
 pub mod PackageLists
 pub mod PublishableMembers
+pub mod FlaggedPackages
 pub mod Hindrances
 pub mod RefusedFeatures
 pub mod Runs

@@ -6,7 +6,7 @@ use Rattle.std.specs.List.{AllZip}
 use Rattle.guppy_data.specs.declared.records.PackageRecord.{PackageRecord}
 use Rattle.guppy_data.specs.declared.texts.error.Error.{Error}
 use Rattle.guppy_data.specs.declared.texts.error.Error.TheVariants.{PackageGraphConstructError, UnknownPackageId, UnknownFeatureId, UnknownWorkspacePath, UnknownWorkspaceName, PackageGraphInternalError, FeatureGraphInternalError, OutOfMemory}
-use Rattle.guppy_command.specs.Cause.{Cause, library, bad_arguments, ambiguous, no_walk, unpublishable, build, bad_input, input_failed, output_failed}
+use Rattle.guppy_command.specs.Cause.{Cause, library, bad_arguments, ambiguous, no_walk, unpublishable, build, bad_before, bad_input, input_failed, output_failed}
 use Rattle.guppy_command.specs.Command.{Command}
 use Rattle.guppy_program.specs.Meant.{Means}
 use Rattle.guppy_program.specs.Format.{Format, IsUnclear}
@@ -82,6 +82,7 @@ module _ {Fault : Type 0} (format : Format Fault) where
     unclear_word fault (no_walk from to) is = absurd is
     unclear_word fault (unpublishable member needed) is = absurd is
     unclear_word fault (build why) is = absurd is
+    unclear_word fault (bad_before text) is = absurd is
     unclear_word fault bad_input is = absurd is
     unclear_word fault input_failed is = absurd is
     unclear_word fault output_failed is = absurd is
@@ -101,6 +102,7 @@ module _ {Fault : Type 0} (format : Format Fault) where
   command_word call command g fault (no_walk from to) is = absurd is
   command_word call command g fault (unpublishable member needed) is = absurd is
   command_word call command g fault (build why) is = absurd is
+  command_word call command g fault (bad_before text) is = is
   command_word call command g fault bad_input is = is
   command_word call command g fault input_failed is = is
   command_word call command g fault output_failed is = is
@@ -113,6 +115,7 @@ module _ {Fault : Type 0} (format : Format Fault) where
   no_build places call command g fault (no_walk from to) is = is
   no_build places call command g fault (unpublishable member needed) is = is
   no_build places call command g fault (build why) is = absurd is
+  no_build places call command g fault (bad_before text) is = is
   no_build places call command g fault bad_input is = is
   no_build places call command g fault input_failed is = is
   no_build places call command g fault output_failed is = is
@@ -132,6 +135,7 @@ module _ {Fault : Type 0} (format : Format Fault) where
   word_before packages words more fault (no_walk from to) is = absurd is
   word_before packages words more fault (unpublishable member needed) is = absurd is
   word_before packages words more fault (build why) is = absurd is
+  word_before packages words more fault (bad_before text) is = absurd is
   word_before packages words more fault bad_input is = absurd is
   word_before packages words more fault input_failed is = absurd is
   word_before packages words more fault output_failed is = absurd is
@@ -156,6 +160,7 @@ module _ {Fault : Type 0} (format : Format Fault) where
   told_of call command g asks fault (no_walk from to) is = absurd is
   told_of call command g asks fault (unpublishable member needed) is = absurd is
   told_of call command g asks fault (build why) is = absurd is
+  told_of call command g asks fault (bad_before text) is = absurd is
   told_of call command g asks fault bad_input is = absurd is
   told_of call command g asks fault input_failed is = absurd is
   told_of call command g asks fault output_failed is = absurd is

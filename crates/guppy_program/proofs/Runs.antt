@@ -1,5 +1,5 @@
 -- What a run that has read the whole input owes.
-use Rattle.std.proofs.Common.{◌≡◌, inr, sym, subst, ℕ, List, ◌++◌, length}
+use Rattle.std.proofs.Common.{◌≡◌, ◌⊎◌, inl, inr, sym, subst, ℕ, List, ◌++◌, length}
 use Rattle.std.specs.Prelude.{Option}
 use Rattle.guppy_data.specs.declared.texts.error.Error.{Error}
 use Rattle.guppy_data.specs.declared.texts.error.Error.TheVariants.{PackageGraphConstructError, UnknownPackageId, UnknownFeatureId, UnknownWorkspacePath, UnknownWorkspaceName, PackageGraphInternalError, FeatureGraphInternalError, OutOfMemory}
@@ -7,12 +7,13 @@ use Rattle.guppy.specs.Accepted.{distinct_ids}
 use Rattle.guppy.specs.Graph.{GraphData}
 use Rattle.guppy.specs.Ids.{DistinctBelow}
 use Rattle.guppy_command.specs.Asked.{Asked}
-use Rattle.guppy_command.specs.Cause.{Cause, library, bad_arguments, ambiguous, no_walk, unpublishable, build, bad_input, input_failed, output_failed, OrMemory}
+use Rattle.guppy_command.specs.Cause.{Cause, library, bad_arguments, ambiguous, no_walk, unpublishable, build, bad_before, bad_input, input_failed, output_failed, OrMemory}
 use Rattle.guppy_program.specs.Format.{Format}
-use Rattle.guppy_program.specs.Loaded.{IsLoaded}
+use Rattle.guppy_program.specs.Loaded.{IsBadBefore, IsLoaded}
 use Rattle.guppy_program.specs.Answer.{IsFaultOn}
 use Rattle.guppy_program.specs.Printed.{called}
-use Rattle.guppy_program.specs.Run.{IsAnswerTo, IsBegun, IsFaultOf, IsSourceFault, OfWholeInput, places_of}
+use Rattle.guppy_program.specs.Builds.{places_of}
+use Rattle.guppy_program.specs.Run.{IsAnswerTo, IsBegun, IsFaultOf, IsSourceFault, OfWholeInput}
 
 module _ {P : Type 0} where
   pub OrMemory-holds : (error : Error) → P → OrMemory P error
@@ -42,9 +43,15 @@ module _ {Fault : Type 0} (format : Format Fault) where
   command_fault asked input g loaded fault (no_walk from to) is = (g, loaded, is)
   command_fault asked input g loaded fault (unpublishable member needed) is = (g, loaded, is)
   command_fault asked input g loaded fault (build why) is = (g, loaded, is)
+  command_fault asked input g loaded fault (bad_before text) is = absurd is
   command_fault asked input g loaded fault bad_input is = absurd is
   command_fault asked input g loaded fault input_failed is = absurd is
   command_fault asked input g loaded fault output_failed is = absurd is
+
+  -- why the state before is none is a fault of what is asked, or memory ran out
+  pub before_fault : (asked : Asked) (input : List ℕ) (fault : Fault) (cause : Cause) → ((text : List ℕ) × IsBadBefore format asked text × (cause ≡ bad_before text)) ⊎ (cause ≡ library OutOfMemory) → IsFaultOf format asked input fault cause
+  before_fault asked input fault cause (inl (text, is, same)) = subst (IsFaultOf format asked input fault) (sym same) is
+  before_fault asked input fault cause (inr same) = subst (IsFaultOf format asked input fault) (sym same) tt
 
   -- a fault on the whole input is one of the source
   pub source_fault : (asked : Asked) (old new : Option (List ℕ)) (fault : Fault) (cause : Cause) → OfWholeInput old new (λ input. IsFaultOf format asked input fault cause) → IsSourceFault format asked old new fault cause
@@ -54,6 +61,7 @@ module _ {Fault : Type 0} (format : Format Fault) where
   source_fault asked old new fault (no_walk from to) whole = whole
   source_fault asked old new fault (unpublishable member needed) whole = whole
   source_fault asked old new fault (build why) whole = whole
+  source_fault asked old new fault (bad_before text) whole = whole
   source_fault asked old new fault bad_input whole = whole
   source_fault asked old new fault input_failed whole = tt
   source_fault asked old new fault output_failed whole = absurd whole.holds

@@ -5,6 +5,7 @@ use Rattle.guppy_data.specs.Platform.{Question, question_of}
 use Rattle.guppy_target.specs.Platform.{PlatformData}
 use Rattle.guppy.specs.Graph.{GraphData}
 use Rattle.guppy.specs.Ids.{IsKnown}
+use Rattle.guppy_command.specs.Asked.{Asked}
 use Rattle.guppy_command.specs.Cause.{BuildCause, unknown_feature, lacks_feature, feature_off}
 use Rattle.guppy_command.specs.Command.{BuildRequest, Command, built, features, why_feature}
 use Rattle.guppy_built.specs.Asked.{Choice, IsRefused}
@@ -15,6 +16,10 @@ use Rattle.guppy_program.specs.Meant.{Means}
 pub record Places : Type 0 where
   pub target : Question PlatformData
   pub host : Question PlatformData
+
+-- those that are asked about
+abbrev pub places_of : Asked → Places
+places_of asked = record { target = asked.question; host = asked.host }
 
 -- the choice is the one that is asked for: its members are those that the words mean
 pub record IsChosen (places : Places) (g : GraphData) (meant : List ℕ → List (List ℕ)) (request : BuildRequest)

@@ -6,5 +6,7 @@ pub mod Publish
 pub mod Meant
 pub mod Builds
 pub mod Answer
+pub mod Flags
 pub mod Printed
+pub mod Since
 pub mod Run

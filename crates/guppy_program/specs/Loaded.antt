@@ -1,5 +1,5 @@
 -- The package graph of the records that an input says, with the links that are asked for.
-use Rattle.std.specs.Prelude.{◌≡◌, ◌↔◌, ℕ, Bool, true, false, ◌||◌, List, Contains, if◌then◌else◌}
+use Rattle.std.specs.Prelude.{◌≡◌, ◌↔◌, ℕ, Bool, true, false, ◌||◌, List, Option, Some, None, Contains, if◌then◌else◌}
 use Rattle.guppy_data.specs.declared.records.PackageRecord.{PackageRecord}
 use Rattle.guppy_data.specs.declared.records.LinkRecord.{LinkRecord}
 use Rattle.guppy_data.specs.declared.records.WorkspaceRecord.{WorkspaceRecord}
@@ -76,3 +76,18 @@ module _ {Fault : Type 0} (format : Format Fault) (asked : Asked) (input : List 
   IsLoadFault fault bad_input = format.refuses (reads_details asked) input fault
   IsLoadFault fault (library error) = OrMemory (AreRefused error) error
   IsLoadFault fault _ = ⊥
+
+-- the graph of the state before, where its input is given, with the links that are asked for
+abbrev pub IsLoadedBefore : {Fault : Type 0} → Format Fault → Asked → Option GraphData → Type 0
+IsLoadedBefore format asked None = asked.before ≡ None
+IsLoadedBefore format asked (Some before) =
+    (input : List ℕ) × (asked.before ≡ Some input) × IsLoaded format asked input before
+
+-- the input of the state before says no graph, and the text tells why
+pub record IsBadBefore {Fault : Type 0} (format : Format Fault) (asked : Asked) (text : List ℕ) : Type 0 where
+  pub input : List ℕ
+  pub given : asked.before ≡ Some input
+  pub fault : Fault
+  pub cause : Cause
+  pub why : IsLoadFault format asked input fault cause
+  pub told : format.tells fault text

@@ -3,31 +3,30 @@ use Rattle.std.specs.Prelude.{◌≡◌, ◌⊎◌, ℕ, Bool, List, ◌++◌, O
 use Rattle.std.specs.Io.KnownBytes.{IsAtEnd, Appends}
 use Rattle.guppy.specs.Graph.{GraphData}
 use Rattle.guppy_command.specs.Asked.{Asked}
-use Rattle.guppy_command.specs.Cause.{Cause, library, bad_arguments, ambiguous, no_walk, unpublishable, build, bad_input, input_failed, output_failed, OrMemory, caused, is_input_fault, is_output_fault}
+use Rattle.guppy_command.specs.Cause.{Cause, library, bad_arguments, ambiguous, no_walk, unpublishable, build, bad_input, input_failed, output_failed, OrMemory, caused, is_input_fault, is_output_fault, bad_before}
+use Rattle.guppy_command.specs.Printed.{line_end}
 use Rattle.guppy_program.specs.Format.{Format}
-use Rattle.guppy_program.specs.Loaded.{IsLoaded, AreRefused, reads_details}
-use Rattle.guppy_program.specs.Answer.{Answer, IsAnswerOn, IsFaultOn, shown}
-use Rattle.guppy_program.specs.Builds.{Places}
-use Rattle.guppy_program.specs.Printed.{IsPrinted, called}
+use Rattle.guppy_program.specs.Loaded.{IsLoaded, AreRefused, reads_details, IsBadBefore, IsLoadedBefore}
+use Rattle.guppy_program.specs.Answer.{Answer, IsFaultOn, shown}
+use Rattle.guppy_program.specs.Builds.{places_of}
+use Rattle.guppy_program.specs.Printed.{IsPrinted, called, item_of}
+use Rattle.guppy_program.specs.Since.{IsAnswerSince}
 
--- the platforms that are asked about
-abbrev pub places_of : Asked → Places
-places_of asked = record { target = asked.question; host = asked.host }
-
--- the output is an answer to what is asked, of this graph: of the command's answer it has what the
--- options have shown, each package as they have it called
-pub record IsAnswerOf {Fault : Type 0} (format : Format Fault) (asked : Asked) (g : GraphData)
-    (output : List ℕ) : Type 0 where
+-- the output is an answer to what is asked, of this graph, and of that of the state before, where there is one: of the
+-- command's answer it has what the options have shown, each package as they have it called
+pub record IsAnswerOf {Fault : Type 0} (format : Format Fault) (asked : Asked) (before : Option GraphData)
+    (g : GraphData) (output : List ℕ) : Type 0 where
   pub answer : Answer
-  pub answers : IsAnswerOn (places_of asked) (format.meant g.packages) asked.command g answer
-  pub printed : IsPrinted (called asked.options (format.text g.packages))
-      (shown asked.options g.packages answer) output
+  pub answers : IsAnswerSince asked before (format.meant g.packages) asked.command g answer
+  pub printed : IsPrinted (line_end asked.options) (item_of format asked.options g.packages)
+      (called asked.options (format.text g.packages)) (shown asked.options g.packages answer) output
 
 -- the output is an answer to what is asked, of the graph that the input says, with the links that are
 -- asked for
 abbrev pub IsAnswerTo : {Fault : Type 0} → Format Fault → Asked → List ℕ → List ℕ → Type 0
 IsAnswerTo format asked input output = (g : GraphData)
-    × IsLoaded format asked input g × IsAnswerOf format asked g output
+    × IsLoaded format asked input g
+    × ((before : Option GraphData) × IsLoadedBefore format asked before × IsAnswerOf format asked before g output)
 
 -- the command is refused so, of this graph, with each package as the options have it called
 abbrev pub IsRefusedOf : {Fault : Type 0} → Format Fault → Asked → List ℕ → Fault → Cause → Type 0
@@ -49,6 +48,7 @@ IsFaultOf format asked input fault (unpublishable member needed) =
     IsRefusedOf format asked input fault (unpublishable member needed)
 IsFaultOf format asked input fault (build cause) =
     IsRefusedOf format asked input fault (build cause)
+IsFaultOf format asked input fault (bad_before text) = IsBadBefore format asked text
 IsFaultOf format asked input fault _ = ⊥
 
 -- the source has come to its end, and P holds of what was read, which is all that it had where that

@@ -1,5 +1,5 @@
 //! What a command answers of a package graph.
-ghost use Rattle.std.specs.Prelude.{◌≡◌, ◌↔◌, ◌∷◌, [], ℕ, List, map, string_bytes, IfOk, IfErr, IsOkUnless, OnOk, All, length};
+ghost use Rattle.std.specs.Prelude.{◌≡◌, ◌↔◌, ◌∷◌, [], ℕ, List, map, option_map, codes, string_bytes, IfOk, IfErr, IsOkUnless, OnOk, All, length};
 ghost use Rattle.std.specs.List.{AllZip};
 ghost use Rattle.guppy.specs.Ids.{IsKnown, DistinctBelow};
 ghost use Rattle.guppy.specs.ListedCycles.{cycle_left};
@@ -8,10 +8,12 @@ ghost use Rattle.guppy.specs.Refused.{NamesId, IsFirstUnknown};
 ghost use Rattle.guppy.specs.Views.{link_data};
 ghost use Rattle.guppy_affected.specs.Folders.{given_in};
 ghost use Rattle.guppy_command.specs.Cause.{Cause, library};
-ghost use Rattle.guppy_program.specs.Answer.{IsReached, AreReached, IsReachAnswer, TellsDependence, IsDependsAnswer, IsOrderAnswer, IsRootsAnswer, IsLinksAnswer, IsCyclesAnswer, IsDuplicatesAnswer, IsVerifyAnswer, IsDotAnswer, IsAffectedAnswer, AreGiven, TellsAffected, IsAnswerOn, IsFaultOn, IsWordFault, IsVerifyTold, end_ids};
+ghost use Rattle.guppy_program.specs.Answer.{IsReached, AreReached, IsReachAnswer, TellsDependence, IsDependsAnswer, IsOrderAnswer, IsRootsAnswer, IsLinksAnswer, IsCyclesAnswer, IsDuplicatesAnswer, IsVerifyAnswer, IsDotAnswer, IsAffectedAnswer, AreGiven, TellsAffected, IsFaultOn, IsWordFault, IsVerifyTold, end_ids};
 ghost use Rattle.guppy_program.specs.Meant.{Means};
 ghost use Rattle.guppy_program.specs.Printed.{called};
-ghost use Rattle.guppy_program.specs.Run.{places_of};
+ghost use Rattle.guppy_program.specs.Builds.{places_of};
+ghost use Rattle.guppy_program.specs.Since.{AreChangedSince, HaveChanged, IsAnswerSince, IsSetting, IsSinceAnswer, TellsAffectedSince};
+ghost use Rattle.guppy_changes.specs.Changes.{setting_of};
 ghost use Rattle.guppy_command.specs.Shown.{asked_shown, command_shown, texts};
 ghost use Rattle.guppy_program.specs.Shown.{answer_shown};
 
@@ -22,12 +24,14 @@ use crate::verify::verified;
 use crate::why::why;
 use guppy::graph::DependencyDirection;
 use guppy::{CycleIds, Error, PackageGraph, PackageId, PackageLink, PackageSet};
-use guppy_affected::affected;
+use guppy_affected::{affected, affected_after};
 use guppy_built::{BuiltPackage, FeatureOn, NamedReason};
+use guppy_changes::{BuildSetting, changed_packages};
 use guppy_command::fault::{passed_on, want_of_memory};
 use guppy_command::{Asked, Command, Kinds, Options, ProgramFault};
 use guppy_dot::{Drawing, drawing_of};
 use guppy_extras::duplicates;
+use guppy_features::StandardFeatures;
 use std::alloc::{AllocError, Global};
 
 /// A package to which a walk of links leads.
@@ -320,6 +324,19 @@ fn tested<'g>(
     Ok(Answer::List(affected(graph, paths, ignored, given)?))
 }
 
+// The folders to leave out, and the workspace's `Cargo.lock`.
+fn with_lock(alloc: Global, ignored: &[String]) -> Result<Vec<String>, AllocError>
+    ensures { IfOk result (λ more. map string_bytes more.items
+        ≡ codes "Cargo.lock" ∷ map string_bytes ignored.now) }
+{
+    let mut more = Vec::new(alloc);
+    more.push(String::from_str(alloc, "Cargo.lock")?)?;
+    for folder in ignored {
+        more.push(folder.clone()?)?;
+    }
+    Ok(more)
+}
+
 // The members to test, with folders that belong to the packages that their words mean.
 fn tested_also<'g, F: Format>(
     alloc: Global,
@@ -341,7 +358,91 @@ fn tested_also<'g, F: Format>(
     passed_on(tested(graph, ignored, given.as_slice(), paths))
 }
 
-/// What the command answers of the graph, whose packages have these names.
+// How both states are built, with these features of members.
+fn setting_of<'p>(asked: &'p Asked<'_>, standard: StandardFeatures) -> BuildSetting<'p>
+    ensures { IsSetting (asked_shown asked.now) standard (setting_of result) }
+{
+    BuildSetting {
+        standard,
+        target_platform: &asked.platforms,
+        host_platform: &asked.host,
+        resolver: asked.resolver,
+    }
+}
+
+// The packages that changed between the states, where members are built with these features.
+fn changed_with<'g>(
+    graph: &'g PackageGraph,
+    before: &PackageGraph,
+    asked: &Asked<'_>,
+    standard: StandardFeatures,
+) -> Result<Vec<&'g PackageId>, AllocError>
+    ensures { IfOk result (λ ids. HaveChanged (asked_shown asked.now) before.now graph.now standard
+        (map (λ id. id.now) ids.items)) }
+{
+    let setting = setting_of(asked, standard);
+    changed_packages(graph.alloc(), before.records(), graph.records(), &setting)
+}
+
+// Those that did with the default features of members, and those that did with all of them.
+fn changed_since<'g>(
+    graph: &'g PackageGraph,
+    before: &PackageGraph,
+    asked: &Asked<'_>,
+) -> Result<Vec<&'g PackageId>, AllocError>
+    ensures { IfOk result (λ ids. AreChangedSince (asked_shown asked.now) before.now graph.now
+        (map (λ id. id.now) ids.items)) }
+{
+    let mut changed = changed_with(graph, before, asked, StandardFeatures::Default)?;
+    let mut more = changed_with(graph, before, asked, StandardFeatures::All)?;
+    changed.append(&mut more)?;
+    Ok(changed)
+}
+
+// The members to test, where there is a state before.
+fn tested_after<'g>(
+    graph: &'g PackageGraph,
+    before: &PackageGraph,
+    asked: &Asked<'_>,
+    ignored: &[String],
+    given: &[(&str, PackageId)],
+    paths: &[String],
+) -> Result<Answer<'g>, Error>
+    ensures ok { IfOk result (λ answer. TellsAffectedSince (asked_shown asked.now) before.now graph.now
+        (map string_bytes ignored.now) (given_in given.now) (map string_bytes paths.now) (answer_shown answer)) }
+    ensures err { IsOkUnless result Error.OutOfMemory }
+{
+    let changed = changed_since(graph, before, asked)?;
+    let ignored = with_lock(graph.alloc(), ignored)?;
+    let ids = affected_after(graph, changed.as_slice(), paths, ignored.as_slice(), given)?;
+    Ok(Answer::List(ids))
+}
+
+// The members to test, where there is a state before, with folders that belong to the packages that their words mean.
+fn tested_since<'g, F: Format>(
+    alloc: Global,
+    graph: &'g PackageGraph,
+    before: &PackageGraph,
+    names: &F::Names,
+    asked: &Asked<'_>,
+    ignored: &[String],
+    also: &[(&str, &str)],
+    paths: &[String],
+) -> Result<Answer<'g>, F::Fault>
+    requires { F.are_names names.now graph.now.packages }
+    ensures ok { IfOk result (λ answer. IsSinceAnswer (asked_shown asked.now) before.now graph.now
+        (F.format.meant graph.now.packages) (map string_bytes ignored.now)
+        (map (λ both. (both.0.now, both.1.now)) also.now) (map string_bytes paths.now) (answer_shown answer)) }
+    ensures err { IfErr result (λ fault. IsWordFault F.format graph.now.packages
+        (map (λ (both : List ℕ × List ℕ). both.1) (map (λ both. (both.0.now, both.1.now)) also.now)) fault
+        (F.Fault.cause fault)) }
+{
+    let given = given_folders::<F>(alloc, graph, names, also)?;
+    passed_on(tested_after(graph, before, asked, ignored, given.as_slice(), paths))
+}
+
+/// What the command answers of the graph, whose packages have these names, and of that of the state before, where there
+/// is one.
 ///
 /// The first word of the command that means no package, or may mean several, is told, and for `why` that no links lead
 /// from one package to the other. For `verify` and `publish-order` alone it is told what the graph's `verify` refuses, a
@@ -354,13 +455,15 @@ fn tested_also<'g, F: Format>(
 pub fn answer_of<'g, F: Format>(
     alloc: Global,
     graph: &'g PackageGraph,
+    before: Option<&PackageGraph>,
     names: &F::Names,
     asked: &'g Asked<'_>,
 ) -> Result<Answer<'g>, F::Fault>
     requires names { F.are_names names.now graph.now.packages }
     requires distinct { DistinctBelow graph.now.packages (length graph.now.packages) }
-    ensures ok { IfOk result (λ answer. IsAnswerOn (places_of (asked_shown asked.now))
-        (F.format.meant graph.now.packages) (command_shown asked.now.command) graph.now (answer_shown answer)) }
+    ensures ok { IfOk result (λ answer. IsAnswerSince (asked_shown asked.now)
+        (option_map (λ g. g.now) before.entry) (F.format.meant graph.now.packages)
+        (command_shown asked.now.command) graph.now (answer_shown answer)) }
     ensures err { IfErr result (λ fault. IsFaultOn F.format (places_of (asked_shown asked.now))
         (called asked.now.options (F.format.text graph.now.packages)) (command_shown asked.now.command) graph.now
         fault (F.Fault.cause fault)) }
@@ -391,6 +494,11 @@ pub fn answer_of<'g, F: Format>(
             ignored,
             also,
             paths,
-        } => tested_also::<F>(alloc, graph, names, ignored, also, paths),
+        } => match before {
+            Some(before) => tested_since::<F>(
+                alloc, graph, before, names, asked, ignored, also, paths,
+            ),
+            None => tested_also::<F>(alloc, graph, names, ignored, also, paths),
+        },
     }
 }

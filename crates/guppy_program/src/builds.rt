@@ -9,9 +9,8 @@ ghost use Rattle.guppy_command.specs.Command.{built, features, why_feature};
 ghost use Rattle.guppy_command.specs.Shown.{asked_shown, request_shown};
 ghost use Rattle.guppy_data.specs.declared.texts.error.Error.TheVariants.{OutOfMemory};
 ghost use Rattle.guppy_program.specs.Answer.{IsBuiltAnswer, IsFaultOn, IsFeaturesAnswer, IsWhyFeatureAnswer};
-ghost use Rattle.guppy_program.specs.Builds.{IsChosen};
+ghost use Rattle.guppy_program.specs.Builds.{IsChosen, places_of};
 ghost use Rattle.guppy_program.specs.Meant.{Means};
-ghost use Rattle.guppy_program.specs.Run.{places_of};
 ghost use Rattle.guppy_program.specs.Shown.{answer_shown};
 
 use crate::answer::{Answer, all_meant};

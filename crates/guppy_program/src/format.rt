@@ -6,7 +6,7 @@ ghost use Rattle.guppy_data.specs.declared.texts.fault.VerifyFault.TheVariants.{
 ghost use Rattle.guppy.specs.Ids.{IsKnown};
 ghost use Rattle.guppy_publish.specs.Needs.{pair_texts};
 ghost use Rattle.guppy_command.specs.Cause.{library};
-ghost use Rattle.guppy_command.specs.Ids.{has_id};
+ghost use Rattle.guppy_command.specs.Ids.{has_id, is_only};
 ghost use Rattle.guppy_program.specs.Format.{Format as FormatOf, IsAskingFault, IsReadingFault, IsUnclear};
 ghost use Rattle.guppy_command.specs.Shown.{asked_shown};
 
@@ -25,7 +25,7 @@ pub trait Format {
 
     /// What arguments ask, or with which fault they are refused; which records an input says, or with which fault it is
     /// refused; which members it says declare which others; which text is printed for a package, which packages a word
-    /// may mean, and what is told of one that means none, and of a cycle.
+    /// may mean, and what is told of one that means none, and of a cycle; and by which text a fault is told.
     ghost format: { FormatOf Self.Fault };
 
     /// The names are those of these packages.
@@ -70,6 +70,22 @@ pub trait Format {
     fn cycle(ids: Vec<PackageId>, round: String) -> Self::Fault
         ensures cause { Self.Fault.cause result ≡ library (PackageGraphInternalError (Cycle ids)) }
         ensures told { format.tells_cycle ids (string_bytes round) result };
+
+    /// The text by which the fault is told. Takes memory for it.
+    fn told(alloc: Global, fault: &Self::Fault) -> Result<String, AllocError>
+        ensures { IfOk result (λ text. format.tells fault.now (string_bytes text)) };
+
+    /// Whether the word means the package with this ID alone. Takes memory for a copy of the word.
+    fn means(
+        alloc: Global,
+        graph: &PackageGraph,
+        names: &Self::Names,
+        word: &str,
+        id: &PackageId,
+    ) -> Result<bool, AllocError>
+        requires { are_names names.now graph.now.packages }
+        ensures { IfOk result (λ means.
+            means ≡ is_only id.now (format.meant graph.now.packages word.now)) };
 
     /// The ID of the package that the word means, where it means one alone. Takes memory for the ID, and
     /// for a fault.

@@ -10,7 +10,7 @@
 //!   published; `why`: of how one package depends on another; `builds`: of what Cargo builds; `verify`: what is told of
 //!   a graph that isn't verified;
 //! - `members`: the members of the workspace in that;
-//! - `print`: how it is printed; `print_builds`: what Cargo builds;
+//! - `print`: how it is printed; `print_builds`: what Cargo builds; `flags`: packages as cargo takes them;
 //! - `program`: a program;
 //! - `process`: a program with its fault told and its status.
 #![tactic(auto)]
@@ -19,6 +19,7 @@ pub mod answer;
 mod builds;
 pub mod dot_text;
 pub mod files;
+mod flags;
 pub mod format;
 pub mod members;
 pub mod print;
@@ -34,7 +35,7 @@ pub use files::IoFiles;
 pub use format::Format;
 pub use guppy_command::{
     Asked, Command, DeviceFault, Ending, Fault, FileFault, Files, IoSink, IoSource, Kinds, NoFiles,
-    Options, ProgramFault, Sink, Source, arguments,
+    Options, OutputFormat, ProgramFault, Sink, Source, arguments,
 };
 pub use process::run_process;
 pub use program::{answer_bytes, run_with};

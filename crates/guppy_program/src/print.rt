@@ -1,17 +1,19 @@
 //! How an answer is printed.
-ghost use Rattle.std.specs.Prelude.{◌≡◌, ◌∷◌, [], List, map, string_bytes, IfOk};
+ghost use Rattle.std.specs.Prelude.{◌≡◌, ◌∷◌, [], List, length, map, string_bytes, IfOk};
 ghost use Rattle.guppy_data.specs.declared.records.PackageRecord.{PackageRecord};
-ghost use Rattle.guppy_command.specs.Printed.{joined, kind_names, lines_of};
-ghost use Rattle.guppy_program.specs.Printed.{AreSortedLines, IsPrinted, called};
+ghost use Rattle.guppy_command.specs.Printed.{joined, kind_names, line_end, lines_of};
+ghost use Rattle.guppy.specs.Ids.{DistinctBelow};
+ghost use Rattle.guppy_program.specs.Printed.{AreSortedLines, IsPrinted, called, item_of};
 ghost use Rattle.guppy_program.specs.Shown.{answer_shown, step_shown};
 
 use crate::answer::{Answer, Step};
 use crate::dot_text::dot_text;
+use crate::flags::flags_of;
 use crate::format::Format;
 use crate::print_builds::{lines_of_built, lines_of_features, lines_of_reasons};
-use guppy::{PackageId, SortedSet};
-use guppy_command::Options;
-use guppy_command::print::{lines_of, push_pair, push_step, truth_line};
+use guppy::{PackageGraph, PackageId, SortedSet};
+use guppy_command::print::{line_end, lines_of, push_pair, push_step, truth_line};
+use guppy_command::{Options, OutputFormat};
 use std::alloc::{AllocError, Global};
 
 // What is printed for the package with this ID.
@@ -49,13 +51,76 @@ pub(crate) fn texts_of<'a, F: Format>(
     Ok(texts)
 }
 
-// These texts, each once, in the order of their bytes, one a line.
-fn sorted_lines(alloc: Global, texts: Vec<&str>) -> Result<String, AllocError>
+// These texts, each once, in the order of their bytes, one a line with this end.
+fn sorted_lines(alloc: Global, end: &str, texts: Vec<&str>) -> Result<String, AllocError>
     ensures { IfOk result (λ lines.
-        AreSortedLines (map (λ text. text.now) texts.entry.items) (string_bytes lines)) }
+        AreSortedLines end.now (map (λ text. text.now) texts.entry.items) (string_bytes lines)) }
 {
     let sorted = SortedSet::new(texts);
-    lines_of(alloc, sorted.as_slice())
+    lines_of(alloc, end, sorted.as_slice())
+}
+
+// These texts, borrowed.
+fn borrowed(alloc: Global, texts: &[String]) -> Result<Vec<&str>, AllocError>
+    ensures { IfOk result (λ items. map (λ text. text.now) items.items ≡ map string_bytes texts.now) }
+{
+    let mut items = Vec::with_capacity(alloc, texts.len())?;
+    for text in texts {
+        items.push(text.as_str())?;
+    }
+    Ok(items)
+}
+
+// The packages of a set, one a line.
+fn text_of_set<F: Format>(
+    alloc: Global,
+    graph: &PackageGraph,
+    options: &Options,
+    names: &F::Names,
+    ids: &[&PackageId],
+) -> Result<String, AllocError>
+    requires names { F.are_names names.now graph.now.packages }
+    requires distinct { DistinctBelow graph.now.packages (length graph.now.packages) }
+    ensures { IfOk result (λ text. AreSortedLines (line_end options.now)
+        (map (item_of F.format options.now graph.now.packages) (map (λ id. id.now) ids.now)) (string_bytes text)) }
+{
+    match options.format {
+        OutputFormat::Lines => {
+            let texts = texts_of::<F>(alloc, options, names, ids)?;
+            sorted_lines(alloc, line_end(options), texts)
+        }
+        OutputFormat::Flags => {
+            let flags = flags_of::<F>(alloc, graph, options, names, ids)?;
+            let texts = borrowed(alloc, flags.as_slice())?;
+            sorted_lines(alloc, line_end(options), texts)
+        }
+    }
+}
+
+// Packages in their order, one a line.
+fn text_of_list<F: Format>(
+    alloc: Global,
+    graph: &PackageGraph,
+    options: &Options,
+    names: &F::Names,
+    ids: &[&PackageId],
+) -> Result<String, AllocError>
+    requires names { F.are_names names.now graph.now.packages }
+    requires distinct { DistinctBelow graph.now.packages (length graph.now.packages) }
+    ensures { IfOk result (λ text. string_bytes text ≡ lines_of (line_end options.now)
+        (map (item_of F.format options.now graph.now.packages) (map (λ id. id.now) ids.now))) }
+{
+    match options.format {
+        OutputFormat::Lines => {
+            let texts = texts_of::<F>(alloc, options, names, ids)?;
+            lines_of(alloc, line_end(options), texts.as_slice())
+        }
+        OutputFormat::Flags => {
+            let flags = flags_of::<F>(alloc, graph, options, names, ids)?;
+            let texts = borrowed(alloc, flags.as_slice())?;
+            lines_of(alloc, line_end(options), texts.as_slice())
+        }
+    }
 }
 
 fn lines_of_pairs<F: Format>(
@@ -66,13 +131,18 @@ fn lines_of_pairs<F: Format>(
 ) -> Result<String, AllocError>
     ensures { (packages : List PackageRecord) → F.are_names names.now packages
         → IfOk result (λ text. string_bytes text
-        ≡ lines_of (map (λ ids. joined (map (called options.now (F.format.text packages)) ids))
+        ≡ lines_of (line_end options.now) (map (λ ids. joined (map (called options.now (F.format.text packages)) ids))
         (map (λ pair. pair.0.now ∷ pair.1.now ∷ []) pairs.now))) }
 {
     let mut text = String::new(alloc);
     for (from, to) in pairs {
         let from = text_of::<F>(options, names, from);
-        push_pair(&mut text, from, text_of::<F>(options, names, to))?;
+        push_pair(
+            &mut text,
+            line_end(options),
+            from,
+            text_of::<F>(options, names, to),
+        )?;
     }
     Ok(text)
 }
@@ -99,14 +169,14 @@ fn lines_of_rows<F: Format>(
 ) -> Result<String, AllocError>
     ensures { (packages : List PackageRecord) → F.are_names names.now packages
         → IfOk result (λ text. string_bytes text
-        ≡ lines_of (map (λ ids. joined (map (called options.now (F.format.text packages)) ids))
+        ≡ lines_of (line_end options.now) (map (λ ids. joined (map (called options.now (F.format.text packages)) ids))
         (map (λ row. map (λ id. id.now) row.items) rows.now))) }
 {
     let mut text = String::new(alloc);
     for row in rows {
         let line = joined::<F>(alloc, options, names, row.as_slice())?;
         text.push_str(line.as_str())?;
-        text.push('\n')?;
+        text.push_str(line_end(options))?;
     }
     Ok(text)
 }
@@ -119,41 +189,36 @@ fn lines_of_steps<F: Format>(
 ) -> Result<String, AllocError>
     ensures { (packages : List PackageRecord) → F.are_names names.now packages
         → IfOk result (λ text. string_bytes text
-        ≡ lines_of (map (λ step. joined (called options.now (F.format.text packages) step.0 ∷ kind_names step.1))
+        ≡ lines_of (line_end options.now) (map (λ step. joined (called options.now (F.format.text packages) step.0 ∷ kind_names step.1))
         (map step_shown steps.now))) }
 {
     let mut text = String::new(alloc);
     for step in steps {
-        push_step(&mut text, text_of::<F>(options, names, step.id), step.kinds)?;
+        let called = text_of::<F>(options, names, step.id);
+        push_step(&mut text, line_end(options), called, step.kinds)?;
     }
     Ok(text)
 }
 
 /// The answer's text, with each package by its ID where the options have it so, else as the names of the graph's
-/// packages tell. Takes memory for the
-/// text, and for a reference a package. Time grows with the answer, and where it is a set with its packages
-/// times the logarithm of their number.
+/// packages tell, and packages that stand alone as flags where the options have that. Takes memory for the text, and for
+/// a reference a package or its flag. Time grows with the answer, and where it is a set with its packages times the
+/// logarithm of their number.
 pub fn printed<F: Format>(
     alloc: Global,
+    graph: &PackageGraph,
     options: &Options,
     names: &F::Names,
     answer: &Answer<'_>,
 ) -> Result<String, AllocError>
-    ensures { (packages : List PackageRecord) → F.are_names names.now packages
-        → IfOk result (λ text. IsPrinted (called options.now (F.format.text packages)) (answer_shown answer.now)
-        (string_bytes text)) }
+    requires names { F.are_names names.now graph.now.packages }
+    requires distinct { DistinctBelow graph.now.packages (length graph.now.packages) }
+    ensures { IfOk result (λ text. IsPrinted (line_end options.now) (item_of F.format options.now graph.now.packages)
+        (called options.now (F.format.text graph.now.packages)) (answer_shown answer.now) (string_bytes text)) }
 {
     match answer {
-        Answer::Set(ids) => sorted_lines(
-            alloc,
-            texts_of::<F>(alloc, options, names, ids.as_slice())?,
-        ),
-        Answer::List(ids) => {
-            lines_of(
-                alloc,
-                texts_of::<F>(alloc, options, names, ids.as_slice())?.as_slice(),
-            )
-        }
+        Answer::Set(ids) => text_of_set::<F>(alloc, graph, options, names, ids.as_slice()),
+        Answer::List(ids) => text_of_list::<F>(alloc, graph, options, names, ids.as_slice()),
         Answer::Pairs(pairs) => lines_of_pairs::<F>(alloc, options, names, pairs.as_slice()),
         Answer::Rows(rows) => lines_of_rows::<F>(alloc, options, names, rows.as_slice()),
         Answer::Needs(rows) => lines_of_rows::<F>(alloc, options, names, rows.as_slice()),

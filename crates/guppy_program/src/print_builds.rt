@@ -4,7 +4,7 @@ ghost use Rattle.std.specs.List.{flat_map};
 ghost use Rattle.guppy_built.specs.Features.{feature_shown};
 ghost use Rattle.guppy_built.specs.Names.{fact_shown, said_shown, step_shown};
 ghost use Rattle.guppy_built.specs.Rows.{row_of};
-ghost use Rattle.guppy_command.specs.Printed.{line_of, lines_of};
+ghost use Rattle.guppy_command.specs.Printed.{line_end, line_of, lines_of};
 ghost use Rattle.guppy_data.specs.declared.records.PackageRecord.{PackageRecord};
 ghost use Rattle.guppy_program.specs.Printed.{called, fact_text, feature_text, grounds_text, row_text, said_text, side_text, step_text};
 
@@ -12,6 +12,7 @@ use crate::format::Format;
 use crate::print::{text_of, texts_of};
 use guppy_built::{BuiltPackage, FactName, FeatureOn, NamedFact, NamedReason};
 use guppy_command::Options;
+use guppy_command::print::line_end;
 use guppy_features::BuildPlatform;
 use std::alloc::{AllocError, Global};
 
@@ -36,7 +37,7 @@ pub(crate) fn lines_of_built<F: Format>(
 ) -> Result<String, AllocError>
     ensures { (packages : List PackageRecord) → F.are_names names.now packages
         → IfOk result (λ text. string_bytes text
-        ≡ lines_of (map (row_text (called options.now (F.format.text packages))) (map row_of rows.now))) }
+        ≡ lines_of (line_end options.now) (map (row_text (called options.now (F.format.text packages))) (map row_of rows.now))) }
 {
     let mut text = String::new(alloc);
     for row in rows {
@@ -44,7 +45,7 @@ pub(crate) fn lines_of_built<F: Format>(
         text.push(' ')?;
         text.push_str(row.platform)?;
         push_words(&mut text, row.features.as_slice())?;
-        text.push('\n')?;
+        text.push_str(line_end(options))?;
     }
     Ok(text)
 }
@@ -67,7 +68,7 @@ pub(crate) fn lines_of_features<F: Format>(
 ) -> Result<String, AllocError>
     ensures { (packages : List PackageRecord) → F.are_names names.now packages
         → IfOk result (λ text. string_bytes text
-        ≡ lines_of (map (feature_text (called options.now (F.format.text packages))) (map feature_shown rows.now))) }
+        ≡ lines_of (line_end options.now) (map (feature_text (called options.now (F.format.text packages))) (map feature_shown rows.now))) }
 {
     let mut text = String::new(alloc);
     for row in rows {
@@ -76,7 +77,7 @@ pub(crate) fn lines_of_features<F: Format>(
         text.push_str(side_text(row.side))?;
         let askers = texts_of::<F>(alloc, options, names, row.askers.as_slice())?;
         push_words(&mut text, askers.as_slice())?;
-        text.push('\n')?;
+        text.push_str(line_end(options))?;
     }
     Ok(text)
 }
@@ -148,13 +149,13 @@ pub(crate) fn lines_of_reasons<F: Format>(
 ) -> Result<String, AllocError>
     ensures { (packages : List PackageRecord) → F.are_names names.now packages
         → IfOk result (λ text. string_bytes text
-        ≡ lines_of (map (step_text (called options.now (F.format.text packages))) (map step_shown steps.now))) }
+        ≡ lines_of (line_end options.now) (map (step_text (called options.now (F.format.text packages))) (map step_shown steps.now))) }
 {
     let mut text = String::new(alloc);
     for step in steps {
         push_fact::<F>(&mut text, options, names, &step.fact)?;
         push_grounds::<F>(&mut text, options, names, step)?;
-        text.push('\n')?;
+        text.push_str(line_end(options))?;
     }
     Ok(text)
 }

@@ -1,15 +1,16 @@
 //! A program, over any source and sink.
-ghost use Rattle.std.specs.Prelude.{◌≡◌, ◌++◌, ℕ, List, Some, false, length, map, string_bytes, Err, OnOk, IfOk, IfErr, Bool};
+ghost use Rattle.std.specs.Prelude.{◌≡◌, ◌⊎◌, ◌++◌, ℕ, List, Some, option_map, false, length, map, string_bytes, Err, OnOk, IfOk, IfErr, Bool};
 ghost use Rattle.std.specs.Io.KnownBytes.{Appends};
 ghost use Rattle.guppy.specs.Ids.{DistinctBelow};
 ghost use Rattle.guppy_data.specs.declared.texts.error.Error.TheVariants.{OutOfMemory};
-ghost use Rattle.guppy_command.specs.Cause.{Cause, library, bad_arguments, output_failed, caused, is_input_fault, is_output_fault};
-ghost use Rattle.guppy_program.specs.Loaded.{AreAskedOf, IsLoaded, IsLoadFault, asks_for_builds, counted_on, reads_details};
+ghost use Rattle.guppy_command.specs.Cause.{Cause, library, bad_arguments, bad_before, output_failed, caused, is_input_fault, is_output_fault};
+ghost use Rattle.guppy_program.specs.Loaded.{AreAskedOf, IsBadBefore, IsLoaded, IsLoadedBefore, IsLoadFault, asks_for_builds, counted_on, reads_details};
 ghost use Rattle.guppy_program.specs.Answer.{IsFaultOn};
 ghost use Rattle.guppy_program.specs.Printed.{IsPrinted, called};
 ghost use Rattle.guppy_command.specs.Shown.{asked_shown, command_shown};
 ghost use Rattle.guppy_platforms.specs.Kept.{AreKept};
-ghost use Rattle.guppy_program.specs.Run.{IsAnswerTo, IsAnswerOf, IsAnswerFault, IsFaultOf, IsSourceFault, IsAnswered, IsBegun, IsRun, IsRunFault, OfWholeInput, WritesNothing, places_of};
+ghost use Rattle.guppy_program.specs.Run.{IsAnswerTo, IsAnswerOf, IsAnswerFault, IsFaultOf, IsSourceFault, IsAnswered, IsBegun, IsRun, IsRunFault, OfWholeInput, WritesNothing};
+ghost use Rattle.guppy_program.specs.Builds.{places_of};
 
 use crate::answer::answer_of;
 use crate::format::Format;
@@ -19,7 +20,7 @@ use guppy::{IntoGraph, PackageGraph};
 use guppy_command::fault::{passed_on, want_of_memory};
 use guppy_command::options::keep_links;
 use guppy_command::transfer::{read_all, write_text};
-use guppy_command::{Asked, Command, Files, Sink, Source};
+use guppy_command::{Asked, Command, Fault, Files, ProgramFault, Sink, Source};
 use guppy_data::{LinkRecord, PackageRecord, PlatformSpec};
 use guppy_platforms::{are_named, keep_counting};
 use guppy_publish::add_declared;
@@ -122,35 +123,71 @@ fn load<F: Format>(
     Ok((graph, names))
 }
 
-// What is printed of the graph for what is asked.
+// The fault that tells that the state before says no graph, which this one tells, unless memory is wanted.
+fn before_told<F: Format>(alloc: Global, fault: F::Fault) -> F::Fault
+    ensures { ((text : List ℕ) × F.format.tells fault text × (F.Fault.cause result ≡ bad_before text))
+        ⊎ (F.Fault.cause result ≡ library OutOfMemory) }
+{
+    match F::told(alloc, &fault) {
+        Ok(text) => F::Fault::of(Fault::Before(text)),
+        Err(_) => want_of_memory(),
+    }
+}
+
+// The graph of the state before, where its input is given.
+fn load_before<F: Format>(
+    alloc: Global,
+    asked: &Asked<'_>,
+) -> Result<Option<PackageGraph>, F::Fault>
+    ensures ok { IfOk result (IsLoadedBefore F.format (asked_shown asked.now)) }
+    ensures err { IfErr result (λ fault. ((text : List ℕ) × IsBadBefore F.format (asked_shown asked.now) text
+        × (F.Fault.cause fault ≡ bad_before text)) ⊎ (F.Fault.cause fault ≡ library OutOfMemory)) }
+{
+    let Some(input) = &asked.before else {
+        return Ok(None);
+    };
+    match load::<F>(alloc, asked, input.as_slice()) {
+        Ok((graph, _)) => Ok(Some(graph)),
+        Err(fault) => Err(before_told::<F>(alloc, fault)),
+    }
+}
+
+// What is printed of the graph for what is asked, and of that of the state before, where there is one.
 fn answer_text<F: Format>(
     alloc: Global,
     graph: &PackageGraph,
+    before: Option<&PackageGraph>,
     names: &F::Names,
     asked: &Asked<'_>,
 ) -> Result<String, F::Fault>
     requires names { F.are_names names.now graph.now.packages }
     requires distinct { DistinctBelow graph.now.packages (length graph.now.packages) }
-    ensures ok { IfOk result (λ text. IsAnswerOf F.format (asked_shown asked.now) graph.now
-        (string_bytes text)) }
+    ensures ok { IfOk result (λ text. IsAnswerOf F.format (asked_shown asked.now)
+        (option_map (λ g. g.now) before.entry) graph.now (string_bytes text)) }
     ensures err { IfErr result (λ fault. IsFaultOn F.format (places_of (asked_shown asked.now))
         (called (asked_shown asked.now).options (F.format.text graph.now.packages))
         (asked_shown asked.now).command graph.now fault (F.Fault.cause fault)) }
 {
-    let answer = answer_of::<F>(alloc, graph, names, asked)?;
+    let answer = answer_of::<F>(alloc, graph, before, names, asked)?;
     let answer = passed_on(shown(graph, asked.options, answer))?;
-    match printed::<F>(alloc, &asked.options, names, &answer) {
+    match printed::<F>(alloc, graph, &asked.options, names, &answer) {
         Ok(text) => Ok(text),
         Err(_) => Err(want_of_memory()),
     }
 }
 
-// Lets go of the graph and of the names of its packages, or forgets them, where the process ends once the answer is
+// Lets go of the graphs and of the names of packages, or forgets them, where the process ends once the answer is
 // written, and gives all memory back at once: to let go of the parts of a large graph one by one takes some tenths of
 // the whole time.
-fn give_back<N: Drop>(graph: PackageGraph, names: N, process_ends: bool) {
+fn give_back<N: Drop>(
+    graph: PackageGraph,
+    before: Option<PackageGraph>,
+    names: N,
+    process_ends: bool,
+) {
     if process_ends {
         mem::forget(graph);
+        mem::forget(before);
         mem::forget(names);
     }
 }
@@ -168,8 +205,9 @@ fn answer_input<F: Format>(
         fault (F.Fault.cause fault)) }
 {
     let (graph, names) = load::<F>(alloc, asked, input)?;
-    let text = answer_text::<F>(alloc, &graph, &names, asked);
-    give_back(graph, names, process_ends);
+    let before = load_before::<F>(alloc, asked)?;
+    let text = answer_text::<F>(alloc, &graph, before.as_ref(), &names, asked);
+    give_back(graph, before, names, process_ends);
     text
 }
 

@@ -118,7 +118,7 @@ const SHORT_CUT: &[u8] = b"package a\npackage b\npackage c\npackage d\n\
 const TWO_SPACES: &[u8] = b"package a\npackage  b\n";
 
 // Case, command line, input, and what is printed.
-const ANSWERS: [(&str, &str, &[u8], &str); 62] = [
+const ANSWERS: [(&str, &str, &[u8], &str); 70] = [
     ("first_run", "reach forward a", FIRST, "a\nb\n"),
     (
         "no_last_newline",
@@ -281,6 +281,24 @@ const ANSWERS: [(&str, &str, &[u8], &str); 62] = [
         FIRST,
         "a\n",
     ),
+    ("null", "--null order", CHAIN, "a\0b\0c\0"),
+    ("null", "--null reach forward b", CHAIN, "b\0c\0"),
+    ("null", "--null links forward", CHAIN, "a b\0b c\0"),
+    ("null", "--null cycles", BACKS, "A B\0C D\0"),
+    ("null", "--null why a c", CHAIN, "a\0b normal\0c normal\0"),
+    ("lines", "--format lines order", CHAIN, "a\nb\nc\n"),
+    (
+        "flags",
+        "--format flags order",
+        CHAIN,
+        "--package=a\n--package=b\n--package=c\n",
+    ),
+    (
+        "flags",
+        "--ids --null --format=flags reach forward b",
+        CHAIN,
+        "--package=b\0--package=c\0",
+    ),
 ];
 
 // Runs each case on devices that work, and move pieces of so many bytes. Its text is what is printed where the
@@ -431,7 +449,7 @@ const REFUSED: [(&str, &str, &[u8], &str); 12] = [
 ];
 
 // Case, command line, input, and the text of the fault of the arguments or a line.
-const MISREAD: [(&str, &str, &[u8], &str); 57] = [
+const MISREAD: [(&str, &str, &[u8], &str); 67] = [
     ("program_faults", "depends a b", TWO_SPACES, "bad line 2"),
     ("program_faults", "depends a", TWO_SPACES, "bad arguments"),
     (
@@ -530,6 +548,21 @@ const MISREAD: [(&str, &str, &[u8], &str); 57] = [
     ("members", "--workspace=yes order", FIRST, "bad arguments"),
     ("affected", "affected a", FIRST, "bad arguments"),
     ("ids", "--id order", FIRST, "bad arguments"),
+    ("null", "--null depends a b", FIRST, "bad arguments"),
+    ("null", "--null verify", FIRST, "bad arguments"),
+    ("null", "--null dot", FIRST, "bad arguments"),
+    ("null", "--null=yes order", FIRST, "bad arguments"),
+    ("format", "--format order", FIRST, "bad arguments"),
+    ("format", "--format flag order", FIRST, "bad arguments"),
+    ("format", "--format= order", FIRST, "bad arguments"),
+    (
+        "format",
+        "--format flags links forward",
+        FIRST,
+        "bad arguments",
+    ),
+    ("format", "--format flags why a b", FIRST, "bad arguments"),
+    ("format", "--format lines verify", FIRST, "bad arguments"),
     ("wrong_bytes", "order", b"\n\r\nlink a\n", "bad line 3"),
     (
         "wrong_bytes",

@@ -231,9 +231,13 @@ impl Decoded {
 
     /// The position of the package with the ID.
     pub(super) fn position(&self, id: &PackageId) -> Result<usize, Error> {
-        let known = self.positions.get(id.repr());
-        let position = known.ok_or_else(|| Error::UnknownPackageId(id.clone()))?;
-        Ok(*position as usize)
+        let known = self.position_of(id.repr());
+        known.ok_or_else(|| Error::UnknownPackageId(id.clone()))
+    }
+
+    /// The position of the package whose ID is written so.
+    pub(super) fn position_of(&self, id: &str) -> Option<usize> {
+        Some(*self.positions.get(id)? as usize)
     }
 
     /// The fault of the links in words.

@@ -5,6 +5,7 @@ use super::parts::{Parts, Span};
 use crate::platform::Platforms;
 use crate::{proved, JsonValue};
 use semver::{Version, VersionReq};
+use std::collections::{BTreeSet, HashMap};
 use std::sync::{Arc, OnceLock};
 
 /// What is made of a part of the text when it is first asked for.
@@ -122,9 +123,30 @@ pub(super) struct PackageDetails {
     pub(super) registries: Option<Vec<String>>,
     pub(super) default_run: Option<Span>,
     pub(super) rust_version: Option<Version>,
-    pub(super) named_features: Vec<Span>,
+    pub(super) named_features: Vec<NamedFeature>,
+    // Of each, whether it is `default` or one that `default` switches on.
+    defaults: OnceLock<Box<[bool]>>,
+    // Where the names of optional dependencies stand in the text.
+    optional_deps: usize,
     // By ID.
     pub(super) targets: Vec<Target>,
+}
+
+/// A named feature.
+#[derive(Clone)]
+pub(super) struct NamedFeature {
+    pub(super) name: Span,
+    // Where what it switches on stands in the text.
+    values: usize,
+}
+
+impl NamedFeature {
+    /// The names of the package's own features that it switches on. A feature of a dependency `x` switches on the one
+    /// called `x`, where there is such a one.
+    pub(super) fn gives<'t>(&self, text: &'t str) -> Vec<&'t str> {
+        let given = Parts::at(text, self.values).list(Parts::given_feature);
+        given.into_iter().flatten().collect()
+    }
 }
 
 /// A build target.
@@ -168,6 +190,55 @@ impl PackageDetails {
         details.targets.sort_by_key(|target| target.id.of(text));
         details
     }
+
+    /// The names of those features that are called so, and of those that these switch on. What features of other packages
+    /// switch on is not among them.
+    pub(super) fn with_given<'t, 'a>(
+        &self,
+        text: &'t str,
+        names: impl IntoIterator<Item = &'a str>,
+    ) -> BTreeSet<&'t str> {
+        let named = self.named_features.iter();
+        let features: HashMap<&str, &NamedFeature> = named
+            .map(|feature| (feature.name.of(text), feature))
+            .collect();
+        let known = |name: &str| features.get_key_value(name);
+        let mut found = BTreeSet::new();
+        let mut waiting: Vec<_> = names.into_iter().filter_map(known).collect();
+        while let Some((name, feature)) = waiting.pop() {
+            if found.insert(*name) {
+                waiting.extend(feature.gives(text).into_iter().filter_map(known));
+            }
+        }
+        found
+    }
+
+    /// Of each named feature, whether it is `default` or one that `default` switches on.
+    pub(super) fn defaults(&self, text: &str) -> &[bool] {
+        self.defaults.get_or_init(|| {
+            let given = self.with_given(text, ["default"]);
+            let named = self.named_features.iter();
+            let marks = named.map(|feature| given.contains(feature.name.of(text)));
+            marks.collect()
+        })
+    }
+
+    /// The names of optional dependencies.
+    pub(super) fn optional_deps<'t>(&self, text: &'t str) -> Vec<&'t str> {
+        Parts::at(text, self.optional_deps).list(Parts::text)
+    }
+}
+
+impl<'t> Parts<'t> {
+    // The name of the package's own feature that a value of a feature switches on.
+    fn given_feature(&mut self) -> Option<&'t str> {
+        let kind = self.take();
+        let name = self.text();
+        if [b's', b'w'].contains(&kind) {
+            self.pass();
+        }
+        [b'f', b's'].contains(&kind).then_some(name)
+    }
 }
 
 impl Parts<'_> {
@@ -189,9 +260,10 @@ impl Parts<'_> {
         Some(Version::parse(self.part(part)).expect("a version of Rust"))
     }
 
-    // The name of a feature; what it enables is passed over.
-    fn named_feature(&mut self) -> Span {
+    // What a feature switches on is passed over.
+    fn named_feature(&mut self) -> NamedFeature {
         let name = self.field();
+        let values = self.place();
         self.pass_list(|parts| {
             let is_of_dependency = [b's', b'w'].contains(&parts.take());
             parts.pass();
@@ -199,7 +271,7 @@ impl Parts<'_> {
                 parts.pass();
             }
         });
-        name
+        NamedFeature { name, values }
     }
 
     fn package_details(&mut self) -> PackageDetails {
@@ -216,8 +288,9 @@ impl Parts<'_> {
             default_run: self.optional(),
             rust_version: self.rust_version(),
             named_features: self.list(Self::named_feature),
+            defaults: OnceLock::new(),
+            optional_deps: self.place(),
             targets: {
-                // The names of optional dependencies.
                 self.pass_list(Parts::pass);
                 self.list(Self::target)
             },
@@ -404,6 +477,7 @@ mod tests {
         let (text, part) = part(&text);
         let read = PackageDetails::of(&text, part);
         let shown = |part: Option<Span>| part.map(|part| part.of(&text));
+        assert_eq!(read.optional_deps(&text), ["other"]);
         assert_eq!(
             (read.authors, read.categories),
             (
@@ -431,9 +505,14 @@ mod tests {
         let names: Vec<&str> = read
             .named_features
             .iter()
-            .map(|name| name.of(&text))
+            .map(|feature| feature.name.of(&text))
             .collect();
         assert_eq!(names, ["default", "full"]);
+        let given = read
+            .named_features
+            .iter()
+            .map(|feature| feature.gives(&text));
+        assert_eq!(given.collect::<Vec<_>>(), [&["full", "other"][..], &[]]);
         let ids: Vec<_> = read
             .targets
             .iter()

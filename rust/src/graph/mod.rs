@@ -1,11 +1,14 @@
 //! The graph of packages, sets of them, and what is asked of both.
 
 mod build_targets;
+pub mod cargo;
+mod command;
 mod cycles;
 mod decode;
 mod depends;
 mod details;
 mod dot;
+pub mod feature;
 mod links_at;
 mod package;
 mod package_link;

@@ -203,7 +203,7 @@ impl<'g> PackageMetadata<'g> {
 ///
 /// They panic where the details are not such as Cargo prints, of any package or link of the JSON.
 impl<'g> PackageMetadata<'g> {
-    fn details(&self) -> &'g PackageDetails {
+    pub(super) fn details(&self) -> &'g PackageDetails {
         self.graph.details().package(self.position)
     }
 
@@ -304,7 +304,7 @@ impl<'g> PackageMetadata<'g> {
     pub fn named_features(&self) -> impl ExactSizeIterator<Item = &'g str> + 'g + use<'g> {
         let text = self.graph.details().text();
         let names = self.details().named_features.iter();
-        names.map(move |name| name.of(text))
+        names.map(move |feature| feature.name.of(text))
     }
 }
 

@@ -34,6 +34,11 @@ impl<'t> Parts<'t> {
         Parts { text, place }
     }
 
+    /// Where the next part begins.
+    pub(super) fn place(&self) -> usize {
+        self.place
+    }
+
     // The byte that stands next.
     fn next(&self) -> u8 {
         self.text.as_bytes()[self.place]

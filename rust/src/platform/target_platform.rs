@@ -85,19 +85,35 @@ impl Platform {
         &self.target_features
     }
 
+    // What is set, with these features.
+    fn cfgs_with<'f>(&self, features: impl IntoIterator<Item = &'f str>) -> String {
+        // No text asks for a feature with another name.
+        let features = features
+            .into_iter()
+            .filter(|it| !it.contains(['"', '\n', '\r']));
+        let set = features.map(|feature| format!("{FEATURE}{feature}\"\n"));
+        iter::once(self.cfgs.clone()).chain(set).collect()
+    }
+
+    /// What is set, with the features that are known to be there; nothing where all that there are would have to be
+    /// named.
+    pub(crate) fn known_cfgs(&self) -> Option<String> {
+        match &self.target_features {
+            TargetFeatures::Unknown => Some(self.cfgs.clone()),
+            TargetFeatures::Features(features) => {
+                Some(self.cfgs_with(features.iter().map(|feature| &**feature)))
+            }
+            TargetFeatures::All => None,
+        }
+    }
+
     // Whether the text means this platform, with these features set.
     fn is_meant_with<'f>(
         &self,
         text: &str,
         features: impl IntoIterator<Item = &'f str>,
     ) -> Option<bool> {
-        // No text asks for a feature with another name.
-        let features = features
-            .into_iter()
-            .filter(|it| !it.contains(['"', '\n', '\r']));
-        let set = features.map(|feature| format!("{FEATURE}{feature}\"\n"));
-        let cfgs: String = iter::once(self.cfgs.clone()).chain(set).collect();
-        match proved::said(text, &self.triple, &cfgs) {
+        match proved::said(text, &self.triple, &self.cfgs_with(features)) {
             Ok(Said::No) => Some(false),
             Ok(Said::Yes) => Some(true),
             Ok(Said::Nothing) => None,

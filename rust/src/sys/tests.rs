@@ -268,6 +268,7 @@ fn a_text_is_evaluated_on_a_platform() {
 }
 
 const JSON: &str = include_str!("../../../examples/metadata.json");
+const PLATFORMS: &str = "built\0--platform\0x\0--cfgs\0unix\na=\"b\"\0--host\0y\0--host-cfgs\0";
 
 // Both calls that write a text with so much room: status, length, and what was written.
 fn written(json: &str, args: &str, room: usize) -> [(u32, usize, Vec<u8>); 2] {
@@ -287,6 +288,9 @@ fn a_text_is_written_where_there_is_room() {
         (JSON, "affected\0crates/core/x", [0, 0]),
         (JSON, "affected\0--ids", [1, 0]),
         (JSON, "reach\0forward\0nobody", [1, 0]),
+        // What files have stands in the place of their names.
+        (JSON, PLATFORMS, [0, 0]),
+        (JSON, "built\0--platform\0x\0--cfgs\x002", [1, 0]),
         (JSON, "", [1, 0]),
         ("[", "order", [1, 4]),
         ("", "order", [1, 4]),
@@ -311,24 +315,39 @@ fn a_text_is_written_where_there_is_room() {
     }
     let [answer, _] = written(JSON, "affected\0crates/core/x", 100);
     assert_eq!(&answer.2[..answer.1], b"core\ntest-support\ncli\napp\n");
+    let [answer, _] = written(JSON, PLATFORMS, 1000);
+    let lines = std::str::from_utf8(&answer.2[..answer.1]).unwrap().lines();
+    assert_eq!(
+        lines.collect::<Vec<_>>(),
+        [
+            "app x",
+            "cli x",
+            "core x",
+            "macros host",
+            "test-support x",
+            "unused x"
+        ]
+    );
 }
 
 #[test]
 fn a_text_that_finds_no_memory_is_not_written() {
-    let whole = written(JSON, "order", 4000);
-    let mut refusals = [0, 0];
-    for granted in 0.. {
-        let (told, was_enough) = granting(granted, || written(JSON, "order", 4000));
-        for call in (0..2).filter(|call| told[*call] != whole[*call]) {
-            assert_eq!(told[call], (3, 0, vec![b'?'; 4000]));
-            refusals[call] += 1;
+    for args in ["order", PLATFORMS] {
+        let whole = written(JSON, args, 4000);
+        let mut refusals = [0, 0];
+        for granted in 0.. {
+            let (told, was_enough) = granting(granted, || written(JSON, args, 4000));
+            for call in (0..2).filter(|call| told[*call] != whole[*call]) {
+                assert_eq!(told[call], (3, 0, vec![b'?'; 4000]));
+                refusals[call] += 1;
+            }
+            if was_enough {
+                break;
+            }
         }
-        if was_enough {
-            break;
-        }
+        // Where memory is wanting while the records are read one by one, they are read as a whole.
+        assert!(refusals.iter().all(|it| *it > 5), "{refusals:?}");
     }
-    // Where memory is wanting while the records are read one by one, they are read as a whole.
-    assert!(refusals.iter().all(|it| *it > 5), "{refusals:?}");
 }
 
 // Where the library finds no memory the process ends as where std finds none. This test is run a second time, in a
@@ -355,4 +374,23 @@ fn without_memory_the_process_ends() {
         "{told}"
     );
     assert_eq!(again.status.code(), None, "a signal ends it");
+}
+
+// A block keeps what it holds when it grows and shrinks.
+#[test]
+fn a_block_keeps_what_it_holds() {
+    use super::memory::{rattle_alloc, rattle_dealloc, rattle_realloc};
+    let small = 1 << 10;
+    let mut block = rattle_alloc(small, 1).block;
+    // SAFETY: the block is in use, and only its bytes are written and read.
+    unsafe {
+        block.write_bytes(7, small);
+        for bytes in [1 << 24, 1 << 25, small + 1, small] {
+            block = rattle_realloc(block, small, bytes, 1).block;
+            block.add(small).write_bytes(9, bytes - small);
+        }
+        let kept = std::slice::from_raw_parts(block, small).to_vec();
+        rattle_dealloc(block);
+        assert_eq!(kept, vec![7; small]);
+    }
 }

@@ -1,4 +1,4 @@
-use Rattle.std.proofs.Common.{map, take}
+use Rattle.std.proofs.Common.{take}
 use Rattle.guppy.specs.Views.{graph_of, package_position}
 use Rattle.guppy_folders.specs.Folders.{lists_in}
 use Rattle.guppy_folders.specs.Places.{MeetsOne}

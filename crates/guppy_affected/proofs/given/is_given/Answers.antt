@@ -1,6 +1,5 @@
 use Rattle.std.proofs.Common.{◌≡◌, ◌∙◌, rules, ap, Bool, List, Bor}
 use Rattle.std.specs.Prelude.{◌↔◌, IsTrue}
-use Rattle.std.proofs.lemmas.Slice.Eq.{bytes_eq-Decides}
 use Rattle.guppy.specs.Graph.{GraphData}
 use Rattle.guppy.specs.Path.{Part}
 use Rattle.guppy.specs.Views.{graph_of, package_position}

@@ -1,4 +1,4 @@
-use Rattle.std.proofs.Common.{◌≡◌, ◌∙◌, inl, inr, refl, ap, true, length, map}
+use Rattle.std.proofs.Common.{◌≡◌, ◌∙◌, inl, inr, refl, ap, true, length}
 use Rattle.guppy.specs.Graph.{GraphData}
 use Rattle.guppy.specs.Views.{graph_of, package_position}
 use Rattle.guppy_folders.specs.Folders.{lists_in}

@@ -1,4 +1,4 @@
-use Rattle.std.proofs.Common.{◌∙◌, sym, ap, subst, ℕ, false, List, Bor, length, map}
+use Rattle.std.proofs.Common.{◌∙◌, sym, ap, subst, ℕ, false, List, Bor, length}
 use Rattle.std.proofs.lemmas.List.{length-replicate}
 use Rattle.guppy.specs.Graph.{GraphData}
 use Rattle.guppy.specs.Iterators.{packages_left}

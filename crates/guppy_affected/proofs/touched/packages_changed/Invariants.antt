@@ -1,4 +1,4 @@
-use Rattle.std.proofs.Common.{◌≡◌, length, map}
+use Rattle.std.proofs.Common.{◌≡◌, length}
 use Rattle.guppy.specs.Iterators.{packages_left}
 use Rattle.guppy_folders.specs.Folders.{lists_in}
 use Rattle.guppy_affected.specs.Changed.{IsChangedBy}

@@ -9,7 +9,7 @@ use Rattle.guppy_built.specs.declared.fault.BuiltFault.TheVariants.{FeatureOff, 
 use Rattle.guppy_command.specs.Command.{why_feature}
 use Rattle.guppy_command.specs.Shown.{asked_shown, request_shown}
 use Rattle.guppy_program.specs.Answer.{IsFaultOn}
-use Rattle.guppy_program.specs.Run.{places_of}
+use Rattle.guppy_program.specs.Builds.{places_of}
 use Rattle.guppy_program.proofs.RefusedFeatures.{refused_told}
 use Rattle.guppy_program.proofs.builds.why_of.Goals as goal
 

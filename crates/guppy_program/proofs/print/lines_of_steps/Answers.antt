@@ -1,5 +1,5 @@
 use Rattle.std.proofs.Common.{◌∙◌, ap, sym, ◌∷◌, ℕ, List, map, take}
-use Rattle.guppy_command.specs.Printed.{lines_of, joined, kind_names}
+use Rattle.guppy_command.specs.Printed.{line_end, lines_of, joined, kind_names}
 use Rattle.guppy_command.specs.declared.options.Kinds.{Kinds}
 use Rattle.guppy_program.specs.Printed.{called}
 use Rattle.guppy_program.specs.Shown.{step_shown}
@@ -9,9 +9,10 @@ use Rattle.guppy_program.proofs.print.lines_of_steps.Goals as goal
 pub loop-step-preserved : goal.loop-step-preserved
 loop-step-preserved g c packages are =
     let call = called c.args.options.now (g.F.Format.format.text packages) in
+    let end = line_end c.args.options.now in
     let print = λ (step : List ℕ × Kinds). joined (call step.0 ∷ kind_names step.1) in
     let here = c.step-item.result in
     let shown = map step_shown (take c.loop-step.step-index c.args.steps.now) in
     c.in_ok-push_step.ensures
-    ∙ rw (c.text_of.ensures packages are, c.loop-step.invariant packages are)
-    (sym (ap (λ steps. lines_of (map print steps)) (viewed_more step_shown c.args.steps.now c.loop-step.step-index here c.loop-step-test.true c.step-item.is) ∙ lines_more print shown (step_shown here)))
+    ∙ rw (c.line_end.ensures, c.text_of-called.ensures packages are, c.loop-step.invariant packages are)
+    (sym (ap (λ steps. lines_of end (map print steps)) (viewed_more step_shown c.args.steps.now c.loop-step.step-index here c.loop-step-test.true c.step-item.is) ∙ lines_more end print shown (step_shown here)))

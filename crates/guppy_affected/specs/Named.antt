@@ -1,0 +1,8 @@
+-- Packages of which it is told by their IDs.
+use Rattle.std.specs.Prelude.{ℕ, List, Contains}
+use Rattle.guppy.specs.DataTypes.records.PackageRecord.{PackageRecord}
+use Rattle.guppy.specs.Ids.{HasId}
+
+-- the package at the position has one of the IDs
+abbrev pub HasOneOf : List PackageRecord → List (List ℕ) → ℕ → Type 0
+HasOneOf packages ids p = (id : List ℕ) × Contains ids id × HasId packages id p

@@ -1,0 +1,8 @@
+pub mod Steps
+pub mod Elements
+pub mod Same
+pub mod Sets
+pub mod Absent
+pub mod Relation
+pub mod Others
+pub mod Unchanged

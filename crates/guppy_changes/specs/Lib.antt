@@ -1,0 +1,5 @@
+pub mod Marks
+pub mod Changes
+pub mod Adding
+pub mod Shown
+pub mod Missing
