@@ -11,7 +11,7 @@ use Rattle.guppy_declared.specs.Declares.{Declares}
 use Rattle.guppy_program.specs.Format.{Format}
 use Rattle.guppy_arguments.specs.declared.fault.CargoFault.{CargoFault}
 use Rattle.guppy_arguments.specs.declared.fault.CargoFault.TheVariants.{Cycle, Metadata, NoText}
-use Rattle.guppy_arguments.specs.Fault.{fault_text}
+use Rattle.guppy_arguments.specs.Fault.{cause_of, fault_text}
 use Rattle.guppy_arguments.specs.Names.{text, meant}
 use Rattle.guppy_arguments.specs.Table.{cargo_program}
 use Rattle.guppy_arguments.specs.Told.{Tells}
@@ -49,5 +49,5 @@ json_format = record {
   meant = meant;
   tells_unknown = TellsUnknown;
   tells_cycle = TellsCycle;
-  tells = λ fault text. fault_text fault ≡ text;
+  tells = λ fault cause text. (cause ≡ cause_of fault) × (text ≡ fault_text fault);
 }

@@ -7,7 +7,7 @@ use Rattle.guppy_lines.specs.declared.fault.RunFault.{RunFault}
 use Rattle.guppy_data.specs.declared.texts.error.Error.TheVariants.{UnknownPackageId, PackageGraphInternalError}
 use Rattle.guppy_data.specs.declared.texts.fault.VerifyFault.TheVariants.{Cycle}
 use Rattle.guppy_lines.specs.declared.fault.RunFault.TheVariants.{BadArguments, BadLine, Library}
-use Rattle.guppy_lines.specs.RunFault.{fault_text}
+use Rattle.guppy_lines.specs.RunFault.{cause_of, fault_text}
 use Rattle.guppy_command.specs.Asked.{Asks, IsMisread}
 use Rattle.guppy_command.specs.Grammar.{Program, Misread}
 use Rattle.guppy_command.specs.Ids.{has_id}
@@ -61,5 +61,5 @@ lines_format = record {
   meant = meant_by_id;
   tells_unknown = λ packages word fault. fault ≡ Library (UnknownPackageId word);
   tells_cycle = λ ids round fault. fault ≡ Library (PackageGraphInternalError (Cycle ids));
-  tells = λ fault text. fault_text fault ≡ text;
+  tells = λ fault cause text. (cause ≡ cause_of fault) × (text ≡ fault_text fault);
 }

@@ -28,8 +28,8 @@ pub record Format (Fault : Type 0) : Type 1 where
   pub tells_unknown : List PackageRecord → List ℕ → Fault → Type 0
   -- what the fault tells of a cycle of packages with these IDs, and with this text of what they are called
   pub tells_cycle : Vec (List ℕ) Global → List ℕ → Fault → Type 0
-  -- the fault is told by this text
-  pub tells : Fault → List ℕ → Type 0
+  -- the fault has this cause, and is told by this text
+  pub tells : Fault → Cause → List ℕ → Type 0
 
 -- the arguments ask nothing, and the fault tells why, or memory ran out
 abbrev pub IsAskingFault : {Fault : Type 0} → Format Fault → (List ℕ → List ℕ → Type 0) → List (List ℕ) → Fault

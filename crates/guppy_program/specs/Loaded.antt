@@ -90,4 +90,4 @@ pub record IsBadBefore {Fault : Type 0} (format : Format Fault) (asked : Asked) 
   pub fault : Fault
   pub cause : Cause
   pub why : IsLoadFault format asked input fault cause
-  pub told : format.tells fault text
+  pub told : format.tells fault cause text

@@ -73,7 +73,7 @@ pub trait Format {
 
     /// The text by which the fault is told. Takes memory for it.
     fn told(alloc: Global, fault: &Self::Fault) -> Result<String, AllocError>
-        ensures { IfOk result (λ text. format.tells fault.now (string_bytes text)) };
+        ensures { IfOk result (λ text. format.tells fault.now (Self.Fault.cause fault.now) (string_bytes text)) };
 
     /// Whether the word means the package with this ID alone. Takes memory for a copy of the word.
     fn means(

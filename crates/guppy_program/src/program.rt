@@ -125,7 +125,7 @@ fn load<F: Format>(
 
 // The fault that tells that the state before says no graph, which this one tells, unless memory is wanted.
 fn before_told<F: Format>(alloc: Global, fault: F::Fault) -> F::Fault
-    ensures { ((text : List ℕ) × F.format.tells fault text × (F.Fault.cause result ≡ bad_before text))
+    ensures { ((text : List ℕ) × F.format.tells fault (F.Fault.cause fault) text × (F.Fault.cause result ≡ bad_before text))
         ⊎ (F.Fault.cause result ≡ library OutOfMemory) }
 {
     match F::told(alloc, &fault) {
