@@ -58,6 +58,8 @@ NO_CFGS = "give --cfgs FILE behind each --platform TRIPLE"
 NO_HOST = "give both --host TRIPLE and --host-cfgs FILE"
 NO_PATHS = "affected needs a path, --paths-from FILE or, of the scripts, --since REVISION"
 CYCLE = "error: cycle over links that are not dev-only: "
+WITH_FORMAT = "affected, publish-order, reach, order, roots and links do"
+KINDS = ["normal", "build", "dev"]
 NO_NULS = "its paths aren't each ended by a NUL: give it what git writes with -z"
 
 
@@ -449,6 +451,35 @@ def try_names(graph):
             yield f"{key} {name}", "status 1", ending(["order"], text)
 
 
+def objects_of(graph):
+    """Each package as JSON has it, by its name, of what cargo says."""
+    told = ("name", "version", "id", "manifest_path")
+    return {graph.called[it["id"]]: {key: it[key] for key in told} for it in graph.data["packages"]}
+
+
+def try_json(graph):
+    """Packages and links as JSON, which Python reads, beside what cargo says of them."""
+    given, some, objects = graph.text.encode(), graph.starts[0], objects_of(graph)
+
+    def array(*words, end="\n"):
+        status, text, errors = run([*words, "--format", "json"], given)
+        is_line = status == 0 and errors == "" and text.endswith(end) and text.count("\n") == (end == "\n")
+        return json.loads(text.removesuffix(end)) if is_line else (status, text, errors)
+
+    for words in (["order"], ["roots", "forward"], ["roots", "reverse", "--workspace"], ["affected", "Cargo.toml"]):
+        yield f"{' '.join(words)} --format json", [objects[it] for it in graph.ask(*words)], array(*words)
+    for direction in ("forward", "reverse"):
+        words = ["reach", direction, some]
+        reached = sorted((objects[it] for it in graph.ask(*words)), key=lambda it: it["id"].encode())
+        yield f"{' '.join(words)} --format json", reached, array(*words)
+        yield f"{' '.join(words)} --null --ids --format json", reached, array(*words, "--null", "--ids", end="\0")
+        words = ["links", direction]
+        ends = [tuple(it.split(" ")) for it in graph.ask(*words)]
+        links = [{"from": objects[a], "to": objects[b], "sections": sorted(graph.sections[a, b], key=KINDS.index)} for a, b in ends]
+        yield f"{' '.join(words)} --format json", links, array(*words)
+    yield "affected --format json, of nothing", [], array("affected", "--ignore", "a", "a/b")
+
+
 def try_formats(graph):
     """Lines that end with a NUL, by way of xargs, and packages as flags, which cargo takes for these packages."""
     given, some = graph.text.encode(), graph.starts[0]
@@ -480,9 +511,10 @@ def try_formats(graph):
         yield f"cargo pkgid {flags[it]}", graph.ids[it], graph.cargo("pkgid", flags[it]).rstrip("\n")
     for words, fault in (
         ("order --format", "a value is missing behind --format"),
-        ("order --format flag", "flag is no format: give lines or flags"),
-        ("links forward --format flags", "links takes no --format"),
-        ("verify --format lines", "verify takes no --format"),
+        ("order --format flag", "flag is no format: give lines, flags or json"),
+        ("links forward --format flags", "links takes --format lines or json, not flags"),
+        ("verify --format lines", f"verify takes no --format: {WITH_FORMAT}"),
+        ("why a b --format json", f"why takes no --format: {WITH_FORMAT}"),
         ("dot --null", "dot takes no --null"),
         ("depends a b --null", "depends takes no --null"),
     ):
@@ -671,7 +703,8 @@ def try_help(graph):
     yield "help, the commands", sorted(COMMANDS), sorted(re.findall(r"^  ([a-z][a-z-]+)", told, re.M))
     yield "help, lines of more than 90 letters", [], [it for it in told.splitlines() if len(it) > 90]
     for command, own in (
-        ("links", []),
+        ("cycles", []),
+        ("links", ["--format"]),
         ("order", ["--format"]),
         ("publish-order", ["--format", "--publishable"]),
         ("affected", ["--format", "--ignore", "--also", "--paths-from", "--before", "--resolver"]),
@@ -745,6 +778,11 @@ def try_refused(graph):
     ):
         told = status, "", f"error: {fault}\n"
         yield f"{words} of {text[:20]} and {len(text)} bytes, what is told", told, run(words.split(), text)
+    members = [it for it in graph.names if it in graph.folders]
+    for it in [it for it in graph.names if it not in graph.folders][:1]:
+        told = 1, "", f"error: {it} is no member of the workspace\n"
+        for words in (["built"], ["features", it]):
+            yield f"{words} of {it}, what is told", told, run([*words, "-p", members[0], "-p", it], given)
     firm = Graph(graph.text.replace('"kind":"dev"', '"kind":null'))
     for words, has_cycle in (("verify", firm.has_firm_cycle()), ("publish-order", firm.has_needed_cycle())):
         wanted = f"status {int(has_cycle)}"
@@ -771,6 +809,7 @@ PARTS = {
     "what is given": try_given,
     "names": try_names,
     "formats": try_formats,
+    "json": try_json,
     "options": try_options,
     "platforms": try_platforms,
     "what cargo tree shows": try_tree,

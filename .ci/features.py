@@ -8,7 +8,8 @@ Without arguments this judges the program as built; else the first names one, an
 number workspaces are drawn. `--keep NUMBER FOLDER` writes a drawn workspace to a folder, and prints its questions.
 
 `--commands` asks guppy-cargo, or the program that is named behind it, by the command `built` in the same way, of fewer
-workspaces.
+workspaces. Of metadata that cargo makes in other ways, without `--all-features` or with `--filter-platform`, it has to
+tell the same or refuse them, because an optional dependency isn't resolved in them.
 
 `--own` in the program's place tries the judge: `built.py` has the definition in Python, and wrong definitions, one a
 rule, are planted in it, of which each must be told. The last line is 'N passed, M failed'.
@@ -61,7 +62,7 @@ class Cargo:
         return json.loads(ran.stdout) if ran.returncode == 0 else None
 
     def metadata(self, *words):
-        return self.json("metadata", "--format-version", "1", "--all-features", *words)
+        return self.json("metadata", "--format-version", "1", *(words or ["--all-features"]))
 
     def units(self, words, triples):
         """The graph of units that it would build."""
@@ -155,9 +156,9 @@ def difference(cargo, told):
 class Asked:
     """A question that cargo has answered."""
 
-    def __init__(self, place, words, triples, metadata, resolver, cargo, limit):
+    def __init__(self, place, words, triples, metadata, resolver, cargo, limit, others):
         self.place, self.words, self.triples, self.metadata = place, words, triples, metadata
-        self.resolver, self.cargo, self.limit = resolver, cargo, limit
+        self.resolver, self.cargo, self.limit, self.others = resolver, cargo, limit, others
 
     def __str__(self):
         targets = [word for it in self.triples for word in ("--target", it)]
@@ -183,8 +184,8 @@ def words_for(words, triples, metadata, resolver, world):
 class World:
     """What all questions share."""
 
-    def __init__(self, room):
-        self.room, self.host = room, host_of_rustc()
+    def __init__(self, room, by_command):
+        self.room, self.by_command, self.host = room, by_command, host_of_rustc()
         # In this folder, if it is there, cargo keeps what rustc says of platforms.
         os.mkdir(os.path.join(room, "target"))
         triples = sorted({self.host, *(it for triples in BUILT_FOR for it in triples)})
@@ -197,6 +198,13 @@ NO_LIBRARY = "a dependency has no library"
 NOT_RESOLVED = "an optional dependency isn't in the metadata"
 TWO_NAMES = "a package is asked for under two names"
 LIMITS = [NAMES_DEV, NO_LIBRARY, NOT_RESOLVED, TWO_NAMES]
+# What guppy-cargo tells where an optional dependency isn't resolved.
+UNRESOLVED = (
+    "error: .+'s optional dependency .+ isn't resolved: "
+    "make the metadata with --all-features and the same --features, without --filter-platform\n"
+)
+# And where a feature is asked for of a dependency that is left out of metadata for other platforms.
+LEFT_OUT = "error: no chosen package has the feature [^/]+/.+\n"
 
 
 def limit_of(metadata, words):
@@ -217,6 +225,15 @@ def limit_of(metadata, words):
     return NOT_RESOLVED if built.lacks(metadata, words) else None
 
 
+def other_metadata(cargo, triples, resolver, world):
+    """What cargo tells of the workspace in other ways, by how it is asked. With resolver 1 what is needed on other platforms
+    counts, too."""
+    ways = ["--no-default-features", "--features="]
+    if resolver > 1:
+        ways.append(" ".join(["--all-features", *(f"--filter-platform={it}" for it in sorted({world.host, *triples}))]))
+    return {way: cargo.metadata(*way.split()) for way in ways}
+
+
 def asked_in(place, folder, resolver, questions, world):
     """The questions on a workspace that cargo answers; of the others it is told how many there are."""
     cargo = Cargo(world.room, folder)
@@ -228,7 +245,8 @@ def asked_in(place, folder, resolver, questions, world):
         if units is not None:
             answer = built_by_cargo(units, metadata, world.host)
             limit = limit_of(metadata, words_for(words, triples, metadata, resolver, world))
-            found.append(Asked(place, words, triples, metadata, resolver, answer, limit))
+            others = other_metadata(cargo, triples, resolver, world) if world.by_command else {}
+            found.append(Asked(place, words, triples, metadata, resolver, answer, limit, others))
     return found
 
 
@@ -291,8 +309,9 @@ def told_by_program(program):
     return tell
 
 
-def built_by_command(program, asked, world):
-    """What `guppy-cargo built` says is built."""
+def built_by_command(program, asked, metadata, world):
+    """What `guppy-cargo built` says of the metadata is built, or none where it refuses them: an optional dependency isn't
+    resolved."""
     words, given = words_of(asked, world), []
     while words:
         word = words.pop(0)
@@ -304,11 +323,14 @@ def built_by_command(program, asked, world):
             given += [word, triple, "--host-cfgs" if word == "--host" else "--cfgs", file]
         else:
             given.append(word)
-    ways = {"input": json.dumps(asked.metadata), "capture_output": True, "text": True, "timeout": SECONDS, "check": False}
+    ways = {"input": json.dumps(metadata), "capture_output": True, "text": True, "timeout": SECONDS, "check": False}
     ran = subprocess.run([program, "built", *given], **ways)
-    if ran.returncode != 0 and not asked.limit:
+    refusals = UNRESOLVED if metadata is asked.metadata else f"{UNRESOLVED}|{LEFT_OUT}"
+    if ran.returncode == 1 and re.fullmatch(refusals, ran.stderr):
+        return None
+    if ran.returncode != 0:
         sys.exit(f"features: {asked}: {ran.stderr}")
-    called = {it["id"]: (it["name"], it["version"]) for it in asked.metadata["packages"]}
+    called = {it["id"]: (it["name"], it["version"]) for it in metadata["packages"]}
     for name, version in list(called.values()):
         called[f"{name}@{version}"] = called[name] = name, version
     found = set()
@@ -361,17 +383,34 @@ def judge(tell, world, questions):
     return counts[None, True], len(failures)
 
 
+def wrong_by_command(program, asked, metadata, may_refuse, world):
+    """What guppy-cargo tells of the metadata, none where it refuses them, and what is wrong with that, or none."""
+    told = built_by_command(program, asked, metadata, world)
+    if told is None:
+        return told, None if may_refuse else "it is refused"
+    return told, difference(asked.cargo, told)
+
+
 def judge_command(program, world, questions):
-    """How many questions guppy-cargo answers as cargo does, and how many it doesn't, of those without a limit."""
-    passed = failed = 0
+    """How many questions guppy-cargo answers as cargo does, and how many it doesn't, of those without a limit. Where an
+    optional dependency isn't in the metadata it has to refuse them, and may of metadata that are made in another way."""
+    counts, failed = Counter(), 0
     for asked in questions:
-        if not asked.limit:
-            wrong = difference(asked.cargo, built_by_command(program, asked, world))
-            passed, failed = passed + (not wrong), failed + bool(wrong)
+        lacks = asked.limit == NOT_RESOLVED
+        if asked.limit and not lacks:
+            continue
+        for way, metadata in {"": asked.metadata, **asked.others}.items():
+            told, wrong = wrong_by_command(program, asked, metadata, way or lacks, world)
+            if told is not None and not way and lacks:
+                wrong = "it isn't refused"
+            counts[way.partition("=")[0], told is None] += not wrong
             if wrong:
-                print(f"features: {asked}: FAILED: {wrong}")
-    print(f"features: by command: {passed} as cargo says, {failed} not")
-    return passed, failed
+                failed += 1
+                print(f"features: {asked} {way}: FAILED: {wrong}")
+    for way in sorted({way for way, _ in counts}):
+        told, refused = counts[way, False], counts[way, True]
+        print(f"features: by command, {way or '--all-features'}: {told} as cargo says, {refused} refused")
+    return sum(counts.values()), failed
 
 
 def wrong_definitions():
@@ -412,7 +451,7 @@ def main(words):
     program, *numbers = words or [PROGRAM]
     begun = time.time()
     with tempfile.TemporaryDirectory() as room:
-        world = World(room)
+        world = World(room, program == "--commands")
         if program == "--keep":
             passed, failed = keep(world, int(numbers[0]), numbers[1])
         elif program == "--commands":

@@ -70,6 +70,9 @@ COMMANDS = [
     "publish-order --publishable",
     "--null --format flags order",
     "--format flags reach forward a",
+    "--format json order",
+    "--format json reach forward a",
+    "--format json links forward",
     "--platform x --cfgs CFGS --platform y --cfgs CFGS --host z --host-cfgs CFGS order",
 ]
 # The link of the graph that makes a cycle over links that aren't dev-only, and what ends in a fault for that.

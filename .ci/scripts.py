@@ -19,7 +19,7 @@ from concurrent.futures import ThreadPoolExecutor
 from pathlib import Path
 
 from metadata import try_asked, try_built_for, try_declared, try_flags, try_given, try_host, try_metadata_refused, try_platforms, try_publishable
-from since import try_since, try_since_answers, try_since_locked, try_since_refused, try_since_states
+from since import try_manifests, try_since, try_since_answers, try_since_locked, try_since_manifests, try_since_refused, try_since_states
 from tested import try_tests, try_tests_on_branches, try_tests_refused
 from told import try_told, try_told_of_hosts
 
@@ -290,12 +290,14 @@ def try_memory(world, program, words, more="", path=None, **how):
 def try_run_platforms(world, **how):
     """What guppy-run is told of platforms: by files, or by rustc."""
     lines, on = world.room / "lines", world.room / "on"
+    object_b = '{"name":"b","version":"0.0.0","id":"b","manifest_path":"Cargo.toml"}'
     lines.write_text('package a\npackage b\nlink a b normal\n')
     on.write_text("unix\n")
     for words, wanted in (
         ("--platform x86_64-unknown-linux-gnu order", (0, "a\nb\n", "")),
         (f"--ids --platform=x86_64-pc-windows-gnu --platform x --cfgs={on} order", (0, "a\nb\n", "")),
         ("--null --format flags --platform=x86_64-pc-windows-gnu order", (0, "--package=a\0--package=b\0", "")),
+        ("--format json --platform=x86_64-pc-windows-gnu roots reverse", (0, f"[{object_b}]\n", "")),
         (f"--platform x --cfgs {world.room / 'none'} order", (2, "", "error: bad arguments\n")),
         (f"--host x86_64-unknown-linux-gnu --platform x --cfgs={on} order", (0, "a\nb\n", "")),
         (f"--host=x --host-cfgs {on} --platform x --cfgs={on} order", (0, "a\nb\n", "")),
@@ -357,7 +359,7 @@ def try_installed(world):
     yield "no workspace", ran[0] == 3 and ran[2].endswith("metadata by --metadata FILE\n"), ran
     left = sorted(str(it.relative_to(prefix)) for it in prefix.rglob("*") if it.is_file())
     wanted = ["bin/cargo-guppy", "bin/guppy-cargo", "bin/guppy-run", "libexec/guppy/guppy-cargo", "libexec/guppy/guppy-run"]
-    wanted += [f"libexec/guppy/{it}.sh" for it in ("before", "builds", "metadata", "platforms", "since", "start", "tests", "words")]
+    wanted += [f"libexec/guppy/{it}.sh" for it in ("before", "builds", "manifests", "metadata", "platforms", "since", "start", "tests", "words")]
     yield "nothing else is there", left == sorted(wanted) and not world.left(), (left, world.left())
     metadata = world.room / "metadata.json"
     metadata.write_text("{}")
@@ -440,6 +442,8 @@ PARTS = {
     "changes, answers": (try_since_answers, []),
     "changes, a new lock file": (try_since_locked, []),
     "changes, two states": (try_since_states, []),
+    "changes, manifests": (try_since_manifests, []),
+    "manifests": (try_manifests, []),
     "changes, refusals": (try_since_refused, []),
     "tests of changes": (try_tests, []),
     "tests of changes, on branches": (try_tests_on_branches, []),

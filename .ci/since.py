@@ -308,6 +308,95 @@ def try_since_states(world):
         changing.commit()
 
 
+# What a manifest says, then something else, and whether the metadata show all that this changes.
+RESTS = [
+    ("# x = 1", '\n[dependencies]\n# x', True),
+    ('[dependencies]\nx = "1"', '[dependencies]\nx = { version = "2", features = ["a"] } # it\'s', True),
+    ('[dependencies]\nx.path = "x"', '[dev-dependencies]\nx.workspace = true\n[build-dependencies]\ny = "1"', True),
+    ('[dependencies.x]\npath = "x"', '[dependencies.x]\npath = "x"\nfeatures = [\n  "a",\n]\ndefault-features = false', True),
+    ('[workspace.dependencies]\nx = "1"', '[workspace.dependencies.x]\nversion = "1"', True),
+    ('[patch.crates-io]\nx.path = "x"', '[patch."https://a.b/c"]\nx = { path = "x" }', True),
+    ('[dependencies]\nx = { path = "x", optional = true }', '[dependencies]\nx = { path = "x", optional = true }\ny = "1"', True),
+    ('[dependencies]\ny = "1"\n[target.x.dependencies]\nx = "1"', '[target.x.dependencies]\nx = "1"', True),
+    ('[dependencies]\nx.path = "x"', '[dependencies]\nx = { path = "x", optional = true }', False),
+    ('[dependencies]\nx.path = "x"', '[dependencies]\nx.path = "x"\nx.optional = true', False),
+    ('[dependencies]\nx.path = "x"', '[dependencies]\nx = { path = "x", "public" = true }', False),
+    ('[dependencies]\nx.path = "x"', '[dependencies]\nx = {\n  path = "x",\n  other = true,\n}', False),
+    ('[dependencies]\nx.path = "x"', '[dependencies]\nx = { path = "x", package = "x" }', False),
+    ('[dependencies.x]\noptional = true\n[dependencies.y]\npath = "y"', '[dependencies.x]\n[dependencies.y]\noptional = true', False),
+    ('[target."cfg(unix)".dependencies]\nx = "1"', '[target."cfg(windows)".dependencies]\nx = "1"', False),
+    ('[dependencies]\nx = "1"\n[target.x.dependencies]\nx = "1"', '[target.x.dependencies]\nx = "1"', False),
+    ('[dependencies.x]\npath = "x"\n[target.x.dependencies."x"] # dependencies\n', '[target.x.dependencies."x"] # dependencies\n', False),
+    ('[dependencies]\nx = "1"\n[target.x]\ndependencies.x = "1"', '[target.x]\ndependencies.x = "1"', False),
+    ('["target".x.dependencies]\nx = "1"\n[dependencies]\nx = "1"', '["target".x.dependencies]\nx = "1"', False),
+    ('[dependencies]\nx = "1"\n[lib]\ntest = true', '[dependencies]\nx = "1"\n[lib]\ntest = false', False),
+    ('[features]\nf = []', '[features]\nf = ["x/f"]', False),
+    ('dependencies.x = "1"', 'dependencies.x = "2"', False),
+    ('[package]\ndescription = """\n[dependencies]\nx"""', '[package]\ndescription = """\n[dependencies]\ny"""', False),
+]
+
+
+def try_manifests(world):
+    def rest(text):
+        write(world.room / "Cargo.toml", f"{text}\n")
+        ran = world.run(["sh", "-c", '. "$0" && print_rest Cargo.toml', world.top / "scripts/manifests.sh"], where=world.room)
+        return ran if ran[0] == 0 and ran[2] == "" else (ran, text)
+
+    for before, now, is_shown in RESTS:
+        rests = rest(before), rest(now)
+        yield f"{before} is changed to {now}", (rests[0] == rests[1]) == is_shown, rests
+
+
+def edit(path, old, new):
+    text = path.read_text()
+    assert old in text, (path, old)
+    write(path, text.replace(old, new))
+
+
+def try_since_manifests(world):
+    """A manifest counts by what it changed where the metadata show all of that, or else as a path of its package's."""
+    changing = Changing(world.room / "repository", "a workspace")
+    root, manifest = changing.root, changing.root / "a/Cargo.toml"
+    write(changing.top / ".gitignore", "")
+    out, versioned = 'out.path = "../../out"', 'out = { path = "../../out", version = "0.1" }'
+    for name in "ab":
+        edit(root / name / "Cargo.toml", "[dep", "[features]\nf = []\n[dep")
+    metadata_file(changing)
+    shared = '\n[workspace.dependencies]\nout.path = "../out"\n'
+    test_of = 'const _: &str = include_str!("../Cargo.toml");\n'
+    # Nothing is changed where it is asked again with other words.
+    for what, change, words, wanted in (
+        ("a version that is asked for", lambda: edit(manifest, out, versioned), [], ""),
+        ("with fewer kinds", None, ["--kinds", "normal"], "ab"),
+        ("with named features", None, ["--features", "f"], "ab"),
+        ("with other folders given", None, ["--also", "b=b", "--also=out=b", "--also", "no/such=c"], ""),
+        ("with its folder given", None, ["--also", "b/../a=c"], "abc"),
+        ("with itself given", None, [f"--also={manifest}=c"], "abc"),
+        ("what gets optional", lambda: edit(manifest, '"0.1"', '"0.1", optional = true'), [], "ab"),
+        ("a description", lambda: edit(manifest, "[feat", 'description = "x"\n[feat'), [], "ab"),
+        ("a feature that says more", lambda: edit(manifest, "f = []", 'f = ["out"]'), [], "ab"),
+        ("a package outside", lambda: edit(changing.out / "Cargo.toml", "[dep", "[lib]\n[dep"), [], "abc"),
+        ("only its dependencies", lambda: edit(changing.out / "Cargo.toml", "[dependencies]", "# more\n[build-dependencies]"), [], ""),
+        ("a manifest of no package", lambda: write(root / "c/data/Cargo.toml", "[dependencies]\n"), [], "c"),
+        ("its dependencies", lambda: write(root / "c/data/Cargo.toml", '[dependencies]\nx = "1"\n'), [], "c"),
+        ("a build script", lambda: write(root / "c/build.rs", "fn main() {}\n"), [], "c"),
+        ("what that may look at", lambda: edit(root / "c/Cargo.toml", out, versioned), [], "c"),
+        ("a comment that names manifests", lambda: write(root / "b/src/lib.rs", "//! See Cargo.toml.\n"), [], "b"),
+        ("one of these", lambda: edit(root / "b/Cargo.toml", out, versioned), [], ""),
+        ("a source that names it", lambda: write(root / "b/tests/all.rs", test_of), [], "b"),
+        ("what that looks at", lambda: edit(root / "b/Cargo.toml", versioned, out), [], "b"),
+        ("what members share", lambda: edit(root / "Cargo.toml", '"2"\n', f'"2"\n{shared}'), [], "b"),
+        ("which they share", None, ["--also", "Cargo.toml=c"], "abc"),
+    ):
+        if change:
+            changing.commit()
+            change()
+        ran = world.run(["guppy-cargo", "affected", "--since", "HEAD", *words], where=root)
+        is_right = ran[0] == 0 and "isn't known" not in ran[2] and sorted(ran[1].split()) == list(wanted)
+        yield what, is_right, ran
+        yield f"{what}: what is left behind", world.left() == [], world.left()
+
+
 def ask_for_feature(root):
     """Package b asks for a feature of a."""
     manifest = root / "b/Cargo.toml"

@@ -43,6 +43,7 @@ TOLD = [
     ("order --tests", ["order --tests"]),
     ("--null --format flags order", ["order --null --format flags"]),
     ("order --format=flags", ["order --format flags"]),
+    ("links forward --format json", ["links forward --format json"]),
 ]
 WRONG = [
     ("built --resolver", "--resolver needs a value"),

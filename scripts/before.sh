@@ -2,7 +2,8 @@
 # revision.
 
 # Sets before to the words that name a file with what cargo says of the workspace as it was at the revision, or to nothing
-# where that isn't known, which a line says. The file is gone at once, but for who has it open.
+# where that isn't known, which a line says. The file is gone at once, but for who has it open. What counts by what it
+# changed alone is taken out of changed. The words are those of the program.
 take_before() {
     before= state=
     [ "$next" -le 9 ] || {
@@ -18,40 +19,17 @@ take_before() {
     trap 'exit 130' INT
     trap 'exit 143' TERM
     state=$(mktemp -d) || fail "no temporary folder can be made"
-    if why=$(make_state 2>&1 < /dev/null); then
+    if why=$(make_state "$@" 3<&0 2>&1 < /dev/null); then
         eval "exec $next< \"\$state/metadata\""
         before="--before /dev/fd/$next"
         next=$((next + 1))
-        take_as_own Cargo.lock
-        [ ! -e "$state/same" ] || take_as_own Cargo.toml
+        changed=$(printf %s "$changed" | LC_ALL=C sed -f "$state/left-out")$(cat "$state/added")
     else
         line=$(printf '%s\n' "$why" | sed -n 's/^error: //p; s/^fatal: //p' | head -n 1)
         tell_no_state "${line:-$(printf '%s\n' "$why" | tail -n 1)}"
     fi
     trap - EXIT HUP INT TERM
     clean_state
-}
-
-# Takes this file of the workspace's root from the paths that changed, since what it changed shows in the metadata, and
-# puts in its place the build script of the package there, if there is one, since that may look at each file.
-take_as_own() {
-    own=
-    ! { [ -e "$root/build.rs" ] || grep -q '^[ \t]*build[ \t]*=' "$root/Cargo.toml"; } || own="'build.rs' "
-    changed=$(printf %s "$changed" | LC_ALL=C sed "s/^'$1' /$own/; s/ '$1' / $own/")
-}
-
-# Prints what a manifest says beside dependencies and patches, whose changes the metadata show, or all where a text of
-# several lines might look like a table.
-print_rest() {
-    if LC_ALL=C grep -qE "\"\"\"|'''" "$1"; then
-        cat "$1"
-        return
-    fi
-    LC_ALL=C awk '
-        /^[ \t]*\[/ {
-            is_of_links = /^[ \t]*\[ *((workspace\.|target\.[^]]*\.)?(dev-|build-)?dependencies|patch)[] .]/
-        }
-        !is_of_links' "$1"
 }
 
 # Says that the state before isn't known, and why, where that takes a member in.
@@ -84,6 +62,6 @@ make_state() (
     beside=$(printf %s "$others" | sed "s/'--locked' //; s/'--offline' //; s/'--frozen' //")
     eval "\"\$cargo\" metadata --format-version 1 --locked --offline $features $beside" > "$state/printed" || exit
     LC_ALL=C sed "s,$state/top,$top,g" "$state/printed" > "$state/metadata" || exit
-    print_rest Cargo.toml > "$state/rest" && print_rest "$root/Cargo.toml" > "$state/rest-now" || exit
-    ! cmp -s "$state/rest" "$state/rest-now" || : > "$state/same"
+    leave_out_shown "$@"
+    :
 )

@@ -224,7 +224,7 @@ answer() {
     if [ -n "$revision" ]; then
         take_changed
         before=
-        ! makes_before || take_before
+        ! makes_before || take_before "$@"
         shift
         eval "set -- affected $changed $before \"\$@\""
         are_few "$@"

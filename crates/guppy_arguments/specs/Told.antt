@@ -1,15 +1,17 @@
 -- Why arguments ask nothing, as it is told.
-use Rattle.std.specs.Prelude.{◌≡◌, ℕ, ◌+◌, true, false, List, ◌++◌, Option, Some, None, IfSome, MatchOption, String, codes, string_bytes}
+use Rattle.std.specs.Prelude.{◌≡◌, ℕ, ◌+◌, true, false, List, [], ◌++◌, Option, Some, None, IfSome, MatchOption, String, codes, string_bytes, if◌then◌else◌}
+use Rattle.std.specs.Str.{bytes_eq}
 use Rattle.std.specs.declared.alloc.Global.{Global}
 use Rattle.std.specs.Fmt.{decimal}
 use Rattle.guppy_data.specs.declared.texts.error.Error.TheVariants.{OutOfMemory}
 use Rattle.guppy_command.specs.declared.fault.Fault.TheVariants.{Library}
-use Rattle.guppy_command.specs.Grammar.{Misread, no_option, no_value, needless_value, repeated, not_taken, no_command, unknown_command, bad_words, bad_kinds, bad_resolver, bad_format, lone_platform, lone_host, all_ignored, no_paths, cfgs_failed, bad_cfg, paths_failed, unended_paths, bad_also, before_failed}
+use Rattle.guppy_command.specs.Grammar.{Misread, no_option, no_value, needless_value, repeated, not_taken, no_command, unknown_command, bad_words, bad_kinds, bad_resolver, bad_format, no_flags, lone_platform, lone_host, all_ignored, no_paths, cfgs_failed, bad_cfg, paths_failed, unended_paths, bad_also, before_failed}
+use Rattle.guppy_command.specs.declared.table.TheConstants.{FORMAT}
 use Rattle.guppy_command.specs.Asked.{IsMisread}
 use Rattle.guppy_arguments.specs.declared.fault.CargoFault.{CargoFault}
 use Rattle.guppy_arguments.specs.declared.fault.CargoFault.TheVariants.{Program, Arguments}
 use Rattle.guppy_arguments.specs.declared.told.ArgumentsFault.{ArgumentsFault}
-use Rattle.guppy_arguments.specs.declared.told.ArgumentsFault.TheVariants.{NoOption, NoValue, NeedlessValue, Repeated, NotTaken, NoCommand, UnknownCommand, BadWords, BadKinds, BadResolver, BadFormat, LonePlatform, LoneHost, AllIgnored, NoPaths, CfgsFailed, BadCfg, PathsFailed, UnendedPaths, OfScripts, BadAlso, BeforeFailed}
+use Rattle.guppy_arguments.specs.declared.told.ArgumentsFault.TheVariants.{NoOption, NoValue, NeedlessValue, Repeated, NotTaken, NoCommand, UnknownCommand, BadWords, BadKinds, BadResolver, BadFormat, NoFlags, LonePlatform, LoneHost, AllIgnored, NoPaths, CfgsFailed, BadCfg, PathsFailed, UnendedPaths, OfScripts, BadAlso, BeforeFailed}
 use Rattle.guppy_arguments.specs.Nearest.{IsFar, IsNearest}
 use Rattle.guppy_arguments.specs.Scripts.{all_names, is_of_scripts}
 use Rattle.guppy_arguments.specs.Table.{cargo_program, command_names, usage_of}
@@ -27,6 +29,7 @@ misread_of (BadWords command) = bad_words (string_bytes command)
 misread_of (BadKinds value) = bad_kinds (string_bytes value)
 misread_of (BadResolver value) = bad_resolver (string_bytes value)
 misread_of (BadFormat value) = bad_format (string_bytes value)
+misread_of (NoFlags command) = no_flags (string_bytes command)
 misread_of LonePlatform = lone_platform
 misread_of LoneHost = lone_host
 misread_of (AllIgnored folder) = all_ignored (string_bytes folder)
@@ -66,6 +69,11 @@ abbrev pub hint : Option (String Global) → List ℕ
 hint (Some nearest) = codes "the nearest is " ++ string_bytes nearest
 hint None = codes "guppy-cargo help lists them"
 
+-- of the format, which commands take it
+abbrev pub takers_of : List ℕ → List ℕ
+takers_of name = if bytes_eq name FORMAT.now
+    then codes ": affected, publish-order, reach, order, roots and links do" else []
+
 abbrev pub arguments_text : ArgumentsFault → List ℕ
 arguments_text (NoOption word nearest) = string_bytes word ++ (codes " is no option: " ++ hint nearest)
 arguments_text (OfScripts word nearest) =
@@ -74,7 +82,8 @@ arguments_text (OfScripts word nearest) =
 arguments_text (NoValue name) = codes "a value is missing behind " ++ string_bytes name
 arguments_text (NeedlessValue name) = string_bytes name ++ codes " takes no value"
 arguments_text (Repeated name) = string_bytes name ++ codes " is given twice"
-arguments_text (NotTaken command name) = string_bytes command ++ (codes " takes no " ++ string_bytes name)
+arguments_text (NotTaken command name) =
+    string_bytes command ++ (codes " takes no " ++ (string_bytes name ++ takers_of (string_bytes name)))
 arguments_text NoCommand = codes "give a command: guppy-cargo help lists them"
 arguments_text (UnknownCommand word nearest) = string_bytes word ++ (codes " is no command: " ++ hint nearest)
 arguments_text (BadWords command) =
@@ -82,7 +91,8 @@ arguments_text (BadWords command) =
 arguments_text (BadKinds value) =
     string_bytes value ++ codes " is no kind: give some of normal,build,dev, separated by commas"
 arguments_text (BadResolver value) = string_bytes value ++ codes " is no resolver: give 1, 2 or 3"
-arguments_text (BadFormat value) = string_bytes value ++ codes " is no format: give lines or flags"
+arguments_text (BadFormat value) = string_bytes value ++ codes " is no format: give lines, flags or json"
+arguments_text (NoFlags command) = string_bytes command ++ codes " takes --format lines or json, not flags"
 arguments_text LonePlatform = codes "give --cfgs FILE behind each --platform TRIPLE"
 arguments_text LoneHost = codes "give both --host TRIPLE and --host-cfgs FILE"
 arguments_text (AllIgnored folder) =

@@ -42,8 +42,15 @@ const OF_LISTS: &[&str] = &[
     "why-feature",
 ];
 
-// The commands whose answer is packages alone.
-const OF_PACKAGES: &[&str] = &["affected", "publish-order", "reach", "order", "roots"];
+// The commands whose answer is packages alone, or links.
+const WITH_FORMAT: &[&str] = &[
+    "affected",
+    "publish-order",
+    "reach",
+    "order",
+    "roots",
+    "links",
+];
 
 // The commands that ask what Cargo builds.
 const OF_BUILDS: &[&str] = &["built", "features", "why-feature"];
@@ -109,9 +116,9 @@ pub const OPTIONS: &[OptionRow] = &[
         FORMAT,
         Some("FORMAT"),
         false,
-        Some(OF_PACKAGES),
-        "lines, which is meant where none is given, or flags: --package=NAME@VERSION, as\n      \
-         cargo takes them",
+        Some(WITH_FORMAT),
+        "lines, as without it, flags: --package=NAME@VERSION, as cargo takes them, or json:\n      \
+         an array of objects; of links lines or json",
     ),
     (
         PUBLISHABLE,

@@ -6,13 +6,14 @@ ghost use Rattle.guppy_command.specs.Grammar.{no_option};
 ghost use Rattle.guppy_arguments.specs.Nearest.{IsNearest};
 ghost use Rattle.guppy_arguments.specs.Scripts.{all_names};
 ghost use Rattle.guppy_arguments.specs.Table.{cargo_program};
-ghost use Rattle.guppy_arguments.specs.Told.{misread_of, HasNearest, IsNearestIfAny, Tells};
+ghost use Rattle.guppy_arguments.specs.Told.{misread_of, HasNearest, IsNearestIfAny, Tells, takers_of};
 
 use crate::fault::CargoFault;
 use crate::nearest::nearest_of;
 use crate::scripts::{all_names, is_of_scripts};
 use crate::table::{COMMANDS, program, usage_of};
 use guppy_command::grammar::Misread;
+use guppy_command::table::FORMAT;
 use guppy_command::{Asked, Files, found};
 use std::alloc::{AllocError, Global};
 use std::fmt;
@@ -64,6 +65,8 @@ pub enum ArgumentsFault {
     BadResolver(String),
     /// This is no format.
     BadFormat(String),
+    /// The command takes a format, but its answer isn't packages alone, of which flags tell.
+    NoFlags(String),
     /// There is a platform without a file that has what is set there, or such a file without a platform.
     LonePlatform,
     /// The host has no file with what is set there, or there is such a file without a host.
@@ -91,6 +94,17 @@ pub enum ArgumentsFault {
     BeforeFailed(String),
 }
 
+// Of the format, which commands take it.
+fn takers_of(name: &str) -> &'static str
+    ensures { result.now ≡ takers_of name.now }
+{
+    if name == FORMAT {
+        ": affected, publish-order, reach, order, roots and links do"
+    } else {
+        ""
+    }
+}
+
 impl fmt::Display for ArgumentsFault {
     ghost use Rattle.std.specs.Prelude.{Some};
     ghost use Rattle.guppy_arguments.specs.Told.{arguments_text};
@@ -113,7 +127,11 @@ impl fmt::Display for ArgumentsFault {
             ArgumentsFault::NoValue(name) => write!(f, "a value is missing behind {name}"),
             ArgumentsFault::NeedlessValue(name) => write!(f, "{name} takes no value"),
             ArgumentsFault::Repeated(name) => write!(f, "{name} is given twice"),
-            ArgumentsFault::NotTaken { command, name } => write!(f, "{command} takes no {name}"),
+            ArgumentsFault::NotTaken { command, name } => write!(
+                f,
+                "{command} takes no {name}{}",
+                takers_of(name.as_str())
+            ),
             ArgumentsFault::NoCommand => {
                 f.write_str("give a command: guppy-cargo help lists them")
             }
@@ -137,7 +155,10 @@ impl fmt::Display for ArgumentsFault {
                 write!(f, "{value} is no resolver: give 1, 2 or 3")
             }
             ArgumentsFault::BadFormat(value) => {
-                write!(f, "{value} is no format: give lines or flags")
+                write!(f, "{value} is no format: give lines, flags or json")
+            }
+            ArgumentsFault::NoFlags(command) => {
+                write!(f, "{command} takes --format lines or json, not flags")
             }
             ArgumentsFault::LonePlatform => {
                 f.write_str("give --cfgs FILE behind each --platform TRIPLE")
@@ -243,6 +264,7 @@ fn told(alloc: Global, misread: Misread<'_>) -> Result<ArgumentsFault, AllocErro
         Misread::BadKinds(value) => Ok(ArgumentsFault::BadKinds(copy(value)?)),
         Misread::BadResolver(value) => Ok(ArgumentsFault::BadResolver(copy(value)?)),
         Misread::BadFormat(value) => Ok(ArgumentsFault::BadFormat(copy(value)?)),
+        Misread::NoFlags(command) => Ok(ArgumentsFault::NoFlags(copy(command)?)),
         Misread::LonePlatform => Ok(ArgumentsFault::LonePlatform),
         Misread::LoneHost => Ok(ArgumentsFault::LoneHost),
         Misread::AllIgnored(folder) => Ok(ArgumentsFault::AllIgnored(copy(folder)?)),

@@ -10,6 +10,7 @@ use Rattle.guppy_features.specs.Facts.{feature_fact}
 use Rattle.guppy_features.specs.Follows.{FollowsFor}
 use Rattle.guppy_features.specs.Questions.{Question, question}
 use Rattle.guppy_features.specs.Reasons.{AreWays, grounds}
+use Rattle.guppy_features.specs.Unresolved.{AreResolved}
 use Rattle.guppy_features.specs.declared.fact.BuildPlatform.{BuildPlatform}
 use Rattle.guppy_features.specs.declared.fact.BuildPlatform.TheVariants.{Target, Host}
 use Rattle.guppy_features.specs.declared.fact.Fact.{Fact}
@@ -17,6 +18,7 @@ use Rattle.guppy_features.specs.declared.options.CargoOptions.{CargoOptions}
 use Rattle.guppy_features.specs.declared.reason.Reason.{Reason}
 use Rattle.guppy_built.specs.declared.askers.FeatureOn.{FeatureOn}
 use Rattle.guppy_built.specs.Asked.{Choice, IsAsked}
+use Rattle.guppy_built.specs.Refused.{IsOfMember}
 use Rattle.guppy_built.specs.Rows.{IsFeatureOn, feature_names}
 use Rattle.guppy_built.specs.Those.{AreThose}
 
@@ -71,11 +73,14 @@ pub record AreOnSides (q : Question) (p : ℕ) (rows : List FeatureData) : Type 
   pub on_host : AreOnSide q p Host host
   pub all : rows ≡ target ++ host
 
--- those of the package with the ID for the choice
+-- those of the package with the ID for the choice, of which each ID is a member's, where all that is switched on is
+-- resolved
 pub record AreFeatures (g : GraphData) (c : Choice) (id : List ℕ) (rows : List FeatureData) : Type 0 where
+  pub named : All (IsOfMember g.packages) c.members
   pub options : CargoOptions
   pub members : List ℕ
   pub asked : IsAsked g c options members
+  pub resolved : AreResolved (question g options)
   pub position : ℕ
   pub found : HasId g.packages id position
   pub exact : AreOnSides (question g options) position rows

@@ -1,4 +1,5 @@
 pub mod Asked
+pub mod Refused
 pub mod Those
 pub mod Rows
 pub mod Names

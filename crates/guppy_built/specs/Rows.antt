@@ -1,5 +1,5 @@
 -- What is built, a row for each package on each platform.
-use Rattle.std.specs.Prelude.{◌≡◌, ◌↔◌, codes, ℕ, Bool, true, false, ◌&&◌, List, map, filter, slice_get, Contains, Some, is_some}
+use Rattle.std.specs.Prelude.{◌≡◌, ◌↔◌, codes, ℕ, Bool, true, false, ◌&&◌, List, map, filter, slice_get, All, Contains, Some, is_some}
 use Rattle.std.specs.List.{AllZip}
 use Rattle.std.specs.List.Sorted.{IsStrictlySortedBy}
 use Rattle.std.specs.Option.{option_map_or}
@@ -12,6 +12,7 @@ use Rattle.guppy_graph.specs.Graph.{GraphData}
 use Rattle.guppy_target.specs.Platform.{PlatformData}
 use Rattle.guppy_features.specs.Facts.{feature_fact}
 use Rattle.guppy_features.specs.Questions.{Question, question}
+use Rattle.guppy_features.specs.Unresolved.{AreResolved}
 use Rattle.guppy_features.specs.declared.fact.BuildPlatform.{BuildPlatform}
 use Rattle.guppy_features.specs.declared.options.CargoOptions.{CargoOptions}
 use Rattle.guppy_builds.specs.BuildOrder.{build_cmp}
@@ -26,6 +27,7 @@ use Rattle.guppy_builds.specs.declared.build.BuildPlace.{BuildPlace}
 use Rattle.guppy_builds.specs.declared.build.BuildPlace.TheVariants.{Target, Host}
 use Rattle.guppy_built.specs.declared.rows.BuiltPackage.{BuiltPackage}
 use Rattle.guppy_built.specs.Asked.{Choice, IsAsked}
+use Rattle.guppy_built.specs.Refused.{IsOfMember}
 use Rattle.guppy_built.specs.Those.{AreThose}
 
 -- a package that is built: its ID, what the platform is called, and its features
@@ -81,8 +83,17 @@ pub record AreRows (b : Builds) (rows : List Row) : Type 0 where
   pub order : IsStrictlySortedBy build_cmp built
   pub rows_are : AllZip (IsRow b) (filter (has_row b.question.graph) built) rows
 
--- the rows of what Cargo builds by the choice
+-- the rows of what Cargo builds by the choice, of which each ID is a member's, where all that is switched on is resolved
 pub record AreBuilt (g : GraphData) (c : Choice) (rows : List Row) : Type 0 where
+  pub named : All (IsOfMember g.packages) c.members
+  pub options : CargoOptions
+  pub members : List ℕ
+  pub asked : IsAsked g c options members
+  pub resolved : AreResolved (question g options)
+  pub exact : AreRows (builds (question g options) members) rows
+
+-- the same of what is resolved, whatever isn't
+pub record AreBuiltAsResolved (g : GraphData) (c : Choice) (rows : List Row) : Type 0 where
   pub options : CargoOptions
   pub members : List ℕ
   pub asked : IsAsked g c options members

@@ -1,5 +1,5 @@
 -- Why a feature is on.
-use Rattle.std.specs.Prelude.{◌≡◌, ℕ, List, Some, None, slice_get, IsSomeAnd}
+use Rattle.std.specs.Prelude.{◌≡◌, ℕ, List, Some, None, slice_get, All, IsSomeAnd}
 use Rattle.std.specs.List.{filter_map}
 use Rattle.guppy_graph.specs.Graph.{GraphData}
 use Rattle.guppy_graph.specs.Ids.{HasId}
@@ -7,6 +7,7 @@ use Rattle.guppy_features.specs.Facts.{feature_fact, feature_place}
 use Rattle.guppy_features.specs.Follows.{FollowsFor}
 use Rattle.guppy_features.specs.Questions.{Question, question}
 use Rattle.guppy_features.specs.Reasons.{AreReasons, AreNeeded, EndsIn}
+use Rattle.guppy_features.specs.Unresolved.{AreResolved}
 use Rattle.guppy_features.specs.declared.fact.BuildPlatform.{BuildPlatform}
 use Rattle.guppy_features.specs.declared.fact.BuildPlatform.TheVariants.{Target, Host}
 use Rattle.guppy_features.specs.declared.fact.Fact.{Fact}
@@ -14,8 +15,9 @@ use Rattle.guppy_features.specs.declared.options.CargoOptions.{CargoOptions}
 use Rattle.guppy_features.specs.declared.reason.Reason.{Reason}
 use Rattle.guppy_built.specs.declared.fault.BuiltFault.{BuiltFault}
 use Rattle.guppy_built.specs.declared.fault.BuiltFault.TheVariants.{LacksFeature, FeatureOff}
-use Rattle.guppy_built.specs.Asked.{Choice, IsAsked, IsChoiceFault}
+use Rattle.guppy_built.specs.Asked.{Choice, IsAsked}
 use Rattle.guppy_built.specs.Names.{StepData, named_step}
+use Rattle.guppy_built.specs.Refused.{IsBuiltFault, IsOfMember}
 use Rattle.guppy_built.specs.Rows.{IsFeatureOn}
 
 -- why the fact holds, in steps by names: each behind those that its own follows from, nothing that isn't needed
@@ -37,11 +39,14 @@ pub data IsWhyFeature (q : Question) (p : ℕ) (name : List ℕ) (steps : List S
   on_target : IsWhyOn q p Target name steps → IsWhyFeature q p name steps
   on_host : ¬ IsFeatureOn q p Target name → IsWhyOn q p Host name steps → IsWhyFeature q p name steps
 
--- why the feature of the package with the ID is on for the choice
+-- why the feature of the package with the ID is on for the choice, of which each ID is a member's, where all that is
+-- switched on is resolved
 pub record IsWhy (g : GraphData) (c : Choice) (id name : List ℕ) (steps : List StepData) : Type 0 where
+  pub named : All (IsOfMember g.packages) c.members
   pub options : CargoOptions
   pub members : List ℕ
   pub asked : IsAsked g c options members
+  pub resolved : AreResolved (question g options)
   pub position : ℕ
   pub found : HasId g.packages id position
   pub why : IsWhyFeature (question g options) position name steps
@@ -52,11 +57,13 @@ pub record IsLacking (g : GraphData) (id name : List ℕ) : Type 0 where
   pub found : HasId g.packages id position
   pub lacks : IsSomeAnd (slice_get g.packages position) (λ r. feature_place r name ≡ None)
 
--- its feature of the name is on on neither side
+-- its feature of the name is on on neither side, where all that is switched on is resolved
 pub record IsOff (g : GraphData) (c : Choice) (id name : List ℕ) : Type 0 where
+  pub named : All (IsOfMember g.packages) c.members
   pub options : CargoOptions
   pub members : List ℕ
   pub asked : IsAsked g c options members
+  pub resolved : AreResolved (question g options)
   pub position : ℕ
   pub found : HasId g.packages id position
   pub target : ¬ IsFeatureOn (question g options) position Target name
@@ -66,4 +73,4 @@ pub record IsOff (g : GraphData) (c : Choice) (id name : List ℕ) : Type 0 wher
 abbrev pub IsWhyFault : GraphData → Choice → List ℕ → List ℕ → BuiltFault → Type 0
 IsWhyFault g c id name LacksFeature = IsLacking g id name
 IsWhyFault g c id name FeatureOff = IsOff g c id name
-IsWhyFault g c id name fault = IsChoiceFault g c fault
+IsWhyFault g c id name fault = IsBuiltFault g c fault

@@ -28,7 +28,7 @@ pub(crate) fn options_of<'p>(
     graph: &RecordGraph,
     question: &BuildQuestion<'_, 'p>,
     members: &[usize],
-) -> Result<CargoOptions<'p>, BuiltFault>
+) -> Result<CargoOptions<'p>, BuiltFault<'p>>
     requires members { AreChosen graph.now question.now.members.now members.now }
     requires within { All (λ p. p < length graph.now.packages) members.now }
     ensures ok { IfOk result (λ options. IsAsked graph.now (choice_of question.now) options members.now) }

@@ -3,14 +3,16 @@ ghost use Rattle.std.specs.Prelude.{◌≡◌, ◌++◌, ◌<◌, All, IfErr, If
 ghost use Rattle.std.specs.List.{filter_map};
 ghost use Rattle.guppy_graph.specs.Ids.{IsKnown};
 ghost use Rattle.guppy_features.specs.Reasons.{grounds};
-ghost use Rattle.guppy_built.specs.Asked.{IsChoiceFault, choice_of};
+ghost use Rattle.guppy_built.specs.Asked.{choice_of};
 ghost use Rattle.guppy_built.specs.Features.{AreAskers, AreFeatures, AreOnSide, AreOnSides, IsFeature, feature_shown, id_at, needed_positions};
+ghost use Rattle.guppy_built.specs.Refused.{IsBuiltFault};
 ghost use Rattle.guppy_built.specs.Rows.{IsFeatureOn};
 
 use crate::asked::options_of;
 use crate::fault::BuiltFault;
-use crate::members::{chosen_members, position_of};
+use crate::members::{checked_members, position_of};
 use crate::question::BuildQuestion;
+use crate::resolved::all_resolved;
 use guppy_data::{PackageId, SortedSet};
 use guppy_features::{BuildPlatform, CargoSet, Fact, Reason};
 use guppy_graph::RecordGraph;
@@ -165,24 +167,25 @@ fn features_on_sides<'a>(
 /// The features of the package with the ID that are on where Cargo builds the choice, those on the target's side first,
 /// each side in the order of the record, and who asks for each.
 ///
-/// The members' IDs, and this one, have to be known. Fails with `UnknownFeature`, with the place of the first of the
-/// features that Cargo refuses, and else with `OutOfMemory` only where there is none. Takes the time and memory of
-/// [`CargoSet::new`], and of [`CargoSet::ways`] for each feature that is on.
+/// The members' IDs, and this one, have to be known. Fails as [`built_packages`](crate::built_packages) does. Takes the
+/// time and memory of [`CargoSet::new`] and [`CargoSet::first_unresolved`], and of [`CargoSet::ways`] for each feature
+/// that is on.
 pub fn features_of<'a>(
     alloc: Global,
     graph: &'a RecordGraph,
     question: &BuildQuestion<'_, 'a>,
     id: &PackageId,
-) -> Result<Vec<FeatureOn<'a>>, BuiltFault>
+) -> Result<Vec<FeatureOn<'a>>, BuiltFault<'a>>
     requires members { All (IsKnown graph.now.packages) question.now.members.now }
     requires package { IsKnown graph.now.packages id.now }
     ensures ok { IfOk result (λ rows. AreFeatures graph.now (choice_of question.now) id.now
         (map feature_shown rows.items)) }
-    ensures err { IfErr result (IsChoiceFault graph.now (choice_of question.now)) }
+    ensures err { IfErr result (IsBuiltFault graph.now (choice_of question.now)) }
 {
     let position = position_of(graph, id);
-    let members = chosen_members(alloc, graph, question.members)?;
+    let members = checked_members(alloc, graph, question.members)?;
     let options = options_of(alloc, graph, question, members.as_slice())?;
     let set = CargoSet::new(graph, &options)?;
+    all_resolved(graph, &set)?;
     Ok(features_on_sides(alloc, graph, &set, position)?)
 }

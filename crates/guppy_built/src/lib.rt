@@ -7,6 +7,7 @@
 //!
 //! - `question`: what is asked; `fault`: why there is no answer;
 //! - `members`: the members that are chosen; `asked`: what all of it means to Cargo;
+//! - `resolved`: whether the metadata resolve all that is switched on;
 //! - `features`: which features of a package are on;
 //! - `rows`: what is built, a row for each package on each platform;
 //! - `names`: what facts say, by names;
@@ -20,6 +21,7 @@ mod features;
 mod members;
 mod names;
 mod question;
+mod resolved;
 mod rows;
 mod why;
 
@@ -27,5 +29,5 @@ pub use crate::askers::{FeatureOn, features_of};
 pub use crate::fault::BuiltFault;
 pub use crate::names::{FactName, NamedFact, NamedReason};
 pub use crate::question::BuildQuestion;
-pub use crate::rows::{BuiltPackage, built_packages};
+pub use crate::rows::{BuiltPackage, built_as_resolved, built_packages};
 pub use crate::why::why_feature;

@@ -5,13 +5,15 @@ ghost use Rattle.guppy_graph.specs.Ids.{IsKnown};
 ghost use Rattle.guppy_features.specs.Questions.{question};
 ghost use Rattle.guppy_builds.specs.Building.{builds};
 ghost use Rattle.guppy_built.specs.Asked.{AreChosen, IsChoiceFault, choice_of};
-ghost use Rattle.guppy_built.specs.Rows.{AreBuilt, AreRows, IsRow, has_row, is_alone, platform_name, row_of};
+ghost use Rattle.guppy_built.specs.Refused.{IsBuiltFault};
+ghost use Rattle.guppy_built.specs.Rows.{AreBuilt, AreBuiltAsResolved, AreRows, IsRow, has_row, is_alone, platform_name, row_of};
 
 use crate::asked::options_of;
 use crate::fault::BuiltFault;
 use crate::features::{features_on, side_at};
-use crate::members::chosen_members;
+use crate::members::{checked_members, chosen_members};
 use crate::question::BuildQuestion;
+use crate::resolved::all_resolved;
 use guppy_builds::{Build, BuildMode, BuildPlace, BuildSet};
 use guppy_data::{PackageId, PackageRecord, PlatformSpec};
 use guppy_features::CargoSet;
@@ -100,28 +102,81 @@ impl<'a> Rows<'a, '_> {
     }
 }
 
+// The rows of what is built of these members, where the set says what is on.
+fn rows_in<'a>(
+    alloc: Global,
+    graph: &'a RecordGraph,
+    platforms: &'a PlatformSpec<Platform>,
+    set: &CargoSet<'_>,
+    members: &[usize],
+) -> Result<Vec<BuiltPackage<'a>>, BuiltFault<'a>>
+    requires graph { set.now.graph ≡ graph.now }
+    requires for_these { set.now.options.target_platform.now ≡ platforms.now }
+    requires within { All (λ m. m < length graph.now.packages) members.now }
+    ensures ok { IfOk result (λ rows. AreRows (builds set.now members.now) (map row_of rows.items)) }
+    ensures err { IfErr result (λ fault. fault ≡ BuiltFault.OutOfMemory) }
+{
+    let builds = BuildSet::new(set, members)?;
+    let rows = Rows {
+        graph,
+        platforms,
+        set,
+    };
+    Ok(rows.rows_of(alloc, builds.builds(alloc)?.as_slice())?)
+}
+
 /// What Cargo builds by the choice: a row for each package on each platform, by the positions of the packages.
 ///
-/// The members' IDs have to be known. Fails with `UnknownFeature`, with the place of the first of the features that Cargo
-/// refuses, and else with `OutOfMemory` only where there is none. Time and memory are those of
-/// [`CargoSet::new`] and [`BuildSet::new`].
+/// The members' IDs have to be known. Fails with `NoMember`, with the place of the first of the question's members that
+/// is none; with `UnknownFeature`, with the place of the first of the features that Cargo refuses; with `Unresolved`, of
+/// the first optional dependency that is switched on and for which the metadata resolve nothing; and else with
+/// `OutOfMemory` only where there is none. Time and memory are those of [`CargoSet::new`],
+/// [`CargoSet::first_unresolved`] and [`BuildSet::new`].
 pub fn built_packages<'a>(
     alloc: Global,
     graph: &'a RecordGraph,
     question: &BuildQuestion<'_, 'a>,
-) -> Result<Vec<BuiltPackage<'a>>, BuiltFault>
+) -> Result<Vec<BuiltPackage<'a>>, BuiltFault<'a>>
     requires { All (IsKnown graph.now.packages) question.now.members.now }
     ensures ok { IfOk result (λ rows. AreBuilt graph.now (choice_of question.now) (map row_of rows.items)) }
+    ensures err { IfErr result (IsBuiltFault graph.now (choice_of question.now)) }
+{
+    let members = checked_members(alloc, graph, question.members)?;
+    let options = options_of(alloc, graph, question, members.as_slice())?;
+    let set = CargoSet::new(graph, &options)?;
+    all_resolved(graph, &set)?;
+    rows_in(
+        alloc,
+        graph,
+        question.target_platform,
+        &set,
+        members.as_slice(),
+    )
+}
+
+/// The same of what the metadata resolve, whatever they lack: an optional dependency for which they resolve nothing adds
+/// nothing. Each package that the question names is taken for a member.
+///
+/// The members' IDs have to be known. Fails with `UnknownFeature`, with the place of the first of the features that Cargo
+/// refuses, and else with `OutOfMemory` only where there is none. Time and memory are those of [`CargoSet::new`] and
+/// [`BuildSet::new`].
+pub fn built_as_resolved<'a>(
+    alloc: Global,
+    graph: &'a RecordGraph,
+    question: &BuildQuestion<'_, 'a>,
+) -> Result<Vec<BuiltPackage<'a>>, BuiltFault<'a>>
+    requires { All (IsKnown graph.now.packages) question.now.members.now }
+    ensures ok { IfOk result (λ rows. AreBuiltAsResolved graph.now (choice_of question.now) (map row_of rows.items)) }
     ensures err { IfErr result (IsChoiceFault graph.now (choice_of question.now)) }
 {
     let members = chosen_members(alloc, graph, question.members)?;
     let options = options_of(alloc, graph, question, members.as_slice())?;
     let set = CargoSet::new(graph, &options)?;
-    let builds = BuildSet::new(&set, members.as_slice())?;
-    let rows = Rows {
+    rows_in(
+        alloc,
         graph,
-        platforms: question.target_platform,
-        set: &set,
-    };
-    Ok(rows.rows_of(alloc, builds.builds(alloc)?.as_slice())?)
+        question.target_platform,
+        &set,
+        members.as_slice(),
+    )
 }

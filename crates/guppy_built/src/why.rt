@@ -10,9 +10,10 @@ ghost use Rattle.guppy_built.specs.Why.{IsWhy, IsWhyFault, IsWhyFeature, IsWhyOn
 
 use crate::asked::options_of;
 use crate::fault::BuiltFault;
-use crate::members::{chosen_members, position_of};
+use crate::members::{checked_members, position_of};
 use crate::names::{NamedReason, named_steps};
 use crate::question::BuildQuestion;
+use crate::resolved::all_resolved;
 use guppy_data::PackageId;
 use guppy_features::{BuildPlatform, CargoSet};
 use guppy_graph::RecordGraph;
@@ -76,16 +77,16 @@ fn has_feature(graph: &RecordGraph, position: usize, name: &str) -> bool
 /// Where it is on on both sides, that of the target is told.
 ///
 /// The members' IDs, and this one, have to be known. Fails with `LacksFeature` where the package has no feature of the
-/// name, with `UnknownFeature`, with the place of the first of the features that Cargo refuses, with `FeatureOff`
-/// where the feature is on on neither side, and else with `OutOfMemory` only where there is none. Time and memory are
-/// those of [`CargoSet::new`] and [`CargoSet::why`].
+/// name, then as [`built_packages`](crate::built_packages) does, with `FeatureOff` where the feature is on on neither
+/// side, and else with `OutOfMemory` only where there is none. Time and memory are those of [`CargoSet::new`],
+/// [`CargoSet::first_unresolved`] and [`CargoSet::why`].
 pub fn why_feature<'a>(
     alloc: Global,
     graph: &'a RecordGraph,
     question: &BuildQuestion<'_, 'a>,
     id: &PackageId,
     name: &str,
-) -> Result<Vec<NamedReason<'a>>, BuiltFault>
+) -> Result<Vec<NamedReason<'a>>, BuiltFault<'a>>
     requires members { All (IsKnown graph.now.packages) question.now.members.now }
     requires package { IsKnown graph.now.packages id.now }
     ensures ok { IfOk result (λ steps. IsWhy graph.now (choice_of question.now) id.now name.now
@@ -96,9 +97,10 @@ pub fn why_feature<'a>(
     if !has_feature(graph, position, name) {
         return Err(BuiltFault::LacksFeature);
     }
-    let members = chosen_members(alloc, graph, question.members)?;
+    let members = checked_members(alloc, graph, question.members)?;
     let options = options_of(alloc, graph, question, members.as_slice())?;
     let set = CargoSet::new(graph, &options)?;
+    all_resolved(graph, &set)?;
     match why_on_one(alloc, graph, &set, position, name)? {
         Some(steps) => Ok(steps),
         None => Err(BuiltFault::FeatureOff),

@@ -11,7 +11,7 @@ use Rattle.guppy_target.specs.Platform.{PlatformData}
 use Rattle.guppy_features.specs.declared.options.CargoResolverVersion.{CargoResolverVersion}
 use Rattle.guppy_features.specs.declared.options.StandardFeatures.{StandardFeatures}
 use Rattle.guppy_built.specs.Asked.{Choice}
-use Rattle.guppy_built.specs.Rows.{Row, AreBuilt}
+use Rattle.guppy_built.specs.Rows.{Row, AreBuiltAsResolved}
 use Rattle.guppy_changes.specs.declared.setting.BuildSetting.{BuildSetting}
 use Rattle.guppy_changes.specs.Marks.{Mark, HasMark}
 
@@ -47,11 +47,11 @@ all_of ids s = record {
   host = s.host;
 }
 
--- the rows of what Cargo builds of all members
+-- the rows of what Cargo builds of all members, as far as the metadata resolve it
 pub record AreAllBuilt (g : GraphData) (s : Setting) (rows : List Row) : Type 0 where
   pub ids : List (List ℕ)
   pub members : AreMembers g ids
-  pub built : AreBuilt g (all_of ids s) rows
+  pub built : AreBuiltAsResolved g (all_of ids s) rows
 
 -- a state: its graph, and what is built of it
 pub record State : Type 0 where

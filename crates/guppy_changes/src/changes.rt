@@ -49,11 +49,12 @@ fn others<'g>(
 ///   with the same features.
 ///
 /// So it depends neither on the order of packages, links and features nor on the versions that are asked for. A package
-/// that only needs changed ones isn't changed by that. Where the workspace has no members, those count that
+/// that only needs changed ones isn't changed by that. An optional dependency for which a state's metadata resolve nothing
+/// counts for nothing there. Where the workspace has no members, those count that
 /// [`BuildQuestion`](guppy_built::BuildQuestion) takes where none is named.
 ///
 /// The error is want of memory, and no other. Time and memory are those of
-/// [`built_packages`](guppy_built::built_packages) on both graphs, and grow with what is said of the packages, times its
+/// [`built_as_resolved`](guppy_built::built_as_resolved) on both graphs, and grow with what is said of the packages, times its
 /// logarithm.
 pub fn changed_packages<'g>(
     alloc: Global,

@@ -9,7 +9,7 @@ ghost use Rattle.guppy_changes.specs.Shown.{FeatureMarks, RowMarks, all_shown};
 use crate::adding::{Marks, add};
 use crate::mark::{Mark, MarkOf};
 use crate::setting::BuildSetting;
-use guppy_built::{BuildQuestion, BuiltFault, BuiltPackage, built_packages};
+use guppy_built::{BuildQuestion, BuiltFault, BuiltPackage, built_as_resolved};
 use guppy_data::PackageId;
 use guppy_graph::RecordGraph;
 use std::alloc::{AllocError, Global};
@@ -26,7 +26,8 @@ fn member_ids(alloc: Global, graph: &RecordGraph) -> Result<Vec<PackageId>, Allo
     Ok(ids)
 }
 
-/// The rows of what Cargo builds of all members, with these of their features and their tests.
+/// The rows of what Cargo builds of all members, with these of their features and their tests, as far as the metadata
+/// resolve it.
 pub(crate) fn all_built<'a>(
     alloc: Global,
     graph: &'a RecordGraph,
@@ -44,7 +45,7 @@ pub(crate) fn all_built<'a>(
         target_platform: setting.target_platform,
         host_platform: setting.host_platform,
     };
-    match built_packages(alloc, graph, &question) {
+    match built_as_resolved(alloc, graph, &question) {
         Ok(rows) => Ok(rows),
         Err(BuiltFault::OutOfMemory) => Err(AllocError),
         // No feature is named that Cargo could refuse.

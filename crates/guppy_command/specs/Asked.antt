@@ -13,9 +13,9 @@ use Rattle.guppy_target.specs.Platform.{PlatformData, IsFirstFault}
 use Rattle.guppy_command.specs.declared.options.Kinds.{Kinds}
 use Rattle.guppy_command.specs.declared.options.Options.{Options}
 use Rattle.guppy_command.specs.declared.options.OutputFormat.{OutputFormat}
-use Rattle.guppy_command.specs.declared.options.OutputFormat.TheVariants.{Lines}
+use Rattle.guppy_command.specs.declared.options.OutputFormat.TheVariants.{Lines, Flags, Json}
 use Rattle.guppy_command.specs.declared.table.TheConstants.{KINDS, PLATFORM, CFGS, HOST, HOST_CFGS, WORKSPACE, IDS, NULL, FORMAT, PUBLISHABLE, IGNORE, PATHS_FROM, MEMBER, FEATURES, ALL_FEATURES, NO_DEFAULT_FEATURES, TESTS, RESOLVER, ALSO, BEFORE}
-use Rattle.guppy_command.specs.Grammar.{OptionRow, Program, Argument, option, word, Misread, not_taken, repeated, no_command, unknown_command, bad_words, bad_kinds, bad_resolver, bad_format, lone_platform, lone_host, all_ignored, no_paths, cfgs_failed, bad_cfg, paths_failed, unended_paths, called, Reads, bad_also, name_in, value_in, before_failed}
+use Rattle.guppy_command.specs.Grammar.{OptionRow, Program, Argument, option, word, Misread, not_taken, repeated, no_command, unknown_command, bad_words, bad_kinds, bad_resolver, bad_format, no_flags, lone_platform, lone_host, all_ignored, no_paths, cfgs_failed, bad_cfg, paths_failed, unended_paths, called, Reads, bad_also, name_in, value_in, before_failed}
 use Rattle.guppy_command.specs.Builds.{features_of, resolver_of}
 use Rattle.guppy_command.specs.Command.{BuildRequest, Command, affected, build_command_of, command_of, from_root}
 use Rattle.guppy_command.specs.Options.{format_of, kinds_of}
@@ -145,6 +145,12 @@ options_in given = kinds_in (values_of KINDS.now given) >>= λ kinds.
       format = format;
     })
 
+-- the command takes the format: of links no flags tell
+abbrev pub suited : List ℕ → OutputFormat → Result (Unit {0}) Misread
+suited command Lines = Ok tt
+suited command Flags = if bytes_eq command (codes "links") then Err (no_flags command) else Ok tt
+suited command Json = Ok tt
+
 -- there are none
 abbrev pub no_words : List (List ℕ) → Bool
 no_words [] = true
@@ -224,6 +230,7 @@ abbrev pub wanted_of : Program → List Argument → Result Wanted Misread
 wanted_of p given = command_in p (words_in given) >>= λ found.
     all_judged p.options found.0 given >>= λ _.
     options_in given >>= λ options.
+    suited found.0 options.format >>= λ _.
     platforms_in given >>= λ platforms.
     host_in given >>= λ host.
     resolver_in (values_of RESOLVER.now given) >>= λ resolver.

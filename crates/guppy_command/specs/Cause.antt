@@ -3,9 +3,11 @@ use Rattle.std.specs.Prelude.{ℕ, List, Bool, true, false, Option, Some, None, 
 use Rattle.guppy_data.specs.declared.texts.error.Error.{Error}
 use Rattle.guppy_data.specs.declared.texts.error.Error.TheVariants.{OutOfMemory}
 
--- why there is no answer on what Cargo builds: it refuses this of a command line's features; the package, the first
--- word, has no feature that the second one names, or has it on nowhere; or its optional dependency isn't resolved
+-- why there is no answer on what Cargo builds: the word means no member; Cargo refuses this of a command line's features;
+-- the package, the first word, has no feature that the second one names, or has it on nowhere; or its optional dependency
+-- isn't resolved
 pub data BuildCause : Type 0 where
+  no_member : List ℕ → BuildCause
   unknown_feature : List ℕ → BuildCause
   lacks_feature : List ℕ → List ℕ → BuildCause
   feature_off : List ℕ → List ℕ → BuildCause

@@ -25,7 +25,7 @@ pub data Argument : Type 0 where
 
 -- why arguments ask nothing: no option is called so; the option lacks its value, takes none, comes again,
 -- or is not the command's; there is no command, or none is called so; the words behind the command don't fit it, or the
--- value no kinds, no resolver or no format; a platform has no file with what is set there, or a file no platform; so of the host;
+-- value no kinds, no resolver or no format; the command's answer is none that flags tell; a platform has no file with what is set there, or a file no platform; so of the host;
 -- the folder to leave out is all; the value names no folder and package; no path is given; the file of a platform can't
 -- be read, or has a bad line behind so many; a file with paths can't be read, or one of them isn't ended; the file with the
 -- state before can't be read
@@ -41,6 +41,7 @@ pub data Misread : Type 0 where
   bad_kinds : List ℕ → Misread
   bad_resolver : List ℕ → Misread
   bad_format : List ℕ → Misread
+  no_flags : List ℕ → Misread
   lone_platform : Misread
   lone_host : Misread
   all_ignored : List ℕ → Misread

@@ -6,7 +6,7 @@ use Rattle.guppy_data.specs.declared.records.LinkRecord.{LinkRecord}
 use Rattle.guppy_platforms.specs.Counting.{is_asked_for}
 use Rattle.guppy_command.specs.declared.options.Kinds.{Kinds}
 use Rattle.guppy_command.specs.declared.options.OutputFormat.{OutputFormat}
-use Rattle.guppy_command.specs.declared.options.OutputFormat.TheVariants.{Lines, Flags}
+use Rattle.guppy_command.specs.declared.options.OutputFormat.TheVariants.{Lines, Flags, Json}
 use Rattle.guppy_command.specs.Text.{section_of}
 
 -- the link has a section of one of these kinds: it is asked for in it, required or optional, on some platform
@@ -41,4 +41,5 @@ kinds_of word = if list_all is_kind (names_in word) then Some (record {
 -- the format that the word names
 abbrev pub format_of : List ℕ → Option OutputFormat
 format_of word = if bytes_eq word (codes "lines") then Some Lines
-    else (if bytes_eq word (codes "flags") then Some Flags else None)
+    else (if bytes_eq word (codes "flags") then Some Flags
+    else (if bytes_eq word (codes "json") then Some Json else None))

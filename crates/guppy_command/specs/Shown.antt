@@ -6,7 +6,7 @@ use Rattle.guppy_data.specs.Platform.{question_of}
 use Rattle.guppy_command.specs.declared.grammar.Argument.{Argument as GivenArgument}
 use Rattle.guppy_command.specs.declared.grammar.Argument.TheVariants.{Option as GivenOption, Word}
 use Rattle.guppy_command.specs.declared.grammar.Misread.{Misread as GivenMisread}
-use Rattle.guppy_command.specs.declared.grammar.Misread.TheVariants.{NoOption, NoValue, NeedlessValue, Repeated, NotTaken, NoCommand, UnknownCommand, BadWords, BadKinds, BadResolver, BadFormat, LonePlatform, LoneHost, AllIgnored, NoPaths, CfgsFailed, BadCfg, PathsFailed, UnendedPaths, OutOfMemory, BadAlso, BeforeFailed}
+use Rattle.guppy_command.specs.declared.grammar.Misread.TheVariants.{NoOption, NoValue, NeedlessValue, Repeated, NotTaken, NoCommand, UnknownCommand, BadWords, BadKinds, BadResolver, BadFormat, NoFlags, LonePlatform, LoneHost, AllIgnored, NoPaths, CfgsFailed, BadCfg, PathsFailed, UnendedPaths, OutOfMemory, BadAlso, BeforeFailed}
 use Rattle.guppy_command.specs.declared.grammar.Program.{Program as GivenProgram}
 use Rattle.guppy_command.specs.declared.command.BuildRequest.{BuildRequest as GivenRequest}
 use Rattle.guppy_command.specs.declared.command.Command.{Command as GivenCommand}
@@ -15,7 +15,7 @@ use Rattle.guppy_command.specs.declared.asked.Asked.{Asked as GivenAsked}
 use Rattle.guppy_command.specs.declared.asked.Wanted.{Wanted as GivenWanted}
 use Rattle.guppy_command.specs.declared.fault.Fault.{Fault}
 use Rattle.guppy_command.specs.declared.fault.Fault.TheVariants.{Library, BadArguments, NoWalk, Unpublishable, Build, InputFailed, OutputFailed, Before}
-use Rattle.guppy_command.specs.Grammar.{OptionRow, Program, Argument, option, word, Misread, no_option, no_value, needless_value, repeated, not_taken, no_command, unknown_command, bad_words, bad_kinds, bad_resolver, bad_format, lone_platform, lone_host, all_ignored, no_paths, cfgs_failed, bad_cfg, paths_failed, unended_paths, bad_also, before_failed}
+use Rattle.guppy_command.specs.Grammar.{OptionRow, Program, Argument, option, word, Misread, no_option, no_value, needless_value, repeated, not_taken, no_command, unknown_command, bad_words, bad_kinds, bad_resolver, bad_format, no_flags, lone_platform, lone_host, all_ignored, no_paths, cfgs_failed, bad_cfg, paths_failed, unended_paths, bad_also, before_failed}
 use Rattle.guppy_command.specs.Asked.{Asked, Wanted}
 use Rattle.guppy_command.specs.BuildFault.{build_cause_of}
 use Rattle.guppy_command.specs.Cause.{Cause, library, bad_arguments, no_walk, unpublishable, build, bad_before, input_failed, output_failed}
@@ -104,6 +104,7 @@ misread_shown (BadWords command) = Some (bad_words command.now)
 misread_shown (BadKinds value) = Some (bad_kinds value.now)
 misread_shown (BadResolver value) = Some (bad_resolver value.now)
 misread_shown (BadFormat value) = Some (bad_format value.now)
+misread_shown (NoFlags command) = Some (no_flags command.now)
 misread_shown LonePlatform = Some lone_platform
 misread_shown LoneHost = Some lone_host
 misread_shown (AllIgnored folder) = Some (all_ignored folder.now)

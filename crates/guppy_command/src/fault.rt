@@ -2,7 +2,7 @@
 ghost use Rattle.std.specs.Prelude.{◌≡◌, ◌⊎◌, ℕ, Ok, Err, IfOk, IfErr};
 ghost use Rattle.guppy_data.specs.declared.texts.error.Error.{Error};
 ghost use Rattle.guppy_data.specs.declared.texts.error.Error.TheVariants.{OutOfMemory};
-ghost use Rattle.guppy_command.specs.Cause.{Cause, library, no_walk, unpublishable, build, unknown_feature, lacks_feature, feature_off, unresolved};
+ghost use Rattle.guppy_command.specs.Cause.{Cause, library, no_walk, unpublishable, build, no_member, unknown_feature, lacks_feature, feature_off, unresolved};
 ghost use Rattle.guppy_command.specs.Shown.{cause_shown};
 
 use guppy_data::Error;
@@ -12,6 +12,8 @@ use std::fmt;
 /// Why there is no answer on what Cargo builds.
 #[derive(Debug, Drop)]
 pub enum BuildFault {
+    /// The package that this word means was chosen, and is no member.
+    NoMember(String),
     /// Cargo refuses this of the command line's features: no chosen package has it.
     UnknownFeature(String),
     /// The package has no feature of this name.
@@ -45,6 +47,7 @@ impl fmt::Display for BuildFault {
 
     fn fmt<W: fmt::Write>(&self, f: &mut fmt::Formatter<W>) -> fmt::Result {
         match self {
+            BuildFault::NoMember(word) => write!(f, "{word} is no member of the workspace"),
             BuildFault::UnknownFeature(text) => {
                 write!(f, "no chosen package has the feature {text}")
             }
@@ -60,7 +63,7 @@ impl fmt::Display for BuildFault {
             } => write!(
                 f,
                 "{package}'s optional dependency {dependency} isn't resolved: \
-                 make the metadata with `cargo metadata --all-features`"
+                 make the metadata with --all-features and the same --features, without --filter-platform"
             ),
         }
     }
@@ -159,6 +162,16 @@ pub fn unpublishable<F: ProgramFault>(alloc: Global, member: &str, needed: &str)
         return want_of_memory();
     };
     F::of(Fault::Unpublishable { member, needed })
+}
+
+/// That the package that the word means is no member, unless memory is wanted. Takes memory for a copy of the word.
+pub fn no_member<F: ProgramFault>(alloc: Global, word: &str) -> F
+    ensures { (F.cause result ≡ build (no_member word.now)) ⊎ (F.cause result ≡ library OutOfMemory) }
+{
+    match String::from_str(alloc, word) {
+        Ok(word) => F::of(Fault::Build(BuildFault::NoMember(word))),
+        Err(_) => want_of_memory(),
+    }
 }
 
 /// That Cargo refuses this of a command line's features, unless memory is wanted. Takes memory for a copy of it.

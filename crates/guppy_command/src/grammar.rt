@@ -61,6 +61,8 @@ pub enum Misread<'a> {
     BadResolver(&'a str),
     /// This is no format.
     BadFormat(&'a str),
+    /// The command takes a format, but its answer isn't packages alone, of which flags tell.
+    NoFlags(&'a str),
     /// There is a platform without a file that has what is set there, or such a file without a platform.
     LonePlatform,
     /// The host has no file with what is set there, or there is such a file without a host.

@@ -25,6 +25,8 @@ pub enum OutputFormat {
     Lines,
     /// Packages as flags that cargo takes, one a line.
     Flags,
+    /// Packages or links as objects of a JSON array.
+    Json,
 }
 
 /// What is asked of every command.
@@ -93,6 +95,8 @@ pub fn format_of(word: &str) -> Option<OutputFormat>
         Some(OutputFormat::Lines)
     } else if word == "flags" {
         Some(OutputFormat::Flags)
+    } else if word == "json" {
+        Some(OutputFormat::Json)
     } else {
         None
     }

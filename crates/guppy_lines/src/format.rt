@@ -50,8 +50,8 @@ const OF_LISTS: &[&str] = &[
     "publish-order",
 ];
 
-// The commands whose answer is packages alone.
-const OF_PACKAGES: &[&str] = &["reach", "order", "roots", "publish-order"];
+// The commands whose answer is packages alone, or links.
+const WITH_FORMAT: &[&str] = &["reach", "order", "roots", "links", "publish-order"];
 
 // The commands that ask what Cargo builds.
 const OF_BUILDS: &[&str] = &["built", "features", "why-feature"];
@@ -66,7 +66,7 @@ const OPTIONS: &[OptionRow] = &[
     (WORKSPACE, None, false, None, ""),
     (IDS, None, false, None, ""),
     (NULL, None, false, Some(OF_LISTS), ""),
-    (FORMAT, Some("FORMAT"), false, Some(OF_PACKAGES), ""),
+    (FORMAT, Some("FORMAT"), false, Some(WITH_FORMAT), ""),
     (MEMBER, Some("MEMBER"), true, Some(OF_BUILDS), ""),
     (FEATURES, Some("LIST"), true, Some(OF_BUILDS), ""),
     (ALL_FEATURES, None, false, Some(OF_BUILDS), ""),

@@ -7,8 +7,9 @@ pub mod GivenFolders
 pub mod PackageLists
 pub mod PublishableMembers
 pub mod FlaggedPackages
+pub mod WrittenObjects
 pub mod Hindrances
-pub mod RefusedFeatures
+pub mod RefusedBuilds
 pub mod Runs
 pub mod WholeSet
 pub mod GrowingLines

@@ -1,11 +1,9 @@
 -- What a command answers of a package graph, when it is refused, and what is shown of the answer.
-use Rattle.std.specs.Prelude.{◌≡◌, ◌↔◌, ◌⊎◌, ◌++◌, ◌<◌, ℕ, Bool, true, false, IsTrue, Option, Some, None, List, [], ◌∷◌, length, map, slice_get, replicate, All, Contains, ◌&&◌, is_some, if◌then◌else◌}
+use Rattle.std.specs.Prelude.{◌≡◌, ◌↔◌, ◌⊎◌, ◌++◌, ◌<◌, ℕ, Bool, true, false, IsTrue, Option, Some, None, List, [], ◌∷◌, length, map, slice_get, replicate, All, Contains, IsSomeAnd, ◌&&◌, is_some, if◌then◌else◌}
 use Rattle.std.specs.List.{AllZip, concat, filter, list_all, list_any}
 use Rattle.std.specs.Str.{bytes_eq}
 use Rattle.guppy_search.specs.declared.ix.direction.DependencyDirection.{DependencyDirection}
-use Rattle.guppy_search.specs.declared.graph_core.link.Link.{Link}
 use Rattle.guppy_core.specs.Reach.{LinkStep, ReachedFrom}
-use Rattle.guppy_data.specs.declared.records.LinkRecord.{LinkRecord}
 use Rattle.guppy_data.specs.declared.records.PackageRecord.{PackageRecord}
 use Rattle.guppy_data.specs.declared.texts.error.Error.TheVariants.{UnknownPackageId, PackageGraphInternalError, OutOfMemory}
 use Rattle.guppy_data.specs.declared.texts.fault.VerifyFault.{VerifyFault}
@@ -44,15 +42,17 @@ use Rattle.guppy_program.specs.Builds.{Places, IsChosen, IsBuildFault}
 use Rattle.guppy_program.specs.Format.{Format, alternatives}
 use Rattle.guppy_program.specs.Meant.{Means}
 use Rattle.guppy_program.specs.Publish.{is_publishable, IsFree, IsHindranceTold}
-use Rattle.guppy_program.specs.Steps.{AreSteps}
+use Rattle.guppy_program.specs.Steps.{AreSteps, section_kinds}
 
--- an answer, each package in it by its ID: a set of packages, packages in an order, rows of packages
--- in an order, as the ends of links or cycles, rows of a package and those that need it, the packages of a walk, each
+-- an answer, each package in it by its ID: a set of packages, packages in an order, links, each from one package to
+-- another with the kinds of its sections, rows of packages, as cycles, rows of a package and those that need it, the
+-- packages of a walk, each
 -- with the kinds of the link that leads to it, what Cargo builds, why a feature is on, the features that are on, whether
 -- something holds, that all is well, or packages and links as they are drawn
 pub data Answer : Type 0 where
   package_set : List (List ℕ) → Answer
   package_list : List (List ℕ) → Answer
+  package_links : List (List ℕ × List ℕ × Kinds) → Answer
   package_rows : List (List (List ℕ)) → Answer
   package_needs : List (List (List ℕ)) → Answer
   package_steps : List (List ℕ × Kinds) → Answer
@@ -128,21 +128,20 @@ pub record IsRootsAnswer (direction : DependencyDirection) (g : GraphData)
   pub exact : AreRootIds direction (all_packages g) root_ids
   pub told : answer ≡ package_list root_ids
 
--- the positions of the ends of the link
-abbrev pub ends_of : Option (Link LinkRecord) → List ℕ
-ends_of (Some l) = l.from ∷ l.to ∷ []
-ends_of None = []
-
--- the IDs of the packages that the link goes from and to
-abbrev pub end_ids : LinkData → List (List ℕ)
-end_ids link = ids_at link.graph.packages (ends_of (slice_get link.graph.links link.number))
+-- the link goes from the package with the first ID to that with the second, and has sections of these kinds
+abbrev pub IsLinkTold : LinkData → List ℕ × List ℕ × Kinds → Type 0
+IsLinkTold link told = IsSomeAnd (slice_get link.graph.links link.number)
+    (λ l. HasId link.graph.packages told.0 l.from × HasId link.graph.packages told.1 l.to
+    × (told.2 ≡ section_kinds l.edge))
 
 -- the links that are walked from the roots of all packages, in an order that the walk allows
 pub record IsLinksAnswer (direction : DependencyDirection) (g : GraphData)
     (answer : Answer) : Type 0 where
   pub walked : List LinkData
   pub exact : AreWalkedLinks direction (all_packages g) walked
-  pub told : answer ≡ package_rows (map end_ids walked)
+  pub links : List (List ℕ × List ℕ × Kinds)
+  pub are_told : AllZip IsLinkTold walked links
+  pub told : answer ≡ package_links links
 
 -- the cycles in an order of the packages: two IDs stand on one cycle exactly where their packages
 -- are cyclic
@@ -352,7 +351,7 @@ IsCommandFault format call command g fault cause =
 -- and of what Cargo builds on these platforms
 abbrev pub IsFaultOn : {Fault : Type 0} → Format Fault → Places → (List ℕ → List ℕ) → Command → GraphData → Fault
     → Cause → Type 0
-IsFaultOn format places call command g fault (build cause) = IsBuildFault places (format.meant g.packages) command g cause
+IsFaultOn format places call command g fault (build cause) = IsBuildFault places call (format.meant g.packages) command g cause
 IsFaultOn format places call command g fault cause = IsCommandFault format call command g fault cause
 
 -- a member of the workspace has the ID
@@ -368,11 +367,13 @@ abbrev pub is_of : (List ℕ → Bool) → List (List ℕ) → Bool
 is_of test [] = false
 is_of test (id ∷ ids) = test id
 
--- of a set, a list or a walk the members, of rows those of members alone, as of links that are drawn, and of members
+-- of a set, a list or a walk the members, of rows and of links, drawn ones too, those of members alone, and of members
 -- all that need them
 abbrev pub of_members : List PackageRecord → Answer → Answer
 of_members packages (package_set ids) = package_set (filter (is_member packages) ids)
 of_members packages (package_list ids) = package_list (filter (is_member packages) ids)
+of_members packages (package_links pairs) =
+    package_links (filter (λ link. is_member packages link.0 && is_member packages link.1) pairs)
 of_members packages (package_rows rows) =
     package_rows (filter (list_all (is_member packages)) rows)
 of_members packages (package_needs rows) =

@@ -7,6 +7,7 @@ pub mod Meant
 pub mod Builds
 pub mod Answer
 pub mod Flags
+pub mod Objects
 pub mod Printed
 pub mod Since
 pub mod Run

@@ -4,11 +4,13 @@ use Rattle.std.specs.List.{flat_map}
 use Rattle.std.specs.List.Sorted.{IsStrictlySortedBy}
 use Rattle.std.specs.Ordering.{nat_cmp}
 use Rattle.std.specs.Cmp.Lexicographic.{slice_cmp}
+use Rattle.json.specs.Json.{Json}
+use Rattle.guppy_command.specs.declared.options.Kinds.{Kinds}
 use Rattle.guppy_command.specs.declared.options.Options.{Options}
 use Rattle.guppy_command.specs.declared.options.OutputFormat.{OutputFormat}
-use Rattle.guppy_command.specs.declared.options.OutputFormat.TheVariants.{Lines, Flags}
+use Rattle.guppy_command.specs.declared.options.OutputFormat.TheVariants.{Lines, Flags, Json as InJson}
 use Rattle.guppy_data.specs.declared.records.PackageRecord.{PackageRecord}
-use Rattle.guppy_program.specs.Answer.{Answer, package_set, package_list, package_rows, package_needs, package_steps, built_rows, reasons, feature_rows, truth, all_well, drawing}
+use Rattle.guppy_program.specs.Answer.{Answer, package_set, package_list, package_links, package_rows, package_needs, package_steps, built_rows, reasons, feature_rows, truth, all_well, drawing}
 use Rattle.guppy_features.specs.declared.fact.BuildPlatform.{BuildPlatform}
 use Rattle.guppy_features.specs.declared.fact.BuildPlatform.TheVariants.{Target, Host}
 use Rattle.guppy_built.specs.Features.{FeatureData}
@@ -16,8 +18,9 @@ use Rattle.guppy_built.specs.Names.{NamedFactData, Said, StepData, takes_part, s
 use Rattle.guppy_built.specs.Rows.{Row}
 use Rattle.guppy_dot.specs.DotText.{dot_text}
 use Rattle.guppy_program.specs.Flags.{flag_of}
+use Rattle.guppy_program.specs.Objects.{json_text, links_array, packages_array}
 use Rattle.guppy_program.specs.Format.{Format}
-use Rattle.guppy_command.specs.Printed.{newline, line_of, lines_of, joined, truth_line, kind_names}
+use Rattle.guppy_command.specs.Printed.{newline, line_end, line_of, lines_of, joined, truth_line, kind_names}
 
 -- strictly ascending by bytes
 abbrev pub IsAscending : List (List ℕ) → Type 0
@@ -34,15 +37,13 @@ pub record AreSortedLines (end : List ℕ) (texts : List (List ℕ)) (output : L
 abbrev pub called : Options → (List ℕ → List ℕ) → List ℕ → List ℕ
 called options text id = if options.by_id then id else text id
 
--- of what a package is called and its flag, the one that the format has
-abbrev pub in_format : OutputFormat → List ℕ → List ℕ → List ℕ
-in_format Lines text flag = text
-in_format Flags text flag = flag
-
--- what is printed for a package that stands alone on a line
-abbrev pub item_of : {Fault : Type 0} → Format Fault → Options → List PackageRecord → List ℕ → List ℕ
-item_of format options packages id =
-    in_format options.format (called options (format.text packages) id) (flag_of format options packages id)
+-- the packages with these IDs, each once, in the order of the IDs' bytes, as an array on a line with this end
+pub record AreSortedObjects (end : List ℕ) (packages : List PackageRecord) (ids : List (List ℕ))
+    (output : List ℕ) : Type 0 where
+  pub sorted : List (List ℕ)
+  pub ascending : IsAscending sorted
+  pub same : (id : List ℕ) → Contains sorted id ↔ Contains ids id
+  pub printed : output ≡ line_of end (json_text (packages_array packages sorted))
 
 -- what is built: what the package is called, the platform, and the features
 abbrev pub row_text : (List ℕ → List ℕ) → Row → List ℕ
@@ -75,18 +76,50 @@ grounds_text text (f ∷ fs) = codes " for " ++ (fact_text text f ++ flat_map (�
 abbrev pub step_text : (List ℕ → List ℕ) → StepData → List ℕ
 step_text text step = fact_text text step.fact ++ grounds_text text step.grounds
 
--- the output is the answer, whose lines have this end where it is a list of them, and in which `item` tells what is
--- printed for the package with an ID where packages stand alone, and else `text`
-abbrev pub IsPrinted : List ℕ → (List ℕ → List ℕ) → (List ℕ → List ℕ) → Answer → List ℕ → Type 0
-IsPrinted end item text (package_set ids) output = AreSortedLines end (map item ids) output
-IsPrinted end item text (package_list ids) output = output ≡ lines_of end (map item ids)
-IsPrinted end item text (package_rows rows) output = output ≡ lines_of end (map (λ ids. joined (map text ids)) rows)
-IsPrinted end item text (package_needs rows) output = output ≡ lines_of end (map (λ ids. joined (map text ids)) rows)
-IsPrinted end item text (package_steps steps) output =
-    output ≡ lines_of end (map (λ step. joined (text step.0 ∷ kind_names step.1)) steps)
-IsPrinted end item text (built_rows rows) output = output ≡ lines_of end (map (row_text text) rows)
-IsPrinted end item text (reasons steps) output = output ≡ lines_of end (map (step_text text) steps)
-IsPrinted end item text (feature_rows rows) output = output ≡ lines_of end (map (feature_text text) rows)
-IsPrinted end item text (truth holds) output = output ≡ truth_line holds
-IsPrinted end item text all_well output = output ≡ line_of newline (codes "ok")
-IsPrinted end item text (drawing drawn) output = output ≡ dot_text text drawn
+-- of these packages
+module _ {Fault : Type 0} (format : Format Fault) (options : Options) (packages : List PackageRecord) where
+  -- what they are called
+  abbrev pub call : List ℕ → List ℕ
+  call = called options (format.text packages)
+
+  -- these texts, one a line
+  abbrev pub on_lines : List (List ℕ) → List ℕ
+  on_lines texts = lines_of (line_end options) texts
+
+  -- the value, on a line
+  abbrev pub as_json : Json → List ℕ
+  as_json value = line_of (line_end options) (json_text value)
+
+  -- a set in this format: what its packages are called or their flags, one a line, or an array of them
+  abbrev pub IsSetIn : OutputFormat → List (List ℕ) → List ℕ → Type 0
+  IsSetIn Lines ids output = AreSortedLines (line_end options) (map call ids) output
+  IsSetIn Flags ids output = AreSortedLines (line_end options) (map (flag_of format options packages) ids) output
+  IsSetIn InJson ids output = AreSortedObjects (line_end options) packages ids output
+
+  -- a list in this format
+  abbrev pub list_in : OutputFormat → List (List ℕ) → List ℕ
+  list_in Lines ids = on_lines (map call ids)
+  list_in Flags ids = on_lines (map (flag_of format options packages) ids)
+  list_in InJson ids = as_json (packages_array packages ids)
+
+  -- links in this format: on a line what the packages are called that each goes from and to
+  abbrev pub links_in : OutputFormat → List (List ℕ × List ℕ × Kinds) → List ℕ
+  links_in InJson links = as_json (links_array packages links)
+  links_in format links = on_lines (map (λ link. joined (call link.0 ∷ call link.1 ∷ [])) links)
+
+  -- the output is the answer: packages alone and links in the format of the options, and what else is a list an item a
+  -- line
+  abbrev pub IsPrinted : Answer → List ℕ → Type 0
+  IsPrinted (package_set ids) output = IsSetIn options.format ids output
+  IsPrinted (package_list ids) output = output ≡ list_in options.format ids
+  IsPrinted (package_links links) output = output ≡ links_in options.format links
+  IsPrinted (package_rows rows) output = output ≡ on_lines (map (λ ids. joined (map call ids)) rows)
+  IsPrinted (package_needs rows) output = output ≡ on_lines (map (λ ids. joined (map call ids)) rows)
+  IsPrinted (package_steps steps) output =
+      output ≡ on_lines (map (λ step. joined (call step.0 ∷ kind_names step.1)) steps)
+  IsPrinted (built_rows rows) output = output ≡ on_lines (map (row_text call) rows)
+  IsPrinted (reasons steps) output = output ≡ on_lines (map (step_text call) steps)
+  IsPrinted (feature_rows rows) output = output ≡ on_lines (map (feature_text call) rows)
+  IsPrinted (truth holds) output = output ≡ truth_line holds
+  IsPrinted all_well output = output ≡ line_of newline (codes "ok")
+  IsPrinted (drawing drawn) output = output ≡ dot_text call drawn

@@ -4,12 +4,11 @@ use Rattle.std.specs.Io.KnownBytes.{IsAtEnd, Appends}
 use Rattle.guppy.specs.Graph.{GraphData}
 use Rattle.guppy_command.specs.Asked.{Asked}
 use Rattle.guppy_command.specs.Cause.{Cause, library, bad_arguments, ambiguous, no_walk, unpublishable, build, bad_input, input_failed, output_failed, OrMemory, caused, is_input_fault, is_output_fault, bad_before}
-use Rattle.guppy_command.specs.Printed.{line_end}
 use Rattle.guppy_program.specs.Format.{Format}
 use Rattle.guppy_program.specs.Loaded.{IsLoaded, AreRefused, reads_details, IsBadBefore, IsLoadedBefore}
 use Rattle.guppy_program.specs.Answer.{Answer, IsFaultOn, shown}
 use Rattle.guppy_program.specs.Builds.{places_of}
-use Rattle.guppy_program.specs.Printed.{IsPrinted, called, item_of}
+use Rattle.guppy_program.specs.Printed.{IsPrinted, called}
 use Rattle.guppy_program.specs.Since.{IsAnswerSince}
 
 -- the output is an answer to what is asked, of this graph, and of that of the state before, where there is one: of the
@@ -18,8 +17,7 @@ pub record IsAnswerOf {Fault : Type 0} (format : Format Fault) (asked : Asked) (
     (g : GraphData) (output : List ℕ) : Type 0 where
   pub answer : Answer
   pub answers : IsAnswerSince asked before (format.meant g.packages) asked.command g answer
-  pub printed : IsPrinted (line_end asked.options) (item_of format asked.options g.packages)
-      (called asked.options (format.text g.packages)) (shown asked.options g.packages answer) output
+  pub printed : IsPrinted format asked.options g.packages (shown asked.options g.packages answer) output
 
 -- the output is an answer to what is asked, of the graph that the input says, with the links that are
 -- asked for

@@ -8,20 +8,20 @@ ghost use Rattle.guppy.specs.Refused.{NamesId, IsFirstUnknown};
 ghost use Rattle.guppy.specs.Views.{link_data};
 ghost use Rattle.guppy_affected.specs.Folders.{given_in};
 ghost use Rattle.guppy_command.specs.Cause.{Cause, library};
-ghost use Rattle.guppy_program.specs.Answer.{IsReached, AreReached, IsReachAnswer, TellsDependence, IsDependsAnswer, IsOrderAnswer, IsRootsAnswer, IsLinksAnswer, IsCyclesAnswer, IsDuplicatesAnswer, IsVerifyAnswer, IsDotAnswer, IsAffectedAnswer, AreGiven, TellsAffected, IsFaultOn, IsWordFault, IsVerifyTold, end_ids};
+ghost use Rattle.guppy_program.specs.Answer.{IsReached, AreReached, IsReachAnswer, TellsDependence, IsDependsAnswer, IsOrderAnswer, IsRootsAnswer, IsLinksAnswer, IsCyclesAnswer, IsDuplicatesAnswer, IsVerifyAnswer, IsDotAnswer, IsAffectedAnswer, AreGiven, TellsAffected, IsFaultOn, IsWordFault, IsVerifyTold, IsLinkTold};
 ghost use Rattle.guppy_program.specs.Meant.{Means};
 ghost use Rattle.guppy_program.specs.Printed.{called};
 ghost use Rattle.guppy_program.specs.Builds.{places_of};
 ghost use Rattle.guppy_program.specs.Since.{AreChangedSince, HaveChanged, IsAnswerSince, IsSetting, IsSinceAnswer, TellsAffectedSince};
 ghost use Rattle.guppy_changes.specs.Changes.{setting_of};
 ghost use Rattle.guppy_command.specs.Shown.{asked_shown, command_shown, texts};
-ghost use Rattle.guppy_program.specs.Shown.{answer_shown};
+ghost use Rattle.guppy_program.specs.Shown.{answer_shown, link_shown};
 
 use crate::builds::{built, features, why_on};
 use crate::format::Format;
 use crate::publish::published;
 use crate::verify::verified;
-use crate::why::why;
+use crate::why::{section_kinds, why};
 use guppy::graph::DependencyDirection;
 use guppy::{CycleIds, Error, PackageGraph, PackageId, PackageLink, PackageSet};
 use guppy_affected::{affected, affected_after};
@@ -43,6 +43,17 @@ pub struct Step<'g> {
     pub kinds: Kinds,
 }
 
+/// A link.
+#[derive(Clone, Copy, Debug)]
+pub struct LinkEnds<'g> {
+    /// The package that it goes from.
+    pub from: &'g PackageId,
+    /// The package that it goes to.
+    pub to: &'g PackageId,
+    /// The kinds of its sections.
+    pub kinds: Kinds,
+}
+
 /// What a command answers. The graph has the IDs.
 #[derive(Debug, Drop)]
 pub enum Answer<'g> {
@@ -50,8 +61,8 @@ pub enum Answer<'g> {
     Set(Vec<&'g PackageId>),
     /// Packages in an order.
     List(Vec<&'g PackageId>),
-    /// The packages that links go from and to.
-    Pairs(Vec<(&'g PackageId, &'g PackageId)>),
+    /// Links.
+    Links(Vec<LinkEnds<'g>>),
     /// Packages that belong together, as those of a cycle.
     Rows(Vec<Vec<&'g PackageId>>),
     /// Packages, each with those that need it.
@@ -203,11 +214,15 @@ fn roots(
     Ok(Answer::List(ids))
 }
 
-// The IDs of the packages that the link goes from and to.
-fn ends_of(link: PackageLink<'_>) -> (&PackageId, &PackageId)
-    ensures { result.0.now ∷ result.1.now ∷ [] ≡ end_ids (link_data link.entry) }
+// The packages that the link goes from and to, and the kinds of its sections.
+fn ends_of(link: PackageLink<'_>) -> LinkEnds<'_>
+    ensures { IsLinkTold (link_data link.entry) (link_shown result) }
 {
-    (link.from().id(), link.to().id())
+    LinkEnds {
+        from: link.from().id(),
+        to: link.to().id(),
+        kinds: section_kinds(link),
+    }
 }
 
 fn links(
@@ -220,11 +235,11 @@ fn links(
 {
     let all = graph.resolve_all()?;
     let walked = all.links(direction)?;
-    let mut pairs = Vec::new(alloc);
+    let mut links = Vec::new(alloc);
     for link in walked {
-        pairs.push(ends_of(link))?;
+        links.push(ends_of(link))?;
     }
-    Ok(Answer::Pairs(pairs))
+    Ok(Answer::Links(links))
 }
 
 // The IDs of a cycle.

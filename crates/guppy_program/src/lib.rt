@@ -10,7 +10,8 @@
 //!   published; `why`: of how one package depends on another; `builds`: of what Cargo builds; `verify`: what is told of
 //!   a graph that isn't verified;
 //! - `members`: the members of the workspace in that;
-//! - `print`: how it is printed; `print_builds`: what Cargo builds; `flags`: packages as cargo takes them;
+//! - `print`: how it is printed; `print_builds`: what Cargo builds; `flags`: packages as cargo takes them; `objects`:
+//!   packages and links as JSON;
 //! - `program`: a program;
 //! - `process`: a program with its fault told and its status.
 #![tactic(auto)]
@@ -22,6 +23,7 @@ pub mod files;
 mod flags;
 pub mod format;
 pub mod members;
+mod objects;
 pub mod print;
 mod print_builds;
 pub mod process;
@@ -30,7 +32,7 @@ mod publish;
 mod verify;
 mod why;
 
-pub use answer::{Answer, Step};
+pub use answer::{Answer, LinkEnds, Step};
 pub use files::IoFiles;
 pub use format::Format;
 pub use guppy_command::{

@@ -1,13 +1,13 @@
 //! The members of the workspace among the packages of an answer.
-ghost use Rattle.std.specs.Prelude.{◌≡◌, ◌&&◌, ◌∷◌, [], IfOk, IsOkUnless, map};
+ghost use Rattle.std.specs.Prelude.{◌≡◌, ◌&&◌, IfOk, IsOkUnless, map};
 ghost use Rattle.std.specs.List.{filter, list_all};
 ghost use Rattle.guppy_program.specs.Answer.{AreMembers, is_member, is_of, of_members, shown};
 ghost use Rattle.guppy_built.specs.Names.{step_shown as reason_shown};
 ghost use Rattle.guppy_built.specs.Rows.{row_of};
 ghost use Rattle.guppy_dot.specs.Dot.{edge_shown, node_shown};
-ghost use Rattle.guppy_program.specs.Shown.{answer_shown, step_shown};
+ghost use Rattle.guppy_program.specs.Shown.{answer_shown, link_shown, step_shown};
 
-use crate::answer::{Answer, Step};
+use crate::answer::{Answer, LinkEnds, Step};
 use guppy::{Error, PackageGraph, PackageId, PackageSet};
 use guppy_built::{BuiltPackage, NamedReason};
 use guppy_command::Options;
@@ -42,14 +42,14 @@ fn keep_members(members: &PackageSet<'_>, ids: &mut Vec<&PackageId>)
     ids.retain(|id| is_member(members, id));
 }
 
-// Leaves the pairs out in which another package stands.
-fn keep_pairs(members: &PackageSet<'_>, pairs: &mut Vec<(&PackageId, &PackageId)>)
+// Leaves the links out of which another package is an end.
+fn keep_links(members: &PackageSet<'_>, links: &mut Vec<LinkEnds<'_>>)
     requires { AreMembers members.now }
-    ensures { map (λ pair. pair.0.now ∷ pair.1.now ∷ []) pairs.new.items
-        ≡ filter (list_all (is_member members.now.graph.packages))
-        (map (λ pair. pair.0.now ∷ pair.1.now ∷ []) pairs.old.items) }
+    ensures { map link_shown links.new.items
+        ≡ filter (λ link. is_member members.now.graph.packages link.0
+        && is_member members.now.graph.packages link.1) (map link_shown links.old.items) }
 {
-    pairs.retain(|(from, to)| is_member(members, from) && is_member(members, to));
+    links.retain(|link| is_member(members, link.from) && is_member(members, link.to));
 }
 
 // Leaves the rows out in which another package stands.
@@ -147,9 +147,9 @@ fn among<'g>(members: &PackageSet<'_>, answer: Answer<'g>) -> Answer<'g>
             keep_members(members, &mut ids);
             Answer::List(ids)
         }
-        Answer::Pairs(mut pairs) => {
-            keep_pairs(members, &mut pairs);
-            Answer::Pairs(pairs)
+        Answer::Links(mut links) => {
+            keep_links(members, &mut links);
+            Answer::Links(links)
         }
         Answer::Rows(mut rows) => {
             keep_rows(members, &mut rows);

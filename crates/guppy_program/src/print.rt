@@ -1,15 +1,16 @@
 //! How an answer is printed.
-ghost use Rattle.std.specs.Prelude.{◌≡◌, ◌∷◌, [], List, length, map, string_bytes, IfOk};
+ghost use Rattle.std.specs.Prelude.{◌≡◌, ◌↔◌, ◌∷◌, [], ℕ, List, Contains, length, map, string_bytes, IfOk};
 ghost use Rattle.guppy_data.specs.declared.records.PackageRecord.{PackageRecord};
 ghost use Rattle.guppy_command.specs.Printed.{joined, kind_names, line_end, lines_of};
 ghost use Rattle.guppy.specs.Ids.{DistinctBelow};
-ghost use Rattle.guppy_program.specs.Printed.{AreSortedLines, IsPrinted, called, item_of};
-ghost use Rattle.guppy_program.specs.Shown.{answer_shown, step_shown};
+ghost use Rattle.guppy_program.specs.Printed.{AreSortedLines, IsAscending, IsPrinted, IsSetIn, called, links_in, list_in};
+ghost use Rattle.guppy_program.specs.Shown.{answer_shown, link_shown, step_shown};
 
-use crate::answer::{Answer, Step};
+use crate::answer::{Answer, LinkEnds, Step};
 use crate::dot_text::dot_text;
 use crate::flags::flags_of;
 use crate::format::Format;
+use crate::objects::{array_of_links, array_of_packages};
 use crate::print_builds::{lines_of_built, lines_of_features, lines_of_reasons};
 use guppy::{PackageGraph, PackageId, SortedSet};
 use guppy_command::print::{line_end, lines_of, push_pair, push_step, truth_line};
@@ -71,7 +72,19 @@ fn borrowed(alloc: Global, texts: &[String]) -> Result<Vec<&str>, AllocError>
     Ok(items)
 }
 
-// The packages of a set, one a line.
+// These packages, each once, in the order of their IDs' bytes.
+fn sorted_packages<'g>(
+    alloc: Global,
+    ids: &[&'g PackageId],
+) -> Result<SortedSet<&'g PackageId>, AllocError>
+    ensures ascending { IfOk result (λ sorted. IsAscending (map (λ id. id.now) sorted)) }
+    ensures same { IfOk result (λ sorted. (id : List ℕ) → Contains (map (λ id. id.now) sorted) id
+        ↔ Contains (map (λ id. id.now) ids.now) id) }
+{
+    Ok(SortedSet::new(ids.to_vec(alloc)?))
+}
+
+// The packages of a set in the format of the options.
 fn text_of_set<F: Format>(
     alloc: Global,
     graph: &PackageGraph,
@@ -81,8 +94,8 @@ fn text_of_set<F: Format>(
 ) -> Result<String, AllocError>
     requires names { F.are_names names.now graph.now.packages }
     requires distinct { DistinctBelow graph.now.packages (length graph.now.packages) }
-    ensures { IfOk result (λ text. AreSortedLines (line_end options.now)
-        (map (item_of F.format options.now graph.now.packages) (map (λ id. id.now) ids.now)) (string_bytes text)) }
+    ensures { IfOk result (λ text. IsSetIn F.format options.now graph.now.packages options.now.format
+        (map (λ id. id.now) ids.now) (string_bytes text)) }
 {
     match options.format {
         OutputFormat::Lines => {
@@ -94,10 +107,14 @@ fn text_of_set<F: Format>(
             let texts = borrowed(alloc, flags.as_slice())?;
             sorted_lines(alloc, line_end(options), texts)
         }
+        OutputFormat::Json => {
+            let sorted = sorted_packages(alloc, ids)?;
+            array_of_packages(alloc, graph, line_end(options), sorted.as_slice())
+        }
     }
 }
 
-// Packages in their order, one a line.
+// Packages in their order, in the format of the options.
 fn text_of_list<F: Format>(
     alloc: Global,
     graph: &PackageGraph,
@@ -107,8 +124,8 @@ fn text_of_list<F: Format>(
 ) -> Result<String, AllocError>
     requires names { F.are_names names.now graph.now.packages }
     requires distinct { DistinctBelow graph.now.packages (length graph.now.packages) }
-    ensures { IfOk result (λ text. string_bytes text ≡ lines_of (line_end options.now)
-        (map (item_of F.format options.now graph.now.packages) (map (λ id. id.now) ids.now))) }
+    ensures { IfOk result (λ text. string_bytes text
+        ≡ list_in F.format options.now graph.now.packages options.now.format (map (λ id. id.now) ids.now)) }
 {
     match options.format {
         OutputFormat::Lines => {
@@ -120,31 +137,49 @@ fn text_of_list<F: Format>(
             let texts = borrowed(alloc, flags.as_slice())?;
             lines_of(alloc, line_end(options), texts.as_slice())
         }
+        OutputFormat::Json => array_of_packages(alloc, graph, line_end(options), ids),
     }
 }
 
-fn lines_of_pairs<F: Format>(
+fn lines_of_links<F: Format>(
     alloc: Global,
     options: &Options,
     names: &F::Names,
-    pairs: &[(&PackageId, &PackageId)],
+    links: &[LinkEnds<'_>],
 ) -> Result<String, AllocError>
     ensures { (packages : List PackageRecord) → F.are_names names.now packages
         → IfOk result (λ text. string_bytes text
-        ≡ lines_of (line_end options.now) (map (λ ids. joined (map (called options.now (F.format.text packages)) ids))
-        (map (λ pair. pair.0.now ∷ pair.1.now ∷ []) pairs.now))) }
+        ≡ lines_of (line_end options.now) (map (λ link. joined (called options.now (F.format.text packages) link.0
+        ∷ called options.now (F.format.text packages) link.1 ∷ [])) (map link_shown links.now))) }
 {
     let mut text = String::new(alloc);
-    for (from, to) in pairs {
-        let from = text_of::<F>(options, names, from);
-        push_pair(
-            &mut text,
-            line_end(options),
-            from,
-            text_of::<F>(options, names, to),
-        )?;
+    for link in links {
+        let from = text_of::<F>(options, names, link.from);
+        let to = text_of::<F>(options, names, link.to);
+        push_pair(&mut text, line_end(options), from, to)?;
     }
     Ok(text)
+}
+
+// Links in the format of the options.
+fn text_of_links<F: Format>(
+    alloc: Global,
+    graph: &PackageGraph,
+    options: &Options,
+    names: &F::Names,
+    links: &[LinkEnds<'_>],
+) -> Result<String, AllocError>
+    requires names { F.are_names names.now graph.now.packages }
+    requires distinct { DistinctBelow graph.now.packages (length graph.now.packages) }
+    ensures { IfOk result (λ text. string_bytes text
+        ≡ links_in F.format options.now graph.now.packages options.now.format (map link_shown links.now)) }
+{
+    match options.format {
+        OutputFormat::Json => array_of_links(alloc, graph, line_end(options), links),
+        OutputFormat::Lines | OutputFormat::Flags => {
+            lines_of_links::<F>(alloc, options, names, links)
+        }
+    }
 }
 
 // The texts of these packages, parted by spaces.
@@ -201,9 +236,10 @@ fn lines_of_steps<F: Format>(
 }
 
 /// The answer's text, with each package by its ID where the options have it so, else as the names of the graph's
-/// packages tell, and packages that stand alone as flags where the options have that. Takes memory for the text, and for
-/// a reference a package or its flag. Time grows with the answer, and where it is a set with its packages times the
-/// logarithm of their number.
+/// packages tell, packages that stand alone as flags where the options have that, and these and links as JSON where they
+/// have that. Takes memory for the text, and for a reference a package or its flag. Time grows with the answer, where it
+/// is a set with its packages times the logarithm of their number, and for JSON with what it tells times the logarithm
+/// of the graph's packages.
 pub fn printed<F: Format>(
     alloc: Global,
     graph: &PackageGraph,
@@ -213,13 +249,13 @@ pub fn printed<F: Format>(
 ) -> Result<String, AllocError>
     requires names { F.are_names names.now graph.now.packages }
     requires distinct { DistinctBelow graph.now.packages (length graph.now.packages) }
-    ensures { IfOk result (λ text. IsPrinted (line_end options.now) (item_of F.format options.now graph.now.packages)
-        (called options.now (F.format.text graph.now.packages)) (answer_shown answer.now) (string_bytes text)) }
+    ensures { IfOk result (λ text. IsPrinted F.format options.now graph.now.packages (answer_shown answer.now)
+        (string_bytes text)) }
 {
     match answer {
         Answer::Set(ids) => text_of_set::<F>(alloc, graph, options, names, ids.as_slice()),
         Answer::List(ids) => text_of_list::<F>(alloc, graph, options, names, ids.as_slice()),
-        Answer::Pairs(pairs) => lines_of_pairs::<F>(alloc, options, names, pairs.as_slice()),
+        Answer::Links(links) => text_of_links::<F>(alloc, graph, options, names, links.as_slice()),
         Answer::Rows(rows) => lines_of_rows::<F>(alloc, options, names, rows.as_slice()),
         Answer::Needs(rows) => lines_of_rows::<F>(alloc, options, names, rows.as_slice()),
         Answer::Steps(steps) => lines_of_steps::<F>(alloc, options, names, steps.as_slice()),

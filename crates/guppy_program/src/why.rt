@@ -32,8 +32,8 @@ const NO_KINDS: Kinds = Kinds {
     dev: false,
 };
 
-// The kinds of the sections that the link has.
-fn section_kinds(link: PackageLink<'_>) -> Kinds
+/// The kinds of the sections that the link has.
+pub(crate) fn section_kinds(link: PackageLink<'_>) -> Kinds
     ensures { OfLink link.entry (λ l. result ≡ section_kinds l.edge) }
 {
     Kinds {

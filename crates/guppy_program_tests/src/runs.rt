@@ -301,6 +301,70 @@ const ANSWERS: [(&str, &str, &[u8], &str); 70] = [
     ),
 ];
 
+// What needs escapes: an ID with a quotation mark and a backslash, one with a control character, and one that isn't
+// ASCII.
+const ESCAPED: &[u8] =
+    b"package q\"\\\npackage \x01\tz\npackage \xc3\xa9\nlink q\"\\ \x01\tz build\n";
+
+// Case, command line, input, and the JSON that is printed.
+const OBJECTS: [(&str, &str, &[u8], &str); 9] = [
+    ("json_of_none", "--format json order", b"", "[]\n"),
+    (
+        "json_of_none",
+        "--null --format json roots forward",
+        b"",
+        "[]\0",
+    ),
+    (
+        "json_of_a_list",
+        "--format json --workspace order",
+        CHAIN,
+        "[{\"name\":\"a\",\"version\":\"0.0.0\",\"id\":\"a\",\"manifest_path\":\"Cargo.toml\"},\
+        {\"name\":\"b\",\"version\":\"0.0.0\",\"id\":\"b\",\"manifest_path\":\"Cargo.toml\"},\
+        {\"name\":\"c\",\"version\":\"0.0.0\",\"id\":\"c\",\"manifest_path\":\"Cargo.toml\"}]\n",
+    ),
+    (
+        "json_of_a_set",
+        "--ids --null --format=json reach reverse b",
+        CHAIN,
+        "[{\"name\":\"a\",\"version\":\"0.0.0\",\"id\":\"a\",\"manifest_path\":\"Cargo.toml\"},\
+        {\"name\":\"b\",\"version\":\"0.0.0\",\"id\":\"b\",\"manifest_path\":\"Cargo.toml\"}]\0",
+    ),
+    (
+        "json_of_publish_order",
+        "--format json publish-order",
+        b"package a\n",
+        "[{\"name\":\"a\",\"version\":\"0.0.0\",\"id\":\"a\",\"manifest_path\":\"Cargo.toml\"}]\n",
+    ),
+    (
+        "json_with_escapes",
+        "--format json reach forward q\"\\ \u{e9}",
+        ESCAPED,
+        "[{\"name\":\"\\u0001\\tz\",\"version\":\"0.0.0\",\"id\":\"\\u0001\\tz\",\
+        \"manifest_path\":\"Cargo.toml\"},\
+        {\"name\":\"q\\\"\\\\\",\"version\":\"0.0.0\",\"id\":\"q\\\"\\\\\",\
+        \"manifest_path\":\"Cargo.toml\"},\
+        {\"name\":\"\u{e9}\",\"version\":\"0.0.0\",\"id\":\"\u{e9}\",\
+        \"manifest_path\":\"Cargo.toml\"}]\n",
+    ),
+    (
+        "json_of_links",
+        "--format json links forward",
+        ESCAPED,
+        "[{\"from\":{\"name\":\"q\\\"\\\\\",\"version\":\"0.0.0\",\"id\":\"q\\\"\\\\\",\
+        \"manifest_path\":\"Cargo.toml\"},\
+        \"to\":{\"name\":\"\\u0001\\tz\",\"version\":\"0.0.0\",\"id\":\"\\u0001\\tz\",\
+        \"manifest_path\":\"Cargo.toml\"},\"sections\":[\"build\"]}]\n",
+    ),
+    (
+        "json_of_no_links",
+        "--format json links reverse",
+        b"package a\n",
+        "[]\n",
+    ),
+    ("lines", "--format lines links forward", CHAIN, "a b\nb c\n"),
+];
+
 // Runs each case on devices that work, and move pieces of so many bytes. Its text is what is printed where the
 // status is 0, else the fault's.
 fn assert_all(
@@ -333,6 +397,8 @@ fn assert_all(
 fn answers(rt: HostRuntime) -> Result<(), Fail> {
     assert_all(&rt, rt.alloc(), &ANSWERS, MANY, 0)?;
     assert_all(&rt, rt.alloc(), &ANSWERS, 1, 0)?;
+    assert_all(&rt, rt.alloc(), &OBJECTS, MANY, 0)?;
+    assert_all(&rt, rt.alloc(), &OBJECTS, 1, 0)?;
     Ok(())
 }
 
@@ -449,7 +515,7 @@ const REFUSED: [(&str, &str, &[u8], &str); 12] = [
 ];
 
 // Case, command line, input, and the text of the fault of the arguments or a line.
-const MISREAD: [(&str, &str, &[u8], &str); 67] = [
+const MISREAD: [(&str, &str, &[u8], &str); 70] = [
     ("program_faults", "depends a b", TWO_SPACES, "bad line 2"),
     ("program_faults", "depends a", TWO_SPACES, "bad arguments"),
     (
@@ -562,6 +628,9 @@ const MISREAD: [(&str, &str, &[u8], &str); 67] = [
         "bad arguments",
     ),
     ("format", "--format flags why a b", FIRST, "bad arguments"),
+    ("format", "--format json why a b", FIRST, "bad arguments"),
+    ("format", "--format json cycles", FIRST, "bad arguments"),
+    ("format", "--format JSON order", FIRST, "bad arguments"),
     ("format", "--format lines verify", FIRST, "bad arguments"),
     ("wrong_bytes", "order", b"\n\r\nlink a\n", "bad line 3"),
     (

@@ -191,7 +191,8 @@ impl<'g> CargoSet<'g> {
     ///
     /// # Errors
     ///
-    /// [`Error::Refused`] where a package is no member; where the platforms are [`Always`](PlatformSpec::Always), an
+    /// [`Error::Refused`] where a package is no member; where an optional dependency is switched on for which the metadata
+    /// resolve nothing; where the platforms are [`Always`](PlatformSpec::Always), an
     /// empty list or, of the host, several, or one has [all features](crate::platform::TargetFeatures::All) that its
     /// processor may have; where `features_only` has more; and where no command asks Cargo for exactly these features:
     /// not for one of a member that another one has as well and isn't asked for, where one of them has a dependency

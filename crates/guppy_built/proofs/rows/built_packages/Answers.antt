@@ -1,13 +1,12 @@
-use Rattle.std.proofs.Common.{◌≡◌, ◌∙◌, List, map, ap, subst}
-use Rattle.std.specs.Prelude.{◌↔◌, Contains}
-use Rattle.std.specs.List.{AllZip, filter}
-use Rattle.guppy_closure.specs.Relations.{HoldsBy}
+use Rattle.std.proofs.Common.{◌∙◌, ◌<◌, All, ap, length, map, sym, subst}
+use Rattle.std.proofs.lemmas.Result.{IfErr-weaker, IfOk-weaker, err_from_is_err_and}
 use Rattle.guppy_features.specs.Questions.{Question, question}
+use Rattle.guppy_features.specs.Unresolved.{AreResolved}
 use Rattle.guppy_builds.specs.Building.{Builds, builds}
-use Rattle.guppy_builds.specs.Follows.{BuildsFor}
-use Rattle.guppy_builds.specs.declared.build.Build.{Build}
 use Rattle.guppy_built.specs.Asked.{IsAsked, choice_of}
-use Rattle.guppy_built.specs.Rows.{IsRow, has_row, row_of}
+use Rattle.guppy_built.specs.Refused.{IsBuiltFault, IsLackingFault}
+use Rattle.guppy_built.specs.Rows.{AreRows, row_of}
+use Rattle.guppy_built.proofs.Refused.{lacking_refused}
 use Rattle.guppy_built.proofs.rows.built_packages.Goals as goal
 
 pub returns-clause-ok : goal.returns-clause-ok
@@ -15,19 +14,29 @@ returns-clause-ok c =
     let g = c.args.graph.now in
     let options = c.in_ok-options.options in
     let members = c.in_ok-members.members.items in
-    let built = c.in_ok-builds-2.field-0.items in
-    let rows = map row_of c.in_ok-rows_of.field-0.items in
-    let same : c.in_ok-builds.builds ≡ builds (question g options) members =
-    c.in_ok-builds.ensures ∙ ap (λ (q : Question). builds q c.as_slice-2.result.now) c.in_ok-set.ensures ∙ ap (builds (question g options)) c.as_slice-2.ensures.value in
-    record {
+    IfOk-weaker c.rows_in.result _ _ (λ rows is. record {
+      named = c.in_ok-members.ensures.named;
       options = options;
       members = members;
       asked = subst (IsAsked g (choice_of c.args.question.now) options) c.as_slice.ensures.value c.in_ok-options.ensures.ok;
-      exact = record {
-        built = built;
-        exact = subst (λ (b : Builds). (x : Build) → Contains built x ↔ HoldsBy (BuildsFor b.question b.members) x) same c.in_ok-builds-2.ensures.built;
-        order = c.in_ok-builds-2.ensures.order;
-        rows_are = subst (λ (q : Question). AllZip (IsRow (builds q members)) (filter (has_row g) built) rows) c.in_ok-set.ensures
-            (subst (λ (all : List Build). AllZip (IsRow (builds c.in_ok-set.set members)) (filter (has_row g) all) rows) c.as_slice-3.ensures.value (c.in_ok-rows_of.ensures members));
-      };
-    }
+      resolved = subst (λ (q : Question). AreResolved q) c.in_ok-set.ensures c.in_ok-all_resolved.ensures.ok;
+      exact = subst (λ (b : Builds). AreRows b (map row_of rows.items)) (ap (λ (q : Question). builds q c.as_slice-2.result.now) c.in_ok-set.ensures ∙ ap (builds (question g options)) c.as_slice-2.ensures.value) is;
+    }) c.rows_in.ensures.ok
+
+pub returns-clause-err : goal.returns-clause-err
+returns-clause-err c =
+    let P = IsBuiltFault c.args.graph.now (choice_of c.args.question.now) in
+    IfErr-weaker c.rows_in.result _ P (λ fault is. subst P (sym is) tt) c.rows_in.ensures.err
+
+pub returns-in_err-all_resolved-clause-err : goal.returns-in_err-all_resolved-clause-err
+returns-in_err-all_resolved-clause-err c =
+    let passed_on = err_from_is_err_and c.from_residual-in_err-all_resolved.result c.from_residual-in_err-all_resolved.ensures.1 in
+    let g = c.args.graph.now in
+    let choice = choice_of c.args.question.now in
+    let options = c.in_ok-options.options in
+    let asked = subst (IsAsked g choice options) c.as_slice.ensures.value c.in_ok-options.ensures.ok in
+    let fault = c.in_err-all_resolved.field-0.0 in
+    rw (passed_on.1, passed_on.2) ((lacking_refused g choice options c.in_ok-members.members.items asked fault (subst (λ (q : Question). IsLackingFault q fault) c.in_ok-set.ensures c.in_err-all_resolved.ensures.err)))
+
+pub rows_in-requires-clause-within : goal.rows_in-requires-clause-within
+rows_in-requires-clause-within c = subst (All (λ m. m < length c.args.graph.now.packages)) (sym c.as_slice-2.ensures.value) c.in_ok-members.ensures.within

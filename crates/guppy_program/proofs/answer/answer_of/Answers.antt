@@ -17,10 +17,10 @@ returns-in-Why-clause-err g c =
     (λ fault is. no_build format (places_of (asked_shown asked)) call (command_shown asked.command) graph fault (cause fault) is) (rw c.in-Why.is (c.why.ensures.err call))
 
 pub returns-in-Built-clause-err : goal.returns-in-Built-clause-err
-returns-in-Built-clause-err g c = rw c.in-Built.is (c.built.ensures.err (called c.args.asked.now.options (g.F.Format.format.text c.args.graph.now.packages)))
+returns-in-Built-clause-err g c = rw c.in-Built.is c.built.ensures.err
 
 pub returns-in-Features-clause-err : goal.returns-in-Features-clause-err
-returns-in-Features-clause-err g c = rw c.in-Features.is (c.features.ensures.err (called c.args.asked.now.options (g.F.Format.format.text c.args.graph.now.packages)))
+returns-in-Features-clause-err g c = rw c.in-Features.is c.features.ensures.err
 
 pub returns-in-WhyFeature-clause-err : goal.returns-in-WhyFeature-clause-err
-returns-in-WhyFeature-clause-err g c = rw c.in-WhyFeature.is (c.why_on.ensures.err (called c.args.asked.now.options (g.F.Format.format.text c.args.graph.now.packages)))
+returns-in-WhyFeature-clause-err g c = rw c.in-WhyFeature.is c.why_on.ensures.err

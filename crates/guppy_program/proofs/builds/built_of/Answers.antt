@@ -2,14 +2,14 @@ use Rattle.std.proofs.Common.{refl, sym, subst, map}
 use Rattle.std.specs.Prelude.{All}
 use Rattle.guppy.specs.Graph.{GraphData}
 use Rattle.guppy.specs.Ids.{IsKnown}
-use Rattle.guppy_built.specs.Asked.{choice_of, IsChoiceFault}
+use Rattle.guppy_built.specs.Asked.{choice_of}
+use Rattle.guppy_built.specs.Refused.{IsBuiltFault}
 use Rattle.guppy_built.specs.Rows.{AreBuilt, row_of}
-use Rattle.guppy_built.specs.declared.fault.BuiltFault.TheVariants.{UnknownFeature}
 use Rattle.guppy_command.specs.Command.{built}
 use Rattle.guppy_command.specs.Shown.{asked_shown, request_shown}
-use Rattle.guppy_program.specs.Answer.{IsFaultOn}
 use Rattle.guppy_program.specs.Builds.{places_of}
-use Rattle.guppy_program.proofs.RefusedFeatures.{refused_told}
+use Rattle.guppy_program.specs.Printed.{called}
+use Rattle.guppy_program.proofs.RefusedBuilds.{request_told}
 use Rattle.guppy_program.proofs.builds.built_of.Goals as goal
 
 pub built_packages-requires : goal.built_packages-requires
@@ -28,13 +28,15 @@ returns-in-Ok-clause-ok g c =
       told = refl;
     }
 
-pub returns-in-Err-UnknownFeature-clause-err : goal.returns-in-Err-UnknownFeature-clause-err
-returns-in-Err-UnknownFeature-clause-err g c call =
+pub returns-in-Err-clause-err : goal.returns-in-Err-clause-err
+returns-in-Err-clause-err g c =
     let format = g.F.Format.format in
-    let meant = format.meant c.args.graph.now.packages in
+    let graph = c.args.graph.now in
+    let meant = format.meant graph.packages in
     let places = places_of (asked_shown c.args.asked.now) in
+    let call = called c.args.asked.now.options (format.text graph.packages) in
     let request = request_shown c.args.request.now in
-    refused_told places c.args.graph.now meant request (choice_of c.question_of-question.result)
-    (c.question_of-question.ensures.chosen c.args.graph.now meant c.requires.named c.requires.known) c.in-Err-UnknownFeature.place
-    (subst (λ (graph : GraphData). IsChoiceFault graph (choice_of c.question_of-question.result) (UnknownFeature c.in-Err-UnknownFeature.place)) c.records.ensures (subst (IsChoiceFault c.records.result.now (choice_of c.question_of-question.result)) c.in-Err-UnknownFeature.field-0-is c.in-Err-UnknownFeature.ensures.err))
-    (IsFaultOn format places call (built request) c.args.graph.now c.refused.result) (λ text is. is) tt _ c.refused.ensures
+    let choice = choice_of c.question_of-question.result in
+    let chosen = c.question_of-question.ensures.chosen graph meant c.requires.named c.requires.known in
+    let is = subst (λ (graph : GraphData). IsBuiltFault graph choice c.in-Err.fault) c.records.ensures c.in-Err.ensures.err in
+    request_told format places call graph request (built request) (λ why told. told) _ _ (c.fault_of.ensures places graph choice c.requires.names chosen is)
