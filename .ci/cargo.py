@@ -58,7 +58,7 @@ NO_CFGS = "give --cfgs FILE behind each --platform TRIPLE"
 NO_HOST = "give both --host TRIPLE and --host-cfgs FILE"
 NO_PATHS = "affected needs a path, --paths-from FILE or, of the scripts, --since REVISION"
 CYCLE = "error: cycle over links that are not dev-only: "
-WITH_FORMAT = "affected, publish-order, reach, order, roots and links do"
+WITH_FORMAT = "all commands but depends, verify and dot do"
 KINDS = ["normal", "build", "dev"]
 NO_NULS = "its paths aren't each ended by a NUL: give it what git writes with -z"
 
@@ -457,8 +457,22 @@ def objects_of(graph):
     return {graph.called[it["id"]]: {key: it[key] for key in told} for it in graph.data["packages"]}
 
 
+def fact_of(objects, text):
+    """What a line says of a package, as JSON has it."""
+    package, side, *said = text.split(" ")
+    named = {"dependency" if it.startswith("dep:") else "feature": it.removeprefix("dep:") for it in said}
+    return {"package": objects[package], "side": side, **named}
+
+
+def reason_of(objects, line):
+    """A line of `why-feature`, as JSON has it."""
+    said, *grounds = line.split(" for ")
+    facts = [fact_of(objects, it) for text in grounds for it in text.split(" and ")]
+    return {**fact_of(objects, said), "for": facts}
+
+
 def try_json(graph):
-    """Packages and links as JSON, which Python reads, beside what cargo says of them."""
+    """Answers as JSON, which Python reads, beside what cargo says of the packages, and what the lines say."""
     given, some, objects = graph.text.encode(), graph.starts[0], objects_of(graph)
 
     def array(*words, end="\n"):
@@ -478,6 +492,44 @@ def try_json(graph):
         links = [{"from": objects[a], "to": objects[b], "sections": sorted(graph.sections[a, b], key=KINDS.index)} for a, b in ends]
         yield f"{' '.join(words)} --format json", links, array(*words)
     yield "affected --format json, of nothing", [], array("affected", "--ignore", "a", "a/b")
+
+    def beside(words, item):
+        """The answer as JSON, beside its lines, or the same fault."""
+        lines = run(words, given)
+        wanted = [item(it) for it in lines_of(lines[1])] if lines[0] == 0 else lines
+        return f"{' '.join(words)} --format json", wanted, array(*words)
+
+    def packages(names):
+        return [objects[it] for it in names]
+
+    def of_why(line):
+        name, *sections = line.split(" ")
+        return {"package": objects[name], "sections": sections}
+
+    def of_duplicates(line):
+        name, *others = line.split(" ")
+        return {"package": objects[name], "needed_by": packages(others)}
+
+    def of_built(line):
+        name, platform, *features = line.split(" ")
+        return {"package": objects[name], "platform": platform, "features": features}
+
+    def of_features(line):
+        feature, side, *askers = line.split(" ")
+        return {"feature": feature, "side": side, "asked_by": packages(askers)}
+
+    yield beside(["cycles"], lambda line: packages(line.split(" ")))
+    yield beside(["cycles", "--workspace"], lambda line: packages(line.split(" ")))
+    for words in (["duplicates"], ["duplicates", "--workspace"]):
+        yield beside(words, of_duplicates)
+    for words in (["built"], ["built", "--tests", "--resolver", "1"]):
+        yield beside(words, of_built)
+    for name in graph.starts:
+        yield beside(["why", some, name], of_why)
+        yield beside(["features", name], of_features)
+        _, text, _ = run(["features", name], given)
+        for line in lines_of(text)[:2]:
+            yield beside(["why-feature", name, line.split(" ")[0]], lambda it: reason_of(objects, it))
 
 
 def try_formats(graph):
@@ -514,7 +566,10 @@ def try_formats(graph):
         ("order --format flag", "flag is no format: give lines, flags or json"),
         ("links forward --format flags", "links takes --format lines or json, not flags"),
         ("verify --format lines", f"verify takes no --format: {WITH_FORMAT}"),
-        ("why a b --format json", f"why takes no --format: {WITH_FORMAT}"),
+        ("depends a b --format json", f"depends takes no --format: {WITH_FORMAT}"),
+        ("dot --format json", f"dot takes no --format: {WITH_FORMAT}"),
+        ("why a b --format flags", "why takes --format lines or json, not flags"),
+        ("built --format flags", "built takes --format lines or json, not flags"),
         ("dot --null", "dot takes no --null"),
         ("depends a b --null", "depends takes no --null"),
     ):
@@ -703,7 +758,7 @@ def try_help(graph):
     yield "help, the commands", sorted(COMMANDS), sorted(re.findall(r"^  ([a-z][a-z-]+)", told, re.M))
     yield "help, lines of more than 90 letters", [], [it for it in told.splitlines() if len(it) > 90]
     for command, own in (
-        ("cycles", []),
+        ("cycles", ["--format"]),
         ("links", ["--format"]),
         ("order", ["--format"]),
         ("publish-order", ["--format", "--publishable"]),
@@ -713,13 +768,16 @@ def try_help(graph):
         yield f"help {command}, its options", [*EVERY_COMMANDS, *own], options
     for command in OF_BUILDS:
         options = re.findall(r"^  (--?[a-z-]+)", run(["help", command], b"")[1], re.M)
-        yield f"help {command}, its options", [*EVERY_COMMANDS[1:], *BUILDS], options
+        yield f"help {command}, its options", [*EVERY_COMMANDS[1:], "--format", *BUILDS], options
     with open(os.path.join(HERE, "../docs/PROGRAM.md"), encoding="utf-8") as page:
-        rows = [it.split("|")[1] for it in page if it.startswith("| `")]
+        above, json_on = page.read().split("\n## JSON\n")
+    rows, items = ([it.split("|")[1] for it in text.splitlines() if it.startswith("| `")] for text in (above, json_on.split("\n## ")[0]))
     documented = [option for it in rows for option in re.findall("--[a-z-]+", it)]
     helped = [it for words in COMMANDS for it in re.findall(r"^  (--[a-z-]+)", run(["help", words], b"")[1], re.M)]
     yield "the options of PROGRAM", sorted(set(helped)), sorted(documented)
     yield "the commands of PROGRAM", sorted(COMMANDS), sorted(re.findall(r"`([a-z][a-z-]*)", " ".join(rows)))
+    of_lists = sorted({*COMMANDS} - {"depends", "verify", "dot"})
+    yield "the commands of PROGRAM with JSON", of_lists, sorted(re.findall(r"`([a-z][a-z-]*)", " ".join(items)))
     for word in (it[1:] for it in COMMANDS):
         apart = {it: edits(word, it) for it in COMMANDS}
         wanted = {it for it in COMMANDS if apart[it] == min(apart.values())}

@@ -73,6 +73,8 @@ COMMANDS = [
     "--format json order",
     "--format json reach forward a",
     "--format json links forward",
+    "--format json why r c",
+    "--format json cycles",
     "--platform x --cfgs CFGS --platform y --cfgs CFGS --host z --host-cfgs CFGS order",
 ]
 # The link of the graph that makes a cycle over links that aren't dev-only, and what ends in a fault for that.
@@ -95,6 +97,9 @@ CARGO_RUNS = [
     "built --tests --features mid/extra",
     "features mid -p top",
     "why-feature mid extra -p top --platform x --cfgs CFGS",
+    "built -p top --format json",
+    "features mid -p top --format json",
+    "why-feature mid extra -p top --format json",
     "help",
 ]
 # What stands in the files that commands name by these words, of which main says where they lie.

@@ -298,6 +298,7 @@ def try_run_platforms(world, **how):
         (f"--ids --platform=x86_64-pc-windows-gnu --platform x --cfgs={on} order", (0, "a\nb\n", "")),
         ("--null --format flags --platform=x86_64-pc-windows-gnu order", (0, "--package=a\0--package=b\0", "")),
         ("--format json --platform=x86_64-pc-windows-gnu roots reverse", (0, f"[{object_b}]\n", "")),
+        ("--format json cycles", (0, "[]\n", "")),
         (f"--platform x --cfgs {world.room / 'none'} order", (2, "", "error: bad arguments\n")),
         (f"--host x86_64-unknown-linux-gnu --platform x --cfgs={on} order", (0, "a\nb\n", "")),
         (f"--host=x --host-cfgs {on} --platform x --cfgs={on} order", (0, "a\nb\n", "")),

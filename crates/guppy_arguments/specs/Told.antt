@@ -71,8 +71,7 @@ hint None = codes "guppy-cargo help lists them"
 
 -- of the format, which commands take it
 abbrev pub takers_of : List ℕ → List ℕ
-takers_of name = if bytes_eq name FORMAT.now
-    then codes ": affected, publish-order, reach, order, roots and links do" else []
+takers_of name = if bytes_eq name FORMAT.now then codes ": all commands but depends, verify and dot do" else []
 
 abbrev pub arguments_text : ArgumentsFault → List ℕ
 arguments_text (NoOption word nearest) = string_bytes word ++ (codes " is no option: " ++ hint nearest)

@@ -42,16 +42,6 @@ const OF_LISTS: &[&str] = &[
     "why-feature",
 ];
 
-// The commands whose answer is packages alone, or links.
-const WITH_FORMAT: &[&str] = &[
-    "affected",
-    "publish-order",
-    "reach",
-    "order",
-    "roots",
-    "links",
-];
-
 // The commands that ask what Cargo builds.
 const OF_BUILDS: &[&str] = &["built", "features", "why-feature"];
 
@@ -116,9 +106,9 @@ pub const OPTIONS: &[OptionRow] = &[
         FORMAT,
         Some("FORMAT"),
         false,
-        Some(WITH_FORMAT),
-        "lines, as without it, flags: --package=NAME@VERSION, as cargo takes them, or json:\n      \
-         an array of objects; of links lines or json",
+        Some(OF_LISTS),
+        "lines, as without it, or json: an array; where packages are listed alone, also\n      \
+         flags: --package=NAME@VERSION, as cargo takes them",
     ),
     (
         PUBLISHABLE,

@@ -99,7 +99,7 @@ fn takers_of(name: &str) -> &'static str
     ensures { result.now ≡ takers_of name.now }
 {
     if name == FORMAT {
-        ": affected, publish-order, reach, order, roots and links do"
+        ": all commands but depends, verify and dot do"
     } else {
         ""
     }

@@ -1,5 +1,9 @@
 //! What may be built of a package.
+use guppy_closure::Spread;
 use guppy_features::BuildPlatform;
+
+// More platforms than are mostly asked about.
+const PLATFORMS: usize = 64;
 
 /// The platform that something is built for.
 #[derive(Clone, Copy, Debug, PartialEq, Eq, PartialOrd, Ord)]
@@ -43,6 +47,21 @@ pub struct Build {
     pub place: BuildPlace,
     /// How it is built.
     pub mode: BuildMode,
+}
+
+impl Spread for Build {
+    fn spread(&self) -> usize {
+        let place = match self.place {
+            BuildPlace::Target(place) => place.wrapping_add(1),
+            BuildPlace::Host => 0,
+        };
+        let package = self.position.wrapping_mul(PLATFORMS).wrapping_add(place);
+        let mode = match self.mode {
+            BuildMode::Build => 0,
+            BuildMode::Test => 1,
+        };
+        package.wrapping_mul(2).wrapping_add(mode)
+    }
 }
 
 impl Build {

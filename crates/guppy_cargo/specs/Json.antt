@@ -8,7 +8,7 @@ use Rattle.guppy_data.specs.declared.records.LinkRecord.{LinkRecord}
 use Rattle.guppy_data.specs.declared.records.WorkspaceRecord.{WorkspaceRecord}
 use Rattle.guppy_metadata.specs.Records.{AreRecordsWith, IsMetadataFault}
 use Rattle.guppy_declared.specs.Declares.{Declares}
-use Rattle.guppy_program.specs.Format.{Format}
+use Rattle.guppy_print.specs.Format.{Format}
 use Rattle.guppy_arguments.specs.declared.fault.CargoFault.{CargoFault}
 use Rattle.guppy_arguments.specs.declared.fault.CargoFault.TheVariants.{Cycle, Metadata, NoText}
 use Rattle.guppy_arguments.specs.Fault.{cause_of, fault_text}

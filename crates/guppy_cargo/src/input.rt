@@ -1,6 +1,6 @@
 //! What `guppy-cargo` reads: the JSON that `cargo metadata` prints.
 ghost use Rattle.std.specs.Prelude.{◌≡◌, map, string_bytes, IfOk, IfErr, List};
-ghost use Rattle.guppy_program.specs.Format.{alternatives};
+ghost use Rattle.guppy_print.specs.Format.{alternatives};
 ghost use Rattle.guppy_cargo.specs.Json.{json_format};
 ghost use Rattle.guppy_arguments.specs.Names.{AreNames, text};
 ghost use Rattle.guppy_data.specs.declared.records.PackageRecord.{PackageRecord as PackageData};
@@ -12,8 +12,7 @@ use guppy_command::{Asked, Files};
 use guppy_data::{PackageRecord, Records};
 use guppy_declared::declared_members;
 use guppy_metadata::records_with;
-use guppy_program::Format;
-use guppy_program::format::has_package;
+use guppy_print::{Format, has_package};
 use simdutf8::basic::from_utf8;
 use std::alloc::{AllocError, Global};
 

@@ -7,4 +7,5 @@ pub mod NeededSteps
 pub mod Renamed
 pub mod Places
 pub mod Relations
+pub mod Listing
 pub mod KnownFacts

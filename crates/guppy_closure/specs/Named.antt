@@ -1,5 +1,5 @@
 -- Facts of any kind, and their places in a list of those that are named.
-use Rattle.std.specs.Prelude.{◌≡◌, ◌↔◌, ⊤, ℕ, Bool, Option, Some, None, List, [], ◌∷◌, ◌++◌, length, slice_get, if◌then◌else◌, option_to_list}
+use Rattle.std.specs.Prelude.{◌≡◌, ◌↔◌, ⊤, ℕ, Bool, Option, Some, None, List, [], ◌∷◌, ◌++◌, length, slice_get, flat_map, if◌then◌else◌, option_to_list, Contains}
 use Rattle.std.specs.List.Sorted.{IsStrictlySortedBy}
 use Rattle.std.specs.declared.cmp.Ordering.{Ordering}
 use Rattle.std.specs.declared.cmp.Ordering.TheVariants.{Equal}
@@ -19,6 +19,10 @@ body_of c = option_to_list c.first ++ option_to_list c.second
 -- the facts that the clause names
 abbrev pub facts_of : {F : Type 0} → Clause F → List F
 facts_of c = body_of c ++ c.head ∷ []
+
+-- the list has each fact that the clauses name
+abbrev pub HasNames : {F : Type 0} → List (Clause F) → List F → Type 0
+HasNames {F} clauses names = (f : F) → Contains (flat_map facts_of clauses) f → Contains names f
 
 -- the fact stands at the place
 abbrev pub StandsAt : {F : Type 0} → List F → F → ℕ → Type 0

@@ -11,6 +11,7 @@ ghost use Rattle.guppy_closure.specs.Named.{IsExact, StandsAt, Knows};
 
 use crate::clause::Clause;
 use crate::closing::{Closed, closure};
+use crate::hints::{Hints, Spread};
 use crate::named::{find, held, names_of, numbered};
 use crate::reasons::derivation;
 use std::alloc::{AllocError, Global};
@@ -37,17 +38,19 @@ impl From<AllocError> for ClosureFault {
 
 /// Clauses over facts of any ordered type, and which facts hold by them. Contracts see the list of the clauses.
 #[derive(Drop)]
-pub struct Known<F: Ord + Copy> {
+pub struct Known<F: Ord + Copy + Spread> {
     clauses: Vec<Clause<F>>,
     /// All facts that they name, ascending, each once.
     names: Vec<F>,
+    /// Where each of them stands there.
+    hints: Hints,
     /// The clauses by the places of their facts.
     numbered: Vec<Clause<usize>>,
     /// What holds of these places.
     closed: Closed,
 }
 
-impl<F: Ord + Copy> Model for Known<F> {
+impl<F: Ord + Copy + Spread> Model for Known<F> {
     ghost Value = { List (Clause F) };
 
     ghost view = { λ k. k.clauses.items };
@@ -56,13 +59,14 @@ impl<F: Ord + Copy> Model for Known<F> {
         k.closed.found.items };
 }
 
-impl<F: Ord + Copy> Known<F> {
+impl<F: Ord + Copy + Spread> Known<F> {
     /// What follows from the clauses, which are fewer than 2^30. Facts that compare as equal have to be the same.
     ///
-    /// Time grows with the clauses, times the logarithm of how many there are, by which facts are sorted and found.
-    /// Takes memory for three facts a clause, and beside them 48 bytes a clause, and eight and a bit a fact, of which
-    /// what is answered keeps all but eight a clause and four a fact. Fails with `TooManyClauses` exactly where there
-    /// are too many, and else with `OutOfMemory` only where there is no memory.
+    /// Time grows with the clauses, times the logarithm of how many there are, by which facts are sorted and, where their
+    /// numbers ([`Spread`]) are too alike, found. Takes memory for the facts that are named, at most three a clause, and
+    /// beside them 48 bytes a clause, and 24 and a bit a fact, of which what is answered keeps all but eight a clause and
+    /// four a fact. Fails with `TooManyClauses` exactly where there are too many, and else with `OutOfMemory` only where
+    /// there is no memory.
     pub fn new(alloc: Global, clauses: Vec<Clause<F>>) -> Result<Self, ClosureFault>
         requires exact { IsExact F.cmp }
         ensures clauses { IfOk result (λ known. known ≡ clauses.items) }
@@ -74,11 +78,13 @@ impl<F: Ord + Copy> Known<F> {
             return Err(ClosureFault::TooManyClauses);
         }
         let names = names_of(alloc, &clauses)?;
-        let numbered = numbered(alloc, &clauses, &names)?;
+        let hints = Hints::of(alloc, &names)?;
+        let numbered = numbered(alloc, &clauses, &names, &hints)?;
         let closed = closure(alloc, &numbered, names.len())?;
         Ok(Known {
             clauses,
             names,
+            hints,
             numbered,
             closed,
         })
@@ -91,11 +97,12 @@ impl<F: Ord + Copy> Known<F> {
         self.clauses.as_slice()
     }
 
-    /// Whether the fact holds. Takes of the order of log n comparisons for n facts that are named, and no memory.
+    /// Whether the fact holds. Mostly takes a comparison or, where it isn't named, of the order of log n for n facts that
+    /// are, and never more. Takes no memory.
     pub fn holds(&self, fact: &F) -> bool
         ensures { IsTrue result ↔ Holds self.now fact.now }
     {
-        held_at(&self.names, &self.closed, fact).is_some()
+        held_at(&self.names, &self.hints, &self.closed, fact).is_some()
     }
 
     /// The facts that hold, ascending, each once. Time grows with the facts that are named. Takes memory for those that
@@ -121,7 +128,7 @@ impl<F: Ord + Copy> Known<F> {
         ensures needed { IfOk result (λ steps. IfSome steps (λ steps.
             AreNeeded self.now steps.items fact.now)) }
     {
-        let Some(place) = held_at(&self.names, &self.closed, fact) else {
+        let Some(place) = held_at(&self.names, &self.hints, &self.closed, fact) else {
             return Ok(None);
         };
         Ok(Some(derivation(alloc, &self.numbered, &self.closed, place)?))
@@ -129,7 +136,7 @@ impl<F: Ord + Copy> Known<F> {
 }
 
 // The place of the fact, where it is in what is closed.
-fn held_at<F: Ord>(names: &[F], closed: &Closed, fact: &F) -> Option<usize>
+fn held_at<F: Ord + Spread>(names: &[F], hints: &Hints, closed: &Closed, fact: &F) -> Option<usize>
     requires exact { IsExact F.cmp }
     requires order { IsStrictlySortedBy F.cmp names.now }
     requires count { length closed.now.facts ≡ length names.now }
@@ -137,6 +144,6 @@ fn held_at<F: Ord>(names: &[F], closed: &Closed, fact: &F) -> Option<usize>
         ((p : ℕ) → StandsAt names.now fact.now p → ¬ IsIn closed.now.facts p)
         (λ p. StandsAt names.now fact.now p × IsIn closed.now.facts p) }
 {
-    let place = find(names, fact)?;
+    let place = find(names, hints, fact)?;
     closed.contains(place).then_some(place)
 }

@@ -9,7 +9,7 @@
 //! - `bodies`: the places in bodies where each fact stands;
 //! - `closing`: the facts that hold;
 //! - `reasons`: why one of them does;
-//! - `named`: facts of any ordered type, as numbers;
+//! - `hints`: guesses at where facts stand in a list; `named`: facts of any ordered type, as numbers;
 //! - `known`: which of them hold, and why;
 //! - `laws` on what holds.
 #![tactic(auto)]
@@ -18,6 +18,7 @@ mod bodies;
 pub mod clause;
 pub mod closing;
 pub mod fact;
+pub mod hints;
 pub mod known;
 pub mod laws;
 mod named;
@@ -26,5 +27,6 @@ pub mod reasons;
 pub use clause::{Clause, are_within};
 pub use closing::{Closed, closure};
 pub use fact::{FactIx, Facts};
+pub use hints::Spread;
 pub use known::{ClosureFault, Known};
 pub use reasons::derivation;

@@ -1,25 +1,25 @@
 //! Facts of any ordered type, by their places among all that are named.
-ghost use Rattle.std.specs.Prelude.{◌≡◌, ℕ, ◌+◌, ◌*◌, ◌<◌, ◌≤◌, ◌^◌, Some, ◌++◌, length, flat_map, slice_get, Contains, IfOk, MatchOption, vec_len, vec_capacity};
+ghost use Rattle.std.specs.Prelude.{◌≡◌, ℕ, ◌+◌, ◌*◌, ◌<◌, ◌≤◌, ◌^◌, Some, length, flat_map, slice_get, Contains, IfOk, OnOk, MatchOption, vec_len};
 ghost use Rattle.std.specs.List.Sorted.{IsStrictlySortedBy};
 ghost use Rattle.guppy_search.specs.IxSet.{IsIn};
 ghost use Rattle.guppy_closure.specs.declared.clause.Clause.{Clause};
-ghost use Rattle.guppy_closure.specs.Named.{IsExact, facts_of, StandsAt, held, IsSameFact, IsSameClause, AreSame};
+ghost use Rattle.guppy_closure.specs.Named.{IsExact, facts_of, HasNames, StandsAt, held, IsSameFact, IsSameClause, AreSame};
 
 use crate::clause::Clause;
 use crate::fact::Facts;
+use crate::hints::{Hints, Spread};
 use guppy_search::IxSet;
 use std::alloc::{AllocError, Global};
 
 /// The facts that the clauses name, ascending, each once.
-pub(crate) fn names_of<F: Ord + Copy>(
+pub(crate) fn names_of<F: Ord + Copy + Spread>(
     alloc: Global,
     clauses: &[Clause<F>],
 ) -> Result<Vec<F>, AllocError>
     requires exact { IsExact F.cmp }
     requires few { length clauses.now < 2 ^ 30 }
     ensures order { IfOk result (λ names. IsStrictlySortedBy F.cmp names.items) }
-    ensures named { IfOk result (λ names. (f : F) → Contains (flat_map facts_of clauses.now) f
-        → Contains names.items f) }
+    ensures named { IfOk result (λ names. HasNames clauses.now names.items) }
     ensures few { IfOk result (λ names. length names.items ≤ 3 * length clauses.now) }
 {
     let mut names = listed_names(alloc, clauses)?;
@@ -28,49 +28,98 @@ pub(crate) fn names_of<F: Ord + Copy>(
     Ok(names)
 }
 
-// The facts that the clauses name, one clause after another.
-fn listed_names<F: Copy>(alloc: Global, clauses: &[Clause<F>]) -> Result<Vec<F>, AllocError>
-    requires { length clauses.now < 2 ^ 30 }
-    ensures names { IfOk result (λ names. names.items ≡ flat_map facts_of clauses.now) }
+// The facts that the clauses name, by the first clause that does, and mostly once each.
+fn listed_names<F: Ord + Copy + Spread>(
+    alloc: Global,
+    clauses: &[Clause<F>],
+) -> Result<Vec<F>, AllocError>
+    requires exact { IsExact F.cmp }
+    requires few { length clauses.now < 2 ^ 30 }
+    ensures named { IfOk result (λ names. HasNames clauses.now names.items) }
     ensures few { IfOk result (λ names. length names.items ≤ 3 * length clauses.now) }
 {
-    let mut names = Vec::with_capacity(alloc, 3 * clauses.len())?;
+    let mut names = Vec::new(alloc);
+    let mut hints = Hints::empty(alloc, 2 * clauses.len())?;
     'clauses: for clause in clauses {
-        add_names(&mut names, clause);
+        add_names(&mut names, &mut hints, clause)?;
     }
     Ok(names)
 }
 
-// Puts the facts behind that the clause names.
-fn add_names<F: Copy>(names: &mut Vec<F>, clause: &Clause<F>)
-    requires { vec_len names.old + 3 ≤ vec_capacity names.old }
-    ensures names { names.new.items ≡ names.old.items ++ facts_of clause.now }
-    ensures few { vec_len names.new ≤ vec_len names.old + 3 }
-    ensures capacity { vec_capacity names.new ≡ vec_capacity names.old }
+// Puts the facts behind that the clause names, but for those at which there is a hint.
+fn add_names<F: Ord + Copy + Spread>(
+    names: &mut Vec<F>,
+    hints: &mut Hints,
+    clause: &Clause<F>,
+) -> Result<(), AllocError>
+    requires exact { IsExact F.cmp }
+    requires room { vec_len names.old + 3 < 2 ^ 32 }
+    ensures kept { OnOk result ((f : F) → Contains names.old.items f → Contains names.new.items f) }
+    ensures named { OnOk result ((f : F) → Contains (facts_of clause.now) f → Contains names.new.items f) }
+    ensures few { OnOk result (vec_len names.new ≤ vec_len names.old + 3) }
 {
-    if let Some(fact) = clause.first {
-        names.push_reserved(fact);
-    }
-    if let Some(fact) = clause.second {
-        names.push_reserved(fact);
-    }
-    names.push_reserved(clause.head);
+    add_if_some(names, hints, clause.first)?;
+    add_if_some(names, hints, clause.second)?;
+    add_name(names, hints, &clause.head)?;
+    Ok(())
 }
 
-/// The place of the fact, if it is named. Takes of the order of log n comparisons for n names.
-pub(crate) fn find<F: Ord>(names: &[F], fact: &F) -> Option<usize>
+// Puts the fact behind, if there is one, but not where there is a hint at it.
+fn add_if_some<F: Ord + Copy + Spread>(
+    names: &mut Vec<F>,
+    hints: &mut Hints,
+    fact: Option<F>,
+) -> Result<(), AllocError>
+    requires exact { IsExact F.cmp }
+    requires room { vec_len names.old + 1 < 2 ^ 32 }
+    ensures kept { OnOk result ((f : F) → Contains names.old.items f → Contains names.new.items f) }
+    ensures named { OnOk result ((f : F) → fact ≡ Some f → Contains names.new.items f) }
+    ensures few { OnOk result (vec_len names.new ≤ vec_len names.old + 1) }
+{
+    match fact {
+        Some(fact) => add_name(names, hints, &fact),
+        None => Ok(()),
+    }
+}
+
+// Puts the fact behind, but not where there is a hint at it.
+fn add_name<F: Ord + Copy + Spread>(
+    names: &mut Vec<F>,
+    hints: &mut Hints,
+    fact: &F,
+) -> Result<(), AllocError>
+    requires exact { IsExact F.cmp }
+    requires room { vec_len names.old + 1 < 2 ^ 32 }
+    ensures kept { OnOk result ((f : F) → Contains names.old.items f → Contains names.new.items f) }
+    ensures named { OnOk result (Contains names.new.items fact.now) }
+    ensures few { OnOk result (vec_len names.new ≤ vec_len names.old + 1) }
+{
+    if hints.find(names, fact).is_some() {
+        return Ok(());
+    }
+    hints.put(fact, names.len());
+    names.push(*fact)?;
+    Ok(())
+}
+
+/// The place of the fact, if it is named. Mostly takes one comparison, and at most of the order of log n for n names.
+pub(crate) fn find<F: Ord + Spread>(names: &[F], hints: &Hints, fact: &F) -> Option<usize>
     requires exact { IsExact F.cmp }
     requires order { IsStrictlySortedBy F.cmp names.now }
     ensures { MatchOption result (¬ Contains names.now fact.now) (StandsAt names.now fact.now) }
 {
-    names.binary_search(fact).ok()
+    match hints.find(names, fact) {
+        Some(place) => Some(place),
+        None => names.binary_search(fact).ok(),
+    }
 }
 
 /// The clauses by the places of their facts, which are all named.
-pub(crate) fn numbered<F: Ord + Copy>(
+pub(crate) fn numbered<F: Ord + Copy + Spread>(
     alloc: Global,
     clauses: &[Clause<F>],
     names: &[F],
+    hints: &Hints,
 ) -> Result<Vec<Clause<usize>>, AllocError>
     requires exact { IsExact F.cmp }
     requires order { IsStrictlySortedBy F.cmp names.now }
@@ -79,46 +128,54 @@ pub(crate) fn numbered<F: Ord + Copy>(
 {
     let mut numbered = Vec::with_capacity(alloc, clauses.len())?;
     'clauses: for clause in clauses {
-        numbered.push_reserved(by_places(clause, names));
+        numbered.push_reserved(by_places(clause, names, hints));
     }
     Ok(numbered)
 }
 
 // The clause by the places of its facts.
-fn by_places<F: Ord + Copy>(clause: &Clause<F>, names: &[F]) -> Clause<usize>
+fn by_places<F: Ord + Copy + Spread>(
+    clause: &Clause<F>,
+    names: &[F],
+    hints: &Hints,
+) -> Clause<usize>
     requires exact { IsExact F.cmp }
     requires order { IsStrictlySortedBy F.cmp names.now }
     requires named { (f : F) → Contains (facts_of clause.now) f → Contains names.now f }
     ensures { IsSameClause (StandsAt names.now) clause.now result }
 {
     Clause {
-        first: place_if_some(clause.first, names),
-        second: place_if_some(clause.second, names),
-        head: place_of(&clause.head, names),
+        first: place_if_some(clause.first, names, hints),
+        second: place_if_some(clause.second, names, hints),
+        head: place_of(&clause.head, names, hints),
     }
 }
 
 // The place of the fact, if there is one.
-fn place_if_some<F: Ord + Copy>(fact: Option<F>, names: &[F]) -> Option<usize>
+fn place_if_some<F: Ord + Copy + Spread>(
+    fact: Option<F>,
+    names: &[F],
+    hints: &Hints,
+) -> Option<usize>
     requires exact { IsExact F.cmp }
     requires order { IsStrictlySortedBy F.cmp names.now }
     requires named { (f : F) → fact ≡ Some f → Contains names.now f }
     ensures { IsSameFact (StandsAt names.now) fact result }
 {
     match fact {
-        Some(fact) => Some(place_of(&fact, names)),
+        Some(fact) => Some(place_of(&fact, names, hints)),
         None => None,
     }
 }
 
 // The place of a fact that is named.
-fn place_of<F: Ord>(fact: &F, names: &[F]) -> usize
+fn place_of<F: Ord + Spread>(fact: &F, names: &[F], hints: &Hints) -> usize
     requires exact { IsExact F.cmp }
     requires order { IsStrictlySortedBy F.cmp names.now }
     requires named { Contains names.now fact.now }
     ensures { StandsAt names.now fact.now result }
 {
-    find(names, fact).unwrap()
+    find(names, hints, fact).unwrap()
 }
 
 /// The facts whose places are in the set, in their order.

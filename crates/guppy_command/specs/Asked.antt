@@ -145,10 +145,15 @@ options_in given = kinds_in (values_of KINDS.now given) >>= λ kinds.
       format = format;
     })
 
--- the command takes the format: of links no flags tell
+-- the command's answer is packages alone
+abbrev pub is_of_packages : List ℕ → Bool
+is_of_packages command = is_among (codes "affected" ∷ codes "publish-order" ∷ codes "reach" ∷ codes "order"
+    ∷ codes "roots" ∷ []) command
+
+-- the command takes the format: flags tell of packages alone
 abbrev pub suited : List ℕ → OutputFormat → Result (Unit {0}) Misread
 suited command Lines = Ok tt
-suited command Flags = if bytes_eq command (codes "links") then Err (no_flags command) else Ok tt
+suited command Flags = if is_of_packages command then Ok tt else Err (no_flags command)
 suited command Json = Ok tt
 
 -- there are none

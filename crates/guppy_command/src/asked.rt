@@ -1,7 +1,7 @@
 //! What arguments ask.
 ghost use Rattle.std.specs.Prelude.{◌≡◌, map, string_bytes, option_map, IfOk};
 ghost use Rattle.std.specs.List.{filter_map, find, flat_map, zip};
-ghost use Rattle.guppy_command.specs.Asked.{word_of, value_for, picked, is_option, values_of, has, is_among, takes, may_repeat, command_in, judged, all_judged, kinds_in, format_in, suited, pairs_in, platforms_in, host_in, options_in, says_changes, affected_of, standard_in, resolver_in, request_in, is_of_builds, asked_of_builds, asked_by, wanted_of, is_all, halves_of, is_unparted, also_in, ignored_in};
+ghost use Rattle.guppy_command.specs.Asked.{word_of, value_for, picked, is_option, values_of, has, is_among, takes, may_repeat, command_in, judged, all_judged, kinds_in, format_in, suited, pairs_in, platforms_in, host_in, options_in, says_changes, affected_of, standard_in, resolver_in, request_in, is_of_builds, is_of_packages, asked_of_builds, asked_by, wanted_of, is_all, halves_of, is_unparted, also_in, ignored_in};
 ghost use Rattle.guppy_command.specs.declared.table.TheConstants.{FORMAT, KINDS, RESOLVER};
 ghost use Rattle.guppy_command.specs.Builds.{features_of};
 ghost use Rattle.guppy_command.specs.Command.{from_root};
@@ -341,12 +341,22 @@ fn options_in<'a>(alloc: Global, given: &[Argument<'a>]) -> Result<Options, Misr
     })
 }
 
-// Whether the command takes the format: of links no flags tell.
+// Whether the command's answer is packages alone.
+fn is_of_packages(command: &str) -> bool
+    ensures { result ≡ is_of_packages command.now }
+{
+    is_among(
+        &["affected", "publish-order", "reach", "order", "roots"],
+        command,
+    )
+}
+
+// Whether the command takes the format: flags tell of packages alone.
 fn suited(command: &str, format: OutputFormat) -> Result<(), Misread<'_>>
     ensures { Gives (λ x. x) (suited command.now format) result }
 {
     match format {
-        OutputFormat::Flags if command == "links" => Err(Misread::NoFlags(command)),
+        OutputFormat::Flags if !is_of_packages(command) => Err(Misread::NoFlags(command)),
         OutputFormat::Lines | OutputFormat::Flags | OutputFormat::Json => Ok(()),
     }
 }

@@ -1,5 +1,5 @@
 -- What each step adds, of what the steps within it add.
-use Rattle.std.proofs.Common.{◌≡◌, ℕ, Bool, true, false, not, ◌&&◌, List, Option, Some, None, ◌∙◌, refl, sym, subst}
+use Rattle.std.proofs.Common.{◌≡◌, ℕ, Bool, true, false, not, ◌&&◌, List, Option, Some, None, ◌∙◌, inl, inr, refl, sym, subst, arith}
 use Rattle.std.specs.Prelude.{IsTrue, Contains, length, slice_get}
 use Rattle.std.specs.Str.{bytes_eq}
 use Rattle.std.specs.declared.string.String.{String}
@@ -7,22 +7,42 @@ use Rattle.std.specs.declared.vec.Vec.{Vec}
 use Rattle.std.specs.declared.alloc.Global.{Global}
 use Rattle.guppy_data.specs.declared.records.PackageRecord.{PackageRecord}
 use Rattle.guppy_data.specs.declared.texts.named_feature.NamedFeatureDep.{NamedFeatureDep}
+use Rattle.guppy_data.specs.Platform.{recorded_status}
 use Rattle.guppy_closure.specs.declared.clause.Clause.{Clause}
 use Rattle.guppy_features.specs.declared.fact.BuildPlatform.{BuildPlatform}
 use Rattle.guppy_features.specs.declared.fact.Fact.{Fact}
 use Rattle.guppy_features.specs.Facts.{feature, feature_fact, switched_fact}
 use Rattle.guppy_features.specs.Dependencies.{DependencyData}
-use Rattle.guppy_features.specs.Questions.{Question, may_ask, counts, use_of}
+use Rattle.guppy_features.specs.Questions.{Question, is_on, may_ask, counts, use_of}
 use Rattle.guppy_features.specs.Adding.{Adds, Where, Behind, OfSome}
 use Rattle.guppy_features.specs.Resolved.{is_resolved}
 use Rattle.guppy_features.specs.Needs.{Needs, NeedsWhere, feature_there}
 use Rattle.guppy_features.specs.Values.{Gives, GivesEither, GivesThrough, GivesUnresolved, GivesWeakly, GivesStrongly}
 use Rattle.guppy_features.specs.Follows.{HasValue, feature_count}
 use Rattle.guppy_features.specs.Parts.{SwitchesAt}
-use Rattle.guppy_features.proofs.Adding.{adds_same, adds_then, adds_if, adds_if_not, behind_where, behind_either, behind_if}
+use Rattle.guppy_features.proofs.Adding.{adds_nothing, adds_same, adds_then, adds_if, adds_if_not, behind_where, behind_either, behind_if}
+
+pub not_off : (b : Bool) → not b ≡ false → IsTrue b
+not_off true e = refl
+not_off false e = absurd (cc)
 
 same_fact : {X : Type 0} {o : Option X} (x y : X) → o ≡ Some x → o ≡ Some y → x ≡ y
 same_fact {X} {o} x y a b = cc
+
+module _ (q : Question) (s : BuildPlatform) (d : DependencyData) where
+  -- a dependency that asks for nothing needs nothing
+  pub none_asked : is_on q s d.section (recorded_status d.part.build_if) ≡ false → is_on q s d.section (recorded_status d.part.default_features_if) ≡ false
+      → length d.part.feature_targets.entries ≡ 0 → (used : Fact) (body : List Fact) (f : Fact) → ¬ NeedsWhere q s d used body f
+  none_asked off bare none used body f n = elim n as (λ _. ⊥) [
+    | inl i ↦ let e : true ≡ false = sym i.0 ∙ off in absurd cc
+    | inr m ↦ elim m as (λ _. ⊥) [
+      | inl i ↦ let e : true ≡ false = sym i.0 ∙ bare in absurd cc
+      | inr named ↦ let low = named.1.1 in absurd (omega arith)
+    ]
+  ]
+
+  pub adds_no_needs : ((used : Fact) (body : List Fact) (f : Fact) → ¬ NeedsWhere q s d used body f) → (xs : List (Clause Fact)) → Adds (Needs q s d) xs xs
+  adds_no_needs none xs = adds_nothing xs (λ body f n. none n.0 body f n.2)
 
 module _ (q : Question) (s : BuildPlatform) (d : DependencyData) {old new : List (Clause Fact)} where
   pub adds_needs : (used : Fact) → IsTrue (may_ask q d.from d.section) → use_of q s d ≡ Some used → Adds (NeedsWhere q s d used) old new → Adds (Needs q s d) old new

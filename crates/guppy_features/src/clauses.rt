@@ -20,10 +20,20 @@ impl Asked<'_> {
         requires { All (λ i. i.position < length self.graph.now.packages) self.options.now.initials.items }
         ensures { IfOk result (λ rules. AreClausesOf (FollowsFor (question_of self.entry)) rules.items) }
     {
-        let mut rules = Vec::new(self.graph.alloc());
+        let mut rules = Vec::with_capacity(self.graph.alloc(), self.likely_count())?;
         self.add_all_roots(&mut rules)?;
         self.add_packages(&mut rules)?;
         Ok(rules)
+    }
+
+    // About how many clauses there are, so that the list is mostly not moved.
+    fn likely_count(self) -> usize {
+        let mut count = self.graph.link_count().saturating_mul(6);
+        for position in 0..self.graph.package_count() {
+            let features = self.graph.package_at(position).named_features.len();
+            count = count.saturating_add(features.saturating_mul(4));
+        }
+        count
     }
 
     // Adds what is asked of the chosen packages.

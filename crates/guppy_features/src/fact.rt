@@ -1,4 +1,8 @@
 //! What may hold of a package.
+use guppy_closure::Spread;
+
+// More features than most packages have.
+const PLACES: usize = 4096;
 
 /// The side that a package is built for: that of build scripts and procedural macros with what these need, or that of
 /// all else. With resolver 1 there is one side, `Target`.
@@ -33,6 +37,13 @@ pub struct Fact {
     pub kind: FactKind,
     /// The place of the optional dependency or of the feature, from 0.
     pub place: usize,
+}
+
+impl Spread for Fact {
+    fn spread(&self) -> usize {
+        let package = self.position.wrapping_mul(PLACES).wrapping_add(self.place);
+        package.wrapping_mul(6).wrapping_add(self.said())
+    }
 }
 
 impl Fact {
@@ -72,6 +83,18 @@ impl Fact {
             side,
             kind: FactKind::Feature,
             place,
+        }
+    }
+
+    // A number for what is said of which side.
+    fn said(&self) -> usize {
+        match (self.side, self.kind) {
+            (BuildPlatform::Target, FactKind::Part) => 0,
+            (BuildPlatform::Target, FactKind::Switched) => 1,
+            (BuildPlatform::Target, FactKind::Feature) => 2,
+            (BuildPlatform::Host, FactKind::Part) => 3,
+            (BuildPlatform::Host, FactKind::Switched) => 4,
+            (BuildPlatform::Host, FactKind::Feature) => 5,
         }
     }
 }

@@ -1,6 +1,7 @@
 //! What a dependency that is used needs.
-ghost use Rattle.std.specs.Prelude.{◌<◌, OnOk, length};
+ghost use Rattle.std.specs.Prelude.{◌≡◌, ◌<◌, List, OnOk, false, length};
 ghost use Rattle.guppy_data.specs.Platform.{recorded_status};
+ghost use Rattle.guppy_features.specs.declared.fact.Fact.{Fact};
 ghost use Rattle.guppy_features.specs.Dependencies.{seen_dependency};
 ghost use Rattle.guppy_features.specs.Questions.{question_of};
 ghost use Rattle.guppy_features.specs.Adding.{Adds};
@@ -29,10 +30,29 @@ impl Asked<'_> {
         if !self.may_ask(dependency.from, dependency.section) {
             return Ok(());
         }
+        if !self.asks(side, dependency) {
+            return Ok(());
+        }
         let Some(used) = self.use_of(side, dependency) else {
             return Ok(());
         };
         self.add_needs_of_used(rules, side, dependency, used)
+    }
+
+    // Whether the dependency may need anything there. Most don't: a link has six, mostly of one section, and this looks
+    // no name up.
+    fn asks(self, side: BuildPlatform, dependency: &Dependency<'_>) -> bool
+        ensures { result ≡ false → (used : Fact) (body : List Fact) (f : Fact)
+            → ¬ NeedsWhere (question_of self.entry) side (seen_dependency dependency.now) used body f }
+    {
+        let part = dependency.part;
+        if self.is_on(side, dependency.section, &part.build_if) {
+            return true;
+        }
+        if self.is_on(side, dependency.section, &part.default_features_if) {
+            return true;
+        }
+        !part.feature_targets.is_empty()
     }
 
     // Adds these where it is known what holds if the dependency is used.

@@ -54,7 +54,8 @@ impl<'a> CargoSet<'a> {
     /// none. Clauses are as many as links, features asked for by links, and values of features, twice, a value `x/F`
     /// counted for each part that a dependency named `x` has, and once for each link of its package it is looked at.
     /// Time grows with these, times the logarithm of the clauses, by which facts are sorted and found, and with the
-    /// chosen packages for each link with a dev-dependency. Takes memory for them, some 250 bytes a clause.
+    /// chosen packages for each link with a dev-dependency. Takes memory for them, some 250 bytes a clause, and room for
+    /// six clauses a link and four a feature at least.
     pub fn new(graph: &'a RecordGraph, options: &'a CargoOptions<'a>) -> Result<Self, ClosureFault>
         requires { All (λ i. i.position < length graph.now.packages) options.now.initials.items }
         ensures { IfOk result (λ set. set ≡ question graph.now options.now) }

@@ -12,7 +12,7 @@ use Rattle.guppy_command.specs.Asked.{Asks, IsMisread}
 use Rattle.guppy_command.specs.Grammar.{Program, Misread}
 use Rattle.guppy_command.specs.Ids.{has_id}
 use Rattle.guppy_lines.specs.declared.format.TheConstants.{OPTIONS, COMMANDS}
-use Rattle.guppy_program.specs.Format.{Format}
+use Rattle.guppy_print.specs.Format.{Format}
 use Rattle.guppy_lines.specs.Text.{IsAllGood, IsFirstBadLine, statements_of}
 use Rattle.guppy_lines.specs.Records.{AreRecordsOf}
 

@@ -16,8 +16,7 @@ use guppy_command::table::{
 };
 use guppy_command::{Asked, Files, Misread, OptionRow, Program};
 use guppy_data::{PackageRecord, Records, VerifyFault};
-use guppy_program::Format;
-use guppy_program::format::has_package;
+use guppy_print::{Format, has_package};
 use std::alloc::{AllocError, Global};
 
 // The commands that ask about links.
@@ -50,9 +49,6 @@ const OF_LISTS: &[&str] = &[
     "publish-order",
 ];
 
-// The commands whose answer is packages alone, or links.
-const WITH_FORMAT: &[&str] = &["reach", "order", "roots", "links", "publish-order"];
-
 // The commands that ask what Cargo builds.
 const OF_BUILDS: &[&str] = &["built", "features", "why-feature"];
 
@@ -66,7 +62,7 @@ const OPTIONS: &[OptionRow] = &[
     (WORKSPACE, None, false, None, ""),
     (IDS, None, false, None, ""),
     (NULL, None, false, Some(OF_LISTS), ""),
-    (FORMAT, Some("FORMAT"), false, Some(WITH_FORMAT), ""),
+    (FORMAT, Some("FORMAT"), false, Some(OF_LISTS), ""),
     (MEMBER, Some("MEMBER"), true, Some(OF_BUILDS), ""),
     (FEATURES, Some("LIST"), true, Some(OF_BUILDS), ""),
     (ALL_FEATURES, None, false, Some(OF_BUILDS), ""),

@@ -1,5 +1,5 @@
 -- The values of members that are asked for, where a member is put behind the others.
-use Rattle.std.proofs.Common.{◌≡◌, ◌∙◌, ℕ, zero, suc, ◌+◌, ◌<◌, Bool, true, false, cond, not, ◌&&◌, ◌||◌, ◌⊎◌, List, [], ◌∷◌, map, length, get_or, Option, None, Some, option_and_then, refl, sym, ap, subst, arith}
+use Rattle.std.proofs.Common.{inl, inr, ◌≡◌, ◌∙◌, ℕ, zero, suc, ◌+◌, ◌<◌, Bool, true, false, cond, not, ◌&&◌, ◌||◌, ◌⊎◌, List, [], ◌∷◌, map, length, ◌++◌, take, get_or, Option, None, Some, option_and_then, refl, sym, ap, subst, arith}
 use Rattle.std.specs.Prelude.{unwrap_or, MatchOption, slice_set, All, position}
 use Rattle.std.specs.Borrow.{Bor}
 use Rattle.std.specs.List.{position_from}
@@ -15,8 +15,8 @@ use Rattle.json.specs.Json.{Json, null, boolean, number, string, array, object}
 use Rattle.json.specs.Find.{get, as_str}
 use Rattle.json.specs.Value.{value_view}
 use Rattle.json.specs.declared.value.Value.{Value}
-use Rattle.guppy_metadata.specs.Asked.{value_of, AreValuesOf, IsNameAt, IsTextIn, IsTruthIn, are_distinct}
-use Rattle.guppy_metadata.specs.Members.{is_among, unless_null, present, IsText, IsTruth}
+use Rattle.guppy_metadata.specs.Asked.{value_of, AreValuesOf, IsNameAt, IsTextIn, IsTruthIn, AreTextsIn, are_distinct}
+use Rattle.guppy_metadata.specs.Members.{is_among, unless_null, present, IsText, IsTruth, AreTexts}
 use Rattle.guppy_metadata.specs.Told.{IsWith}
 use Rattle.guppy_metadata.proofs.ObjectMembers.{differs, kept, put}
 use Rattle.guppy_metadata.proofs.Turns.{object_of}
@@ -70,6 +70,12 @@ pub at_place : (names : List (Bor (List ℕ))) (place : ℕ) (other : Bor (List 
 at_place [] place other name low same = let none : ⊥ = omega arith in absurd none
 at_place (n ∷ ns) zero other name low same = ap Some ((bytes_eq-Decides n.now name).0 same)
 at_place (n ∷ ns) (suc place) other name low same = at_place ns place other name (let lower : place < length ns = omega arith in lower) same
+
+-- the first values are those of the first names
+pub first_values : (d : Json) (names more : List (List ℕ)) (values : List (Value Global)) → AreValuesOf d (names ++ more) values → AreValuesOf d names (take (length names) values)
+first_values d [] more values are = tt
+first_values d (n ∷ ns) more [] are = are
+first_values d (n ∷ ns) more (v ∷ vs) are = (are.0, first_values d ns more vs are.1)
 
 -- where there are no members, each value is null
 pub none_told : (names : List (List ℕ)) (values : List (Value Global)) → length values ≡ length names → All (λ v. value_view v ≡ null) values → AreValuesOf (object_of []) names values
@@ -143,3 +149,8 @@ module _ (d : Json) where
     -- a value that is a truth value where it isn't null
     pub truth_told : (default truth : Bool) → IsTruthIn value default truth → IsTruth name d default truth
     truth_told default truth same = subst (λ o. (o ≡ Some (boolean truth)) ⊎ ((o ≡ None) × (truth ≡ default))) (sym value_present) same
+
+    -- a value that is a list of texts where it isn't null
+    pub texts_told : (texts : List (List ℕ)) → AreTextsIn value texts → AreTexts name d texts
+    texts_told texts (inl is) = inl (value_present ∙ is)
+    texts_told texts (inr is) = inr (value_present ∙ is.0, ap (map string) is.1)

@@ -8,7 +8,7 @@ use Rattle.json.specs.Value.{value_view}
 use Rattle.json.specs.declared.value.Value.{Value}
 use Rattle.guppy_data.specs.declared.texts.dependency_kind.DependencyKind.{DependencyKind}
 use Rattle.guppy_data.specs.declared.texts.dependency_kind.DependencyKind.TheVariants.{Normal, Development, Build}
-use Rattle.guppy_metadata.specs.Members.{unless_null, is_among}
+use Rattle.guppy_metadata.specs.Members.{unless_null, is_among, list_of}
 
 -- the value of the last member of this name, or null where there is none
 abbrev pub value_of : List ℕ → Json → Json
@@ -34,6 +34,10 @@ IsTextIn value text = unless_null value ≡ option_map string text
 -- this is the truth value that a value is, or the default where it is null
 abbrev pub IsTruthIn : Json → Bool → Bool → Type 0
 IsTruthIn value default truth = (unless_null value ≡ Some (boolean truth)) ⊎ ((unless_null value ≡ None) × (truth ≡ default))
+
+-- these are the texts of the list that a value is: none where it is null
+abbrev pub AreTextsIn : Json → List (List ℕ) → Type 0
+AreTextsIn value texts = (unless_null value ≡ Some (list_of texts)) ⊎ ((unless_null value ≡ None) × (texts ≡ []))
 
 -- the section has this name: the normal one may have none
 abbrev pub HasName : Option (List ℕ) → DependencyKind → Type 0

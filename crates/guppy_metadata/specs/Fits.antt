@@ -3,7 +3,7 @@ use Rattle.std.specs.Prelude.{◌==◌, ◌&&◌, ◌||◌, ℕ, Bool, if◌then
 use Rattle.std.specs.Cmp.Lexicographic.{pointwise}
 use Rattle.std.specs.List.{list_any, list_all}
 use Rattle.std.specs.Option.{option_copied, option_eq}
-use Rattle.std.specs.Str.{bytes_eq}
+use Rattle.std.specs.Str.{byte, bytes_eq}
 use Rattle.semver.specs.Eval.{matches_all}
 use Rattle.semver.specs.declared.Version.{Version}
 use Rattle.semver.specs.declared.VersionReq.{VersionReq}
@@ -15,14 +15,14 @@ use Rattle.guppy_metadata.specs.Gathered.{same_section}
 
 -- a letter of a name stands for itself in the code, and `-` for `_` too
 abbrev pub stands_for : ℕ → ℕ → Bool
-stands_for letter in_code = (letter == in_code) || ((letter == 45) && (in_code == 95))
+stands_for letter in_code = (letter == in_code) || ((letter == byte "-") && (in_code == byte "_"))
 
 abbrev pub is_named : List ℕ → List ℕ → Bool
 is_named name in_code = pointwise stands_for name in_code
 
 -- a name as it is in the code
 abbrev pub letter_in_code : ℕ → ℕ
-letter_in_code letter = if letter == 45 then 95 else letter
+letter_in_code letter = if letter == byte "-" then byte "_" else letter
 
 abbrev pub in_code : List ℕ → List ℕ
 in_code name = map letter_in_code name

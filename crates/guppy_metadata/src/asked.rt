@@ -5,10 +5,11 @@ ghost use Rattle.std.specs.Option.{option_copied};
 ghost use Rattle.std.specs.Str.{bytes_eq};
 ghost use Rattle.json.specs.Json.{Json, null, value};
 ghost use Rattle.json.specs.Value.{value_view};
-ghost use Rattle.guppy_metadata.specs.Asked.{AreValuesOf, IsNameAt, IsTextIn, IsTruthIn, are_distinct};
+ghost use Rattle.guppy_metadata.specs.Asked.{AreTextsIn, AreValuesOf, IsNameAt, IsTextIn, IsTruthIn, are_distinct};
 ghost use Rattle.guppy_metadata.specs.Members.{IsObject, is_among};
 ghost use Rattle.guppy_metadata.specs.Told.{IsWith};
 
+use crate::object::texts_of;
 use json::{Reader, Token, Value};
 use std::alloc::Global;
 
@@ -125,5 +126,15 @@ pub(crate) fn truth_or(value: &Value<'_>, default: bool) -> Option<bool>
         Value::Null => Some(default),
         Value::Bool(truth) => Some(*truth),
         _ => None,
+    }
+}
+
+/// The texts of the list that the value of a member is, none where it is null.
+pub(crate) fn texts_in<'a>(alloc: Global, value: &Value<'a>) -> Option<Vec<&'a str>>
+    ensures { IfSome result (λ texts. AreTextsIn (value_view value.now) (map (λ text. text.now) texts.items)) }
+{
+    match value {
+        Value::Null => Some(Vec::new(alloc)),
+        _ => texts_of(alloc, "", value).ok(),
     }
 }

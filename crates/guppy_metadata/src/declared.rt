@@ -1,20 +1,19 @@
 //! A dependency as a package declares it.
-ghost use Rattle.std.specs.Prelude.{◌≡◌, false, Some, map, length, IfOk, IfSome, MatchOption, MatchResult};
+ghost use Rattle.std.specs.Prelude.{◌≡◌, true, false, Some, map, length, IfOk, IfSome, MatchOption, MatchResult};
 ghost use Rattle.std.specs.Option.{option_copied};
 ghost use Rattle.json.specs.Json.{Json, value};
 ghost use Rattle.guppy_data.specs.declared.texts.dependency_kind.DependencyKind.{DependencyKind};
 ghost use Rattle.guppy_metadata.specs.Asked.{AreValuesOf, HasName};
-ghost use Rattle.guppy_metadata.specs.declared.declared.TheConstants.{ASKED};
+ghost use Rattle.guppy_metadata.specs.declared.declared.TheConstants.{PLAIN, DETAILED};
 ghost use Rattle.guppy_metadata.specs.Dependency.{AreAsked, IsDeclared, NamesSection, NamesOptional};
 ghost use Rattle.guppy_metadata.specs.Fault.{NoneIs, IsRead};
 ghost use Rattle.guppy_metadata.specs.Members.{data_of, IsListOf};
 ghost use Rattle.guppy_metadata.specs.Package.{AreDeclared};
 
-use crate::asked::{optional_text, read_asked, truth_or};
+use crate::asked::{optional_text, read_asked, texts_in, truth_or};
 use crate::fault::{Misfit, TextFault};
 use crate::key::name_key;
 use crate::object::{Object, requirement_of};
-use crate::read::read_object;
 use crate::types::Declared;
 use guppy_data::DependencyKind;
 use indexmap::IndexSet;
@@ -114,7 +113,7 @@ pub(crate) fn declared_dependencies<'a>(
 
 // The names of the members that a dependency is read from without details, in the order in which Cargo prints them.
 // `source` is there only because Cargo prints it among them.
-const ASKED: [&str; 10] = [
+const PLAIN: [&str; 10] = [
     "name",
     "source",
     "req",
@@ -127,10 +126,25 @@ const ASKED: [&str; 10] = [
     "path",
 ];
 
+// The names of the members that a dependency is read from with details: the same, and behind them the features.
+const DETAILED: [&str; 11] = [
+    "name",
+    "source",
+    "req",
+    "kind",
+    "rename",
+    "optional",
+    "uses_default_features",
+    "target",
+    "registry",
+    "path",
+    "features",
+];
+
 // The dependency whose members have these values, without details.
 fn plain_of<'a>(values: &[Value<'a>], alloc: Global) -> Option<Declared<'a>>
     requires { length values.now ≡ 10 }
-    ensures { IfSome result (λ made. (told : Json) → AreValuesOf told (map (λ n. n.now) ASKED) values.now
+    ensures { IfSome result (λ made. (told : Json) → AreValuesOf told (map (λ n. n.now) PLAIN) values.now
         → IsDeclared false told made) }
 {
     let name = values[0].as_str()?;
@@ -159,6 +173,17 @@ fn plain_of<'a>(values: &[Value<'a>], alloc: Global) -> Option<Declared<'a>>
     })
 }
 
+// The dependency whose members have these values, with details.
+fn detailed_of<'a>(values: &[Value<'a>], alloc: Global) -> Option<Declared<'a>>
+    requires { length values.now ≡ 11 }
+    ensures { IfSome result (λ made. (told : Json) → AreValuesOf told (map (λ n. n.now) DETAILED) values.now
+        → IsDeclared true told made) }
+{
+    let mut declared = plain_of(&values[..10], alloc)?;
+    declared.features = texts_in(alloc, &values[10])?;
+    Some(declared)
+}
+
 // The dependency that the object that comes next tells, without details. Its members' values are read in place of what
 // was read before.
 fn read_plain<'a>(
@@ -170,28 +195,40 @@ fn read_plain<'a>(
     ensures { IfSome result (λ made. (told : Json)
         × (value 124 reader.old ≡ Some (told, reader.new)) × IsDeclared false told made) }
 {
-    read_asked(values, &ASKED, alloc, reader, MAX_DEPTH - 4)?;
+    read_asked(values, &PLAIN, alloc, reader, MAX_DEPTH - 4)?;
     plain_of(values, alloc)
 }
 
-// The dependency that the object that comes next tells, with details or without. The object is read in place of what
-// was read before, as a whole or by its values.
+// The same with details.
+fn read_detailed<'a>(
+    values: &mut [Value<'a>],
+    alloc: Global,
+    reader: &mut Reader<'a>,
+) -> Option<Declared<'a>>
+    requires { length values.old ≡ 11 }
+    ensures { IfSome result (λ made. (told : Json)
+        × (value 124 reader.old ≡ Some (told, reader.new)) × IsDeclared true told made) }
+{
+    read_asked(values, &DETAILED, alloc, reader, MAX_DEPTH - 4)?;
+    detailed_of(values, alloc)
+}
+
+// The same with details or without.
 fn read_dependency<'a>(
-    item: &mut Value<'a>,
     values: &mut [Value<'a>],
     alloc: Global,
     reader: &mut Reader<'a>,
     details: bool,
 ) -> Option<Declared<'a>>
-    requires { length values.old ≡ 10 }
+    requires { length values.old ≡ 11 }
     ensures { IfSome result (λ made. (told : Json)
         × (value 124 reader.old ≡ Some (told, reader.new)) × IsDeclared details told made) }
 {
-    if !details {
-        return read_plain(values, alloc, reader);
+    if details {
+        read_detailed(values, alloc, reader)
+    } else {
+        read_plain(&mut values[..10], alloc, reader)
     }
-    read_object(item, alloc, reader, MAX_DEPTH - 4)?;
-    declared_of(Object { alloc, value: item }, details).ok()
 }
 
 /// The dependencies that the list that comes next tells, with details or without.
@@ -207,8 +244,8 @@ pub(crate) fn read_dependencies<'a>(
         return None;
     };
     let mut declared = Vec::new(alloc);
-    let mut item = Value::Null;
     let mut values = [
+        Value::Null,
         Value::Null,
         Value::Null,
         Value::Null,
@@ -221,7 +258,7 @@ pub(crate) fn read_dependencies<'a>(
         Value::Null,
     ];
     while !reader.take_end_array() {
-        let dependency = read_dependency(&mut item, &mut values, alloc, reader, details)?;
+        let dependency = read_dependency(&mut values, alloc, reader, details)?;
         declared.push(dependency).ok()?;
     }
     declared.shrink_to_fit();

@@ -17,6 +17,7 @@
 //! - `package`: packages;
 //! - `parts`: a package, read member by member;
 //! - `resolved`: dependencies as they are resolved;
+//! - `fits`: which declared dependencies were resolved to one; `gathered`: what a link is gathered from;
 //! - `link`: links, of what is declared and what is resolved;
 //! - `node`: the links of a node, read member by member;
 //! - `told`: the packages and the links, read item by item;
@@ -31,6 +32,8 @@ mod by_item;
 mod declared;
 mod fault;
 mod feature;
+mod fits;
+mod gathered;
 mod key;
 pub mod laws;
 mod link;

@@ -16,7 +16,7 @@ use Rattle.guppy.specs.Ids.{HasId, DistinctBelow}
 use Rattle.guppy.specs.Members.{member_path}
 use Rattle.guppy_program.specs.Publish.{is_somewhere, is_held_back, is_hindrance, hindrance_of, IsFree}
 use Rattle.guppy_program.proofs.Membership.{same_truth}
-use Rattle.guppy_program.proofs.PublishableMembers.{one_place}
+use Rattle.guppy_print.proofs.FlaggedPackages.{one_place}
 
 -- what is never published is published nowhere
 never_is : (seen : Publish) (never : Bool) → IsTrue never ↔ (seen ≡ OnlyTo []) → never ≡ not (is_somewhere seen)

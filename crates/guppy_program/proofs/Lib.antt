@@ -1,4 +1,3 @@
-pub mod KnownIds
 pub mod Membership
 pub mod IncludedIds
 pub mod ReachedIds
@@ -6,10 +5,7 @@ pub mod Refusals
 pub mod GivenFolders
 pub mod PackageLists
 pub mod PublishableMembers
-pub mod FlaggedPackages
-pub mod WrittenObjects
 pub mod Hindrances
 pub mod RefusedBuilds
 pub mod Runs
 pub mod WholeSet
-pub mod GrowingLines

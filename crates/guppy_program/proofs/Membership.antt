@@ -8,7 +8,7 @@ use Rattle.guppy_data.specs.declared.records.PackageRecord.{PackageRecord}
 use Rattle.guppy.specs.Ids.{HasId}
 use Rattle.guppy.specs.Members.{IsMember, member_path}
 use Rattle.guppy_program.specs.Answer.{is_member}
-use Rattle.guppy_program.proofs.KnownIds.{either_true, first_true, second_true}
+use Rattle.guppy_print.proofs.KnownIds.{either_true, first_true, second_true}
 
 both_true : (a b : Bool) → (a && b) ≡ true → (a ≡ true) × (b ≡ true)
 both_true true b h = (refl, h)

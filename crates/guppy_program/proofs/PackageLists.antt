@@ -1,8 +1,7 @@
--- The list of all packages, and texts that are joined.
+-- The list of all packages.
 use Rattle.std.proofs.Common.{◌≡◌, ◌∙◌, sym, ap, ℕ, ◌<◌, true, List, [], ◌∷◌, length, replicate, refl, arith, All}
 use Rattle.std.specs.Prelude.{◌++◌, map}
-use Rattle.std.specs.List.{concat, filter, flat_map, join_by}
-use denote.Ref.{Bor}
+use Rattle.std.specs.List.{concat, filter}
 use Rattle.std.proofs.lemmas.List.{get_or-replicate, map_push}
 use Rattle.std.proofs.lemmas.List.Elements.{All-tail}
 use Rattle.std.proofs.lemmas.Option.{slice_get-get_or}
@@ -25,15 +24,6 @@ pub all_listed : (g : GraphData) (s : SetData) → s.graph ≡ g → s.included 
     → ids_at s.graph.packages (positions_listed Forward s) ≡ ids_at g.packages (concat g.components)
 all_listed g s same all listing = rw (same, all) (ap (ids_at g.packages) (kept_by_all (length g.packages) (concat g.components)
     (λ k d within. listing.below k _ (slice_get-get_or (concat g.components) k d within))))
-
-behind : (sep : List ℕ) (texts : List (Bor (List ℕ))) → flat_map (λ t. sep ++ t.now) texts ≡ flat_map (λ t. sep ++ t) (map (λ t. t.now) texts)
-behind sep [] = refl
-behind sep (t ∷ texts) = ap (λ rest. (sep ++ t.now) ++ rest) (behind sep texts)
-
--- texts are joined by what they read
-pub joined_texts : (sep : List ℕ) (texts : List (Bor (List ℕ))) → join_by (λ t. t.now) sep texts ≡ join_by (λ t. t) sep (map (λ t. t.now) texts)
-joined_texts sep [] = refl
-joined_texts sep (t ∷ texts) = ap (λ rest. t.now ++ rest) (behind sep texts)
 
 -- one more item, which is seen as another one is
 pub seen_push : {X Y Z : Type 0} (f : X → Z) (h : Y → Z) (xs new : List X) (ys : List Y) (x : X) (y : Y) → new ≡ xs ++ x ∷ [] → map f xs ≡ map h ys → f x ≡ h y → map f new ≡ map h (ys ++ y ∷ [])

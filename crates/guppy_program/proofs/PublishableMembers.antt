@@ -5,6 +5,7 @@ use Rattle.guppy_data.specs.PackagePublish.{Publish, Everywhere, OnlyTo, recorde
 use Rattle.guppy_data.specs.declared.records.PackageRecord.{PackageRecord}
 use Rattle.guppy.specs.Ids.{HasId, DistinctBelow}
 use Rattle.guppy_program.specs.Publish.{is_somewhere, is_publishable}
+use Rattle.guppy_print.proofs.FlaggedPackages.{one_place}
 use Rattle.guppy_program.proofs.Membership.{passing-known, known-passing, same_truth}
 
 pub somewhere : (p : Publish) → (p ≡ OnlyTo [] → ⊥) → is_somewhere p ≡ true
@@ -14,15 +15,6 @@ somewhere (OnlyTo (name ∷ names)) listed = refl
 
 pub not_nowhere : (p : Publish) → is_somewhere p ≡ true → p ≡ OnlyTo [] → ⊥
 not_nowhere p is nowhere = let no : false ≡ true = subst (λ q. is_somewhere q ≡ true) nowhere is in absurd (cc no)
-
-within : (packages : List PackageRecord) (id : List ℕ) (p : ℕ) → HasId packages id p → p < length packages
-within [] id p has = absurd has
-within (r ∷ rs) id zero has = omega arith
-within (r ∷ rs) id (suc p) has = omega (arith, within rs id p has)
-
--- packages with distinct IDs that have the same one are one
-pub one_place : (packages : List PackageRecord) → DistinctBelow packages (length packages) → (id : List ℕ) (p q : ℕ) → HasId packages id p → HasId packages id q → p ≡ q
-one_place packages distinct id p q has has' = distinct p q id (within packages id p has) (within packages id q has') has has'
 
 passing : (o : Option PackageRecord) (seen : Publish) → IsSomeAnd o (λ r. seen ≡ recorded_publish r.publish) → is_somewhere seen ≡ true → IsSomeAnd o (λ r. is_somewhere (recorded_publish r.publish) ≡ true)
 passing None seen of is = absurd of

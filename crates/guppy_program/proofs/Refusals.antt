@@ -9,7 +9,7 @@ use Rattle.guppy_data.specs.declared.texts.error.Error.TheVariants.{PackageGraph
 use Rattle.guppy_command.specs.Cause.{Cause, library, bad_arguments, ambiguous, no_walk, unpublishable, build, bad_before, bad_input, input_failed, output_failed}
 use Rattle.guppy_command.specs.Command.{Command}
 use Rattle.guppy_program.specs.Meant.{Means}
-use Rattle.guppy_program.specs.Format.{Format, IsUnclear}
+use Rattle.guppy_print.specs.Format.{Format, IsUnclear}
 use Rattle.guppy.specs.Graph.{GraphData}
 use Rattle.guppy.specs.Refused.{IsFirstNot}
 use Rattle.guppy.specs.Verified.{TellsVerifyFault, IsVerifyFault as IsGraphFault}

@@ -12,7 +12,7 @@ use Rattle.guppy_command.specs.Command.{BuildRequest, Command}
 use Rattle.guppy_data.specs.declared.texts.error.Error.TheVariants.{PackageGraphConstructError, UnknownPackageId, UnknownFeatureId, UnknownWorkspacePath, UnknownWorkspaceName, PackageGraphInternalError, FeatureGraphInternalError, OutOfMemory}
 use Rattle.guppy_program.specs.Answer.{IsFaultOn}
 use Rattle.guppy_program.specs.Builds.{Places, IsBuildFault, IsChosen, IsFeatureFault, IsRequestCause, IsRequestFault}
-use Rattle.guppy_program.specs.Format.{Format}
+use Rattle.guppy_print.specs.Format.{Format}
 
 -- what holds of a value that is there holds of it
 found : {A : Type 0} (o : Option A) (P : A → Type 0) → IsSomeAnd o P → (x : A) × (o ≡ Some x) × P x

@@ -8,10 +8,10 @@ use Rattle.guppy.specs.Graph.{GraphData}
 use Rattle.guppy.specs.Ids.{DistinctBelow}
 use Rattle.guppy_command.specs.Asked.{Asked}
 use Rattle.guppy_command.specs.Cause.{Cause, library, bad_arguments, ambiguous, no_walk, unpublishable, build, bad_before, bad_input, input_failed, output_failed, OrMemory}
-use Rattle.guppy_program.specs.Format.{Format}
+use Rattle.guppy_print.specs.Format.{Format}
 use Rattle.guppy_program.specs.Loaded.{IsBadBefore, IsLoaded}
 use Rattle.guppy_program.specs.Answer.{IsFaultOn}
-use Rattle.guppy_program.specs.Printed.{called}
+use Rattle.guppy_print.specs.Printed.{called}
 use Rattle.guppy_program.specs.Builds.{places_of}
 use Rattle.guppy_program.specs.Run.{IsAnswerTo, IsBegun, IsFaultOf, IsSourceFault, OfWholeInput}
 

@@ -38,30 +38,12 @@ use Rattle.guppy_built.specs.Features.{AreFeatures, FeatureData}
 use Rattle.guppy_built.specs.Names.{StepData}
 use Rattle.guppy_built.specs.Rows.{AreBuilt, Row}
 use Rattle.guppy_built.specs.Why.{IsWhy}
+use Rattle.guppy_print.specs.Answer.{Answer, package_set, package_list, package_links, package_rows, package_needs, package_steps, built_rows, reasons, feature_rows, truth, all_well, drawing}
 use Rattle.guppy_program.specs.Builds.{Places, IsChosen, IsBuildFault}
-use Rattle.guppy_program.specs.Format.{Format, alternatives}
+use Rattle.guppy_print.specs.Format.{Format, alternatives}
 use Rattle.guppy_program.specs.Meant.{Means}
 use Rattle.guppy_program.specs.Publish.{is_publishable, IsFree, IsHindranceTold}
 use Rattle.guppy_program.specs.Steps.{AreSteps, section_kinds}
-
--- an answer, each package in it by its ID: a set of packages, packages in an order, links, each from one package to
--- another with the kinds of its sections, rows of packages, as cycles, rows of a package and those that need it, the
--- packages of a walk, each
--- with the kinds of the link that leads to it, what Cargo builds, why a feature is on, the features that are on, whether
--- something holds, that all is well, or packages and links as they are drawn
-pub data Answer : Type 0 where
-  package_set : List (List ℕ) → Answer
-  package_list : List (List ℕ) → Answer
-  package_links : List (List ℕ × List ℕ × Kinds) → Answer
-  package_rows : List (List (List ℕ)) → Answer
-  package_needs : List (List (List ℕ)) → Answer
-  package_steps : List (List ℕ × Kinds) → Answer
-  built_rows : List Row → Answer
-  reasons : List StepData → Answer
-  feature_rows : List FeatureData → Answer
-  truth : Bool → Answer
-  all_well : Answer
-  drawing : Drawing → Answer
 
 -- the ID is that of a package to which links lead in the direction from those named, or of one of
 -- these

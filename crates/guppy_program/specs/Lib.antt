@@ -1,13 +1,8 @@
-pub mod Shown
-pub mod Format
 pub mod Loaded
 pub mod Steps
 pub mod Publish
 pub mod Meant
 pub mod Builds
 pub mod Answer
-pub mod Flags
-pub mod Objects
-pub mod Printed
 pub mod Since
 pub mod Run

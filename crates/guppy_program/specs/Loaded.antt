@@ -15,7 +15,7 @@ use Rattle.guppy_data.specs.Platform.{Question, OnAny}
 use Rattle.guppy_target.specs.Platform.{PlatformData}
 use Rattle.guppy_platforms.specs.Kept.{AreKept, are_named}
 use Rattle.guppy_publish.specs.Needs.{Pair, AreNeeds}
-use Rattle.guppy_program.specs.Format.{Format}
+use Rattle.guppy_print.specs.Format.{Format}
 
 -- the pairs are those of members of which the one declares the other, as the input says
 abbrev pub AreDeclared : {Fault : Type 0} → Format Fault → List ℕ → List Pair → Type 0

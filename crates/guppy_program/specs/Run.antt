@@ -4,11 +4,12 @@ use Rattle.std.specs.Io.KnownBytes.{IsAtEnd, Appends}
 use Rattle.guppy.specs.Graph.{GraphData}
 use Rattle.guppy_command.specs.Asked.{Asked}
 use Rattle.guppy_command.specs.Cause.{Cause, library, bad_arguments, ambiguous, no_walk, unpublishable, build, bad_input, input_failed, output_failed, OrMemory, caused, is_input_fault, is_output_fault, bad_before}
-use Rattle.guppy_program.specs.Format.{Format}
+use Rattle.guppy_print.specs.Format.{Format}
 use Rattle.guppy_program.specs.Loaded.{IsLoaded, AreRefused, reads_details, IsBadBefore, IsLoadedBefore}
-use Rattle.guppy_program.specs.Answer.{Answer, IsFaultOn, shown}
+use Rattle.guppy_print.specs.Answer.{Answer}
+use Rattle.guppy_program.specs.Answer.{IsFaultOn, shown}
 use Rattle.guppy_program.specs.Builds.{places_of}
-use Rattle.guppy_program.specs.Printed.{IsPrinted, called}
+use Rattle.guppy_print.specs.Printed.{IsPrinted, called}
 use Rattle.guppy_program.specs.Since.{IsAnswerSince}
 
 -- the output is an answer to what is asked, of this graph, and of that of the state before, where there is one: of the

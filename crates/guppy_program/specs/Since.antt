@@ -9,7 +9,8 @@ use Rattle.guppy_affected.specs.Folders.{Given}
 use Rattle.guppy_changes.specs.Changes.{AreChanged, Setting}
 use Rattle.guppy_command.specs.Asked.{Asked}
 use Rattle.guppy_command.specs.Command.{Command, affected}
-use Rattle.guppy_program.specs.Answer.{Answer, AreGiven, IsAnswerOn, package_list}
+use Rattle.guppy_print.specs.Answer.{Answer, package_list}
+use Rattle.guppy_program.specs.Answer.{AreGiven, IsAnswerOn}
 use Rattle.guppy_program.specs.Builds.{places_of}
 
 -- both states are built so: with these features, for the platforms that are asked about, and by the resolver

@@ -10,78 +10,28 @@ ghost use Rattle.guppy_affected.specs.Folders.{given_in};
 ghost use Rattle.guppy_command.specs.Cause.{Cause, library};
 ghost use Rattle.guppy_program.specs.Answer.{IsReached, AreReached, IsReachAnswer, TellsDependence, IsDependsAnswer, IsOrderAnswer, IsRootsAnswer, IsLinksAnswer, IsCyclesAnswer, IsDuplicatesAnswer, IsVerifyAnswer, IsDotAnswer, IsAffectedAnswer, AreGiven, TellsAffected, IsFaultOn, IsWordFault, IsVerifyTold, IsLinkTold};
 ghost use Rattle.guppy_program.specs.Meant.{Means};
-ghost use Rattle.guppy_program.specs.Printed.{called};
+ghost use Rattle.guppy_print.specs.Printed.{called};
 ghost use Rattle.guppy_program.specs.Builds.{places_of};
 ghost use Rattle.guppy_program.specs.Since.{AreChangedSince, HaveChanged, IsAnswerSince, IsSetting, IsSinceAnswer, TellsAffectedSince};
 ghost use Rattle.guppy_changes.specs.Changes.{setting_of};
 ghost use Rattle.guppy_command.specs.Shown.{asked_shown, command_shown, texts};
-ghost use Rattle.guppy_program.specs.Shown.{answer_shown, link_shown};
+ghost use Rattle.guppy_print.specs.Shown.{answer_shown, link_shown};
 
 use crate::builds::{built, features, why_on};
-use crate::format::Format;
 use crate::publish::published;
 use crate::verify::verified;
 use crate::why::{section_kinds, why};
 use guppy::graph::DependencyDirection;
 use guppy::{CycleIds, Error, PackageGraph, PackageId, PackageLink, PackageSet};
 use guppy_affected::{affected, affected_after};
-use guppy_built::{BuiltPackage, FeatureOn, NamedReason};
 use guppy_changes::{BuildSetting, changed_packages};
 use guppy_command::fault::{passed_on, want_of_memory};
 use guppy_command::{Asked, Command, Kinds, Options, ProgramFault};
-use guppy_dot::{Drawing, drawing_of};
+use guppy_dot::drawing_of;
 use guppy_extras::duplicates;
 use guppy_features::StandardFeatures;
+use guppy_print::{Answer, Format, LinkEnds};
 use std::alloc::{AllocError, Global};
-
-/// A package to which a walk of links leads.
-#[derive(Clone, Copy, Debug)]
-pub struct Step<'g> {
-    /// The package.
-    pub id: &'g PackageId,
-    /// The kinds of the sections of the link that leads to it: none at the first package.
-    pub kinds: Kinds,
-}
-
-/// A link.
-#[derive(Clone, Copy, Debug)]
-pub struct LinkEnds<'g> {
-    /// The package that it goes from.
-    pub from: &'g PackageId,
-    /// The package that it goes to.
-    pub to: &'g PackageId,
-    /// The kinds of its sections.
-    pub kinds: Kinds,
-}
-
-/// What a command answers. The graph has the IDs.
-#[derive(Debug, Drop)]
-pub enum Answer<'g> {
-    /// A set of packages.
-    Set(Vec<&'g PackageId>),
-    /// Packages in an order.
-    List(Vec<&'g PackageId>),
-    /// Links.
-    Links(Vec<LinkEnds<'g>>),
-    /// Packages that belong together, as those of a cycle.
-    Rows(Vec<Vec<&'g PackageId>>),
-    /// Packages, each with those that need it.
-    Needs(Vec<Vec<&'g PackageId>>),
-    /// The packages of a walk.
-    Steps(Vec<Step<'g>>),
-    /// What Cargo builds.
-    Built(Vec<BuiltPackage<'g>>),
-    /// Why a feature is on.
-    Reasons(Vec<NamedReason<'g>>),
-    /// The features that are on.
-    Features(Vec<FeatureOn<'g>>),
-    /// Whether something holds.
-    Truth(bool),
-    /// All is well.
-    AllWell,
-    /// Packages and links as they are drawn.
-    Drawing(Drawing<'g>),
-}
 
 /// The IDs of the packages that the words mean, where each means one.
 pub(crate) fn all_meant<F: Format>(

@@ -12,18 +12,17 @@ ghost use Rattle.guppy_data.specs.declared.texts.error.Error.TheVariants.{OutOfM
 ghost use Rattle.guppy_program.specs.Answer.{IsBuiltAnswer, IsFaultOn, IsFeaturesAnswer, IsWhyFeatureAnswer};
 ghost use Rattle.guppy_program.specs.Builds.{IsChosen, IsRequestCause, Places, places_of};
 ghost use Rattle.guppy_program.specs.Meant.{Means};
-ghost use Rattle.guppy_program.specs.Printed.{called};
-ghost use Rattle.guppy_program.specs.Shown.{answer_shown};
+ghost use Rattle.guppy_print.specs.Printed.{called};
+ghost use Rattle.guppy_print.specs.Shown.{answer_shown};
 
-use crate::answer::{Answer, all_meant};
-use crate::format::Format;
-use crate::print::text_of;
+use crate::answer::all_meant;
 use guppy::{PackageGraph, PackageId};
 use guppy_built::{BuildQuestion, BuiltFault, built_packages, features_of, why_feature};
 use guppy_command::fault::{
     feature_off, lacks_feature, no_member, unknown_feature, unresolved, want_of_memory,
 };
 use guppy_command::{Asked, BuildRequest, Options};
+use guppy_print::{Answer, Format, text_of};
 use std::alloc::Global;
 
 // What is asked of Cargo, of these members on the platforms that are asked about.

@@ -5,13 +5,13 @@ ghost use Rattle.guppy_program.specs.Answer.{AreMembers, is_member, is_of, of_me
 ghost use Rattle.guppy_built.specs.Names.{step_shown as reason_shown};
 ghost use Rattle.guppy_built.specs.Rows.{row_of};
 ghost use Rattle.guppy_dot.specs.Dot.{edge_shown, node_shown};
-ghost use Rattle.guppy_program.specs.Shown.{answer_shown, link_shown, step_shown};
+ghost use Rattle.guppy_print.specs.Shown.{answer_shown, link_shown, step_shown};
 
-use crate::answer::{Answer, LinkEnds, Step};
 use guppy::{Error, PackageGraph, PackageId, PackageSet};
 use guppy_built::{BuiltPackage, NamedReason};
 use guppy_command::Options;
 use guppy_dot::{Edge, Node};
+use guppy_print::{Answer, LinkEnds, Step};
 
 // Whether the package with the ID is one of the members.
 fn is_member(members: &PackageSet<'_>, id: &PackageId) -> bool

@@ -3,10 +3,10 @@ ghost use Rattle.std.specs.Prelude.{◌≡◌, Result, Err, map, string_bytes, I
 ghost use Rattle.guppy_command.specs.Process.{EndsIn};
 ghost use Rattle.guppy_program.specs.Run.{IsRun};
 
-use crate::format::Format;
 use crate::program::run_of;
 use guppy_command::process::report;
 use guppy_command::{Ending, Files, Sink, Source};
+use guppy_print::Format;
 use std::alloc::Global;
 
 // The outcome of a run, where there are arguments.

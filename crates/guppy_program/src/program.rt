@@ -6,16 +6,14 @@ ghost use Rattle.guppy_data.specs.declared.texts.error.Error.TheVariants.{OutOfM
 ghost use Rattle.guppy_command.specs.Cause.{Cause, library, bad_arguments, bad_before, output_failed, caused, is_input_fault, is_output_fault};
 ghost use Rattle.guppy_program.specs.Loaded.{AreAskedOf, IsBadBefore, IsLoaded, IsLoadedBefore, IsLoadFault, asks_for_builds, counted_on, reads_details};
 ghost use Rattle.guppy_program.specs.Answer.{IsFaultOn};
-ghost use Rattle.guppy_program.specs.Printed.{IsPrinted, called};
+ghost use Rattle.guppy_print.specs.Printed.{IsPrinted, called};
 ghost use Rattle.guppy_command.specs.Shown.{asked_shown, command_shown};
 ghost use Rattle.guppy_platforms.specs.Kept.{AreKept};
 ghost use Rattle.guppy_program.specs.Run.{IsAnswerTo, IsAnswerOf, IsAnswerFault, IsFaultOf, IsSourceFault, IsAnswered, IsBegun, IsRun, IsRunFault, OfWholeInput, WritesNothing};
 ghost use Rattle.guppy_program.specs.Builds.{places_of};
 
 use crate::answer::answer_of;
-use crate::format::Format;
 use crate::members::shown;
-use crate::print::printed;
 use guppy::{IntoGraph, PackageGraph};
 use guppy_command::fault::{passed_on, want_of_memory};
 use guppy_command::options::keep_links;
@@ -23,6 +21,7 @@ use guppy_command::transfer::{read_all, write_text};
 use guppy_command::{Asked, Command, Fault, Files, ProgramFault, Sink, Source};
 use guppy_data::{LinkRecord, PackageRecord, PlatformSpec};
 use guppy_platforms::{are_named, keep_counting};
+use guppy_print::{Format, printed};
 use guppy_publish::add_declared;
 use std::alloc::Global;
 use std::mem;

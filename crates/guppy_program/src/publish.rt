@@ -6,17 +6,15 @@ ghost use Rattle.guppy.specs.Ids.{DistinctBelow};
 ghost use Rattle.guppy.specs.Views.{OfPackage, graph_of, link_graph, link_number, package_position};
 ghost use Rattle.guppy_command.specs.Command.{publish_order};
 ghost use Rattle.guppy_program.specs.Answer.{IsPublishAnswer, IsCommandFault};
-ghost use Rattle.guppy_program.specs.Printed.{called};
+ghost use Rattle.guppy_print.specs.Printed.{called};
 ghost use Rattle.guppy_program.specs.Publish.{is_publishable, is_held_back, is_hindrance_at, hindrance_of, IsFree, IsHindered, IsFirstHindered, IsHindranceCause};
-ghost use Rattle.guppy_program.specs.Shown.{answer_shown};
+ghost use Rattle.guppy_print.specs.Shown.{answer_shown};
 
-use crate::answer::Answer;
-use crate::format::Format;
-use crate::print::text_of;
 use crate::verify::verified;
 use guppy::{PackageGraph, PackageId, PackageLink, PackageMetadata};
 use guppy_command::Options;
 use guppy_command::fault::unpublishable;
+use guppy_print::{Answer, Format, text_of};
 use guppy_publish::publish_order;
 use std::alloc::Global;
 

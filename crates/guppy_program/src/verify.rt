@@ -5,14 +5,13 @@ ghost use Rattle.guppy_data.specs.declared.records.PackageRecord.{PackageRecord}
 ghost use Rattle.guppy_data.specs.declared.texts.fault.VerifyFault.TheVariants.{Cycle};
 ghost use Rattle.guppy.specs.Verified.{TellsVerifyFault, IsVerifyFault as IsGraphFault};
 ghost use Rattle.guppy_program.specs.Answer.{IsToldAs, IsVerifyTold};
-ghost use Rattle.guppy_program.specs.Printed.{called};
+ghost use Rattle.guppy_print.specs.Printed.{called};
 
-use crate::format::Format;
-use crate::print::text_of;
 use guppy::{Error, PackageGraph, PackageId};
 use guppy_command::fault::want_of_memory;
 use guppy_command::{Fault, Options, ProgramFault};
 use guppy_data::VerifyFault;
+use guppy_print::{Format, text_of};
 use std::alloc::{AllocError, Global};
 
 // What the packages with these IDs are called, with an arrow behind each, and the first one again.

@@ -8,16 +8,15 @@ ghost use Rattle.guppy.specs.Views.{OfLink, link_graph, link_number};
 ghost use Rattle.guppy_extras.specs.Walk.{NoWalk, Between};
 ghost use Rattle.guppy_program.specs.Answer.{IsWhyAnswer, IsCommandFault};
 ghost use Rattle.guppy_command.specs.Command.{why};
-ghost use Rattle.guppy_program.specs.Shown.{answer_shown, step_shown};
+ghost use Rattle.guppy_print.specs.Shown.{answer_shown, step_shown};
 ghost use Rattle.guppy_program.specs.Steps.{section_kinds, LeadsTo, AreStepsAlong, AreSteps};
 
-use crate::answer::{Answer, Step};
-use crate::format::Format;
 use guppy::{Error, PackageGraph, PackageId, PackageLink};
 use guppy_command::Kinds;
 use guppy_command::fault::{no_walk, passed_on};
 use guppy_data::DependencyReq;
 use guppy_extras::shortest_walk;
+use guppy_print::{Answer, Format, Step};
 use std::alloc::{AllocError, Global};
 
 fn is_present(section: DependencyReq<'_>) -> bool

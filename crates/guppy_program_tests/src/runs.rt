@@ -307,7 +307,7 @@ const ESCAPED: &[u8] =
     b"package q\"\\\npackage \x01\tz\npackage \xc3\xa9\nlink q\"\\ \x01\tz build\n";
 
 // Case, command line, input, and the JSON that is printed.
-const OBJECTS: [(&str, &str, &[u8], &str); 9] = [
+const OBJECTS: [(&str, &str, &[u8], &str); 16] = [
     ("json_of_none", "--format json order", b"", "[]\n"),
     (
         "json_of_none",
@@ -363,6 +363,46 @@ const OBJECTS: [(&str, &str, &[u8], &str); 9] = [
         "[]\n",
     ),
     ("lines", "--format lines links forward", CHAIN, "a b\nb c\n"),
+    (
+        "json_of_why",
+        "--format json why a c",
+        CHAIN,
+        "[{\"package\":{\"name\":\"a\",\"version\":\"0.0.0\",\"id\":\"a\",\"manifest_path\":\"Cargo.toml\"},\
+        \"sections\":[]},\
+        {\"package\":{\"name\":\"b\",\"version\":\"0.0.0\",\"id\":\"b\",\"manifest_path\":\"Cargo.toml\"},\
+        \"sections\":[\"normal\"]},\
+        {\"package\":{\"name\":\"c\",\"version\":\"0.0.0\",\"id\":\"c\",\"manifest_path\":\"Cargo.toml\"},\
+        \"sections\":[\"normal\"]}]\n",
+    ),
+    (
+        "json_of_cycles",
+        "--null --format json cycles",
+        BACKS,
+        "[[{\"name\":\"A\",\"version\":\"0.0.0\",\"id\":\"A\",\"manifest_path\":\"Cargo.toml\"},\
+        {\"name\":\"B\",\"version\":\"0.0.0\",\"id\":\"B\",\"manifest_path\":\"Cargo.toml\"}],\
+        [{\"name\":\"C\",\"version\":\"0.0.0\",\"id\":\"C\",\"manifest_path\":\"Cargo.toml\"},\
+        {\"name\":\"D\",\"version\":\"0.0.0\",\"id\":\"D\",\"manifest_path\":\"Cargo.toml\"}]]\0",
+    ),
+    ("json_of_no_cycles", "--format json cycles", CHAIN, "[]\n"),
+    (
+        "json_of_no_duplicates",
+        "--format json duplicates",
+        FIRST,
+        "[]\n",
+    ),
+    (
+        "json_of_no_builds",
+        "--format json -p b built",
+        CHAIN,
+        "[]\n",
+    ),
+    (
+        "json_of_no_features",
+        "--format json features a",
+        CHAIN,
+        "[]\n",
+    ),
+    ("lines", "--format lines cycles", BACKS, "A B\nC D\n"),
 ];
 
 // Runs each case on devices that work, and move pieces of so many bytes. Its text is what is printed where the
@@ -515,7 +555,7 @@ const REFUSED: [(&str, &str, &[u8], &str); 12] = [
 ];
 
 // Case, command line, input, and the text of the fault of the arguments or a line.
-const MISREAD: [(&str, &str, &[u8], &str); 70] = [
+const MISREAD: [(&str, &str, &[u8], &str); 75] = [
     ("program_faults", "depends a b", TWO_SPACES, "bad line 2"),
     ("program_faults", "depends a", TWO_SPACES, "bad arguments"),
     (
@@ -628,8 +668,28 @@ const MISREAD: [(&str, &str, &[u8], &str); 70] = [
         "bad arguments",
     ),
     ("format", "--format flags why a b", FIRST, "bad arguments"),
-    ("format", "--format json why a b", FIRST, "bad arguments"),
-    ("format", "--format json cycles", FIRST, "bad arguments"),
+    ("format", "--format flags cycles", FIRST, "bad arguments"),
+    (
+        "format",
+        "--format flags duplicates",
+        FIRST,
+        "bad arguments",
+    ),
+    ("format", "--format flags built", FIRST, "bad arguments"),
+    (
+        "format",
+        "--format flags features a",
+        FIRST,
+        "bad arguments",
+    ),
+    (
+        "format",
+        "--format json depends a b",
+        FIRST,
+        "bad arguments",
+    ),
+    ("format", "--format json dot", FIRST, "bad arguments"),
+    ("format", "--format json verify", FIRST, "bad arguments"),
     ("format", "--format JSON order", FIRST, "bad arguments"),
     ("format", "--format lines verify", FIRST, "bad arguments"),
     ("wrong_bytes", "order", b"\n\r\nlink a\n", "bad line 3"),

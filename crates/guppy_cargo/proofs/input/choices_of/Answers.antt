@@ -1,8 +1,8 @@
 use Rattle.std.proofs.Common.{arith, ◌≡◌, ◌∙◌, ap, subst, ℕ, List, Bor, map, string_bytes}
 use Rattle.std.proofs.lemmas.List.{take_all}
 use Rattle.std.specs.Prelude.{IfOk, codes}
-use Rattle.guppy_program.specs.Format.{alternatives}
-use Rattle.guppy_program.proofs.PackageLists.{joined_texts}
+use Rattle.guppy_print.specs.Format.{alternatives}
+use Rattle.guppy_print.proofs.PrintedTexts.{joined_texts}
 use Rattle.guppy_arguments.specs.Names.{text}
 use Rattle.guppy_cargo.proofs.input.choices_of.Goals as goal
 

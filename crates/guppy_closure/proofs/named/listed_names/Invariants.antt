@@ -1,10 +1,9 @@
-use Rattle.std.proofs.Common.{◌≡◌, ◌*◌, ◌≤◌, length, take, flat_map, vec_len, vec_capacity}
-use Rattle.guppy_closure.specs.Named.{facts_of}
+use Rattle.std.proofs.Common.{◌*◌, ◌≤◌, take, vec_len}
+use Rattle.guppy_closure.specs.Named.{HasNames}
 use Rattle.guppy_closure.proofs.named.listed_names.Given as goal
 
 abbrev pub invariant-clauses : goal.invariant-clauses
 invariant-clauses g l = record {
-  names : l.names.items ≡ flat_map facts_of (take l.clause-index l.clauses);
+  names : HasNames (take l.clause-index l.clauses) l.names.items;
   used : vec_len l.names ≤ 3 * l.clause-index;
-  room : 3 * length l.clauses ≤ vec_capacity l.names;
 }

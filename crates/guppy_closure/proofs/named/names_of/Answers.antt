@@ -1,5 +1,4 @@
-use Rattle.std.proofs.Common.{◌∙◌, sym, subst}
-use Rattle.std.specs.Prelude.{Contains}
+use Rattle.std.proofs.Common.{◌∙◌, sym}
 use Rattle.std.proofs.lemmas.List.Filters.{dedup_is}
 use Rattle.std.proofs.lemmas.List.Sorted.{Contains-permutation}
 use Rattle.std.proofs.lemmas.List.Kept.{Contains-dedup, IsStrictlySortedBy-dedup}
@@ -13,5 +12,5 @@ returns-clause-order g c =
 pub returns-clause-named : goal.returns-clause-named
 returns-clause-named g c = λ f h.
     let is = dedup_is _ _ _ c.dedup.ensures.filtered in
-    let listed = subst (λ fs. Contains fs f) (sym c.in_ok-names.ensures.names) h in
+    let listed = c.in_ok-names.ensures.named f h in
     rw is (Contains-dedup g.met.F.Eq.laws (λ x y e. tells_apart c.requires.exact x y (sym (g.met.F.Ord.matches_eq x y) ∙ e)) _ f (Contains-permutation _ _ f c.sort_unstable.ensures.permutation listed))

@@ -2,7 +2,7 @@ use Rattle.std.proofs.Common.{refl, ap, map, codes}
 use Rattle.std.specs.Option.{option_copied}
 use Rattle.std.proofs.lemmas.Bool.{false≢true}
 use Rattle.json.specs.Value.{value_view}
-use Rattle.guppy_metadata.specs.declared.declared.TheConstants.{ASKED}
+use Rattle.guppy_metadata.specs.declared.declared.TheConstants.{PLAIN}
 use Rattle.guppy_metadata.proofs.AskedValues.{value_at, text_told, optional_text_told, truth_told}
 use Rattle.guppy_metadata.proofs.SectionNames.{section_told}
 use Rattle.guppy_metadata.proofs.Turns.{of_ok}
@@ -10,7 +10,7 @@ use Rattle.guppy_metadata.proofs.declared.plain_of.Goals as goal
 
 pub returns : goal.returns
 returns c = λ d are.
-    let names = map (λ n. n.now) ASKED in
+    let names = map (λ n. n.now) PLAIN in
     let values = c.args.values.now in
     let name = value_at d names values 0 (codes "name") c.index-values-0.result are refl c.index-values-0.is in
     let req = value_at d names values 2 (codes "req") c.index-values-2.result are refl c.index-values-2.is in

@@ -1,7 +1,7 @@
 use Rattle.std.proofs.lemmas.Result.{IfErr-weaker}
 use Rattle.guppy_command.specs.Shown.{asked_shown, command_shown}
 use Rattle.guppy_program.specs.Answer.{IsCommandFault}
-use Rattle.guppy_program.specs.Printed.{called}
+use Rattle.guppy_print.specs.Printed.{called}
 use Rattle.guppy_program.specs.Builds.{places_of}
 use Rattle.guppy_program.proofs.Refusals.{no_build}
 use Rattle.guppy_program.proofs.answer.answer_of.Goals as goal

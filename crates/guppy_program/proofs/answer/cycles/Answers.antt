@@ -4,7 +4,7 @@ use Rattle.std.specs.Prelude.{Vec}
 use Rattle.guppy.specs.Cycles.{AreCyclic, AreOnOne}
 use Rattle.guppy.specs.Graph.{GraphData, IsInOrder}
 use Rattle.guppy.specs.ListedCycles.{cycle_left, cycles_left, cycles_of}
-use Rattle.guppy_program.specs.Answer.{package_rows}
+use Rattle.guppy_print.specs.Answer.{package_rows}
 use Rattle.guppy_dot.proofs.GivenIds.{all_given}
 use Rattle.guppy_program.proofs.PackageLists.{seen_push}
 use Rattle.guppy_program.proofs.answer.cycles.Goals as goal

@@ -6,7 +6,7 @@ use Rattle.guppy.specs.Query.{SetData}
 use Rattle.guppy.specs.Views.{LinkData, link_data}
 use Rattle.guppy.specs.Walked.{AreWalkedLinks, walked_left}
 use Rattle.guppy_program.specs.Answer.{IsLinkTold}
-use Rattle.guppy_program.specs.Shown.{link_shown}
+use Rattle.guppy_print.specs.Shown.{link_shown}
 use Rattle.guppy_dot.proofs.GivenIds.{all_given}
 use Rattle.guppy_program.proofs.WholeSet.{set_is_all}
 use Rattle.guppy_program.proofs.answer.links.Goals as goal

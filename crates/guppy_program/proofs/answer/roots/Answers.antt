@@ -3,7 +3,7 @@ use Rattle.std.proofs.lemmas.Iterator.{items_from_drains}
 use Rattle.std.proofs.lemmas.Iterator.Consumers.{YieldsList-from_first}
 use Rattle.guppy.specs.Query.{SetData}
 use Rattle.guppy.specs.Rooted.{AreRootIds, root_ids_left}
-use Rattle.guppy_program.specs.Answer.{package_list}
+use Rattle.guppy_print.specs.Answer.{package_list}
 use Rattle.guppy_program.proofs.WholeSet.{set_is_all}
 use Rattle.guppy_program.proofs.answer.roots.Goals as goal
 

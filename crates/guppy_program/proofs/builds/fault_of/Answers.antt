@@ -1,7 +1,7 @@
 use Rattle.std.proofs.Common.{⊎_elim, sym, subst}
 use Rattle.guppy_command.specs.Shown.{request_shown}
 use Rattle.guppy_program.specs.Builds.{IsRequestCause}
-use Rattle.guppy_program.specs.Printed.{called}
+use Rattle.guppy_print.specs.Printed.{called}
 use Rattle.guppy_program.proofs.RefusedBuilds.{other_told, refused_told}
 use Rattle.guppy_program.proofs.builds.fault_of.Goals as goal
 

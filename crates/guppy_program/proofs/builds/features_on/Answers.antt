@@ -8,7 +8,7 @@ use Rattle.guppy_built.specs.Features.{AreFeatures, feature_shown}
 use Rattle.guppy_command.specs.Command.{features}
 use Rattle.guppy_command.specs.Shown.{asked_shown, request_shown}
 use Rattle.guppy_program.specs.Builds.{places_of}
-use Rattle.guppy_program.specs.Printed.{called}
+use Rattle.guppy_print.specs.Printed.{called}
 use Rattle.guppy_program.proofs.RefusedBuilds.{request_told}
 use Rattle.guppy_program.proofs.builds.features_on.Goals as goal
 

@@ -10,7 +10,7 @@ use Rattle.guppy_command.specs.Command.{why_feature}
 use Rattle.guppy_command.specs.Shown.{asked_shown, request_shown}
 use Rattle.guppy_program.specs.Answer.{IsFaultOn}
 use Rattle.guppy_program.specs.Builds.{places_of}
-use Rattle.guppy_program.specs.Printed.{called}
+use Rattle.guppy_print.specs.Printed.{called}
 use Rattle.guppy_program.proofs.RefusedBuilds.{built_told, feature_told, request_told}
 use Rattle.guppy_program.proofs.builds.why_of.Goals as goal
 

@@ -8,7 +8,7 @@ use Rattle.guppy_command.specs.Shown.{asked_shown, request_shown, texts}
 use Rattle.guppy_program.specs.Answer.{IsWordFault}
 use Rattle.guppy_program.specs.Meant.{Means}
 use Rattle.guppy_program.specs.Builds.{places_of}
-use Rattle.guppy_program.specs.Printed.{called}
+use Rattle.guppy_print.specs.Printed.{called}
 use Rattle.guppy_program.proofs.Refusals.{all_clear, build_word, unclear_word, word_before}
 use Rattle.guppy_program.proofs.builds.why_on.Goals as goal
 

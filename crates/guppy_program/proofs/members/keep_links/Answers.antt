@@ -3,7 +3,7 @@ use Rattle.std.specs.Prelude.{◌&&◌}
 use Rattle.std.proofs.lemmas.Fn.{filter_same}
 use Rattle.guppy_command.specs.declared.options.Kinds.{Kinds}
 use Rattle.guppy_program.specs.Answer.{is_member}
-use Rattle.guppy_program.specs.Shown.{link_shown}
+use Rattle.guppy_print.specs.Shown.{link_shown}
 use Rattle.guppy_program.proofs.Membership.{filter-seen}
 use Rattle.guppy_program.proofs.members.keep_links.Goals as goal
 

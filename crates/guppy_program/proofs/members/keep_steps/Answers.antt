@@ -1,7 +1,7 @@
 use Rattle.std.proofs.Common.{◌∙◌, ap, rules, ℕ, List, map}
 use Rattle.std.proofs.lemmas.Fn.{filter_same}
 use Rattle.guppy_program.specs.Answer.{is_member}
-use Rattle.guppy_program.specs.Shown.{step_shown}
+use Rattle.guppy_print.specs.Shown.{step_shown}
 use Rattle.guppy_command.specs.declared.options.Kinds.{Kinds}
 use Rattle.guppy_program.proofs.Membership.{filter-seen}
 use Rattle.guppy_program.proofs.members.keep_steps.Goals as goal

@@ -1,6 +1,6 @@
 use Rattle.std.proofs.Common.{⊎_elim, sym, subst, Bor, map}
 use Rattle.guppy_data.specs.declared.texts.package_id.PackageId.{PackageId}
-use Rattle.guppy_program.specs.Printed.{called}
+use Rattle.guppy_print.specs.Printed.{called}
 use Rattle.guppy_program.specs.Publish.{IsHindranceCause}
 use Rattle.guppy_program.proofs.publish.none_hindered.Goals as goal
 

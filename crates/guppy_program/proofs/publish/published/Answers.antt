@@ -5,8 +5,8 @@ use Rattle.guppy.specs.FirmCycles.{HasNoFirmCycle}
 use Rattle.guppy.specs.Verified.{IsVerified}
 use Rattle.guppy_publish.specs.Publishing.{ArePublishIds}
 use Rattle.guppy_command.specs.Command.{publish_order}
-use Rattle.guppy_program.specs.Answer.{package_list}
-use Rattle.guppy_program.specs.Printed.{called}
+use Rattle.guppy_print.specs.Answer.{package_list}
+use Rattle.guppy_print.specs.Printed.{called}
 use Rattle.guppy_program.specs.Publish.{IsFree}
 use Rattle.guppy_program.proofs.Refusals.{told_of}
 use Rattle.guppy_program.proofs.publish.published.Goals as goal

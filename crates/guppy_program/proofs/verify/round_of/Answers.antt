@@ -2,8 +2,8 @@ use Rattle.std.proofs.Common.{◌≡◌, ◌∙◌, refl, ap, sym, ℕ, List, []
 use Rattle.std.specs.Prelude.{slice_get}
 use Rattle.std.proofs.lemmas.List.{take_all}
 use Rattle.guppy_data.specs.Texts.{first_text, round_text}
-use Rattle.guppy_program.specs.Printed.{called}
-use Rattle.guppy_program.proofs.GrowingLines.{arrowed, arrows_more}
+use Rattle.guppy_print.specs.Printed.{called}
+use Rattle.guppy_print.proofs.GrowingLines.{arrowed, arrows_more}
 use Rattle.guppy_program.proofs.verify.round_of.Goals as goal
 
 -- what the first of the packages is called

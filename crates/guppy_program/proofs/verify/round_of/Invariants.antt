@@ -1,7 +1,7 @@
 use Rattle.std.proofs.Common.{◌≡◌, List, map, take, string_bytes}
 use Rattle.guppy_data.specs.declared.records.PackageRecord.{PackageRecord}
-use Rattle.guppy_program.specs.Printed.{called}
-use Rattle.guppy_program.proofs.GrowingLines.{arrowed}
+use Rattle.guppy_print.specs.Printed.{called}
+use Rattle.guppy_print.proofs.GrowingLines.{arrowed}
 use Rattle.guppy_program.proofs.verify.round_of.Given as goal
 
 abbrev pub invariant-loop-id : goal.invariant-loop-id

@@ -1,5 +1,5 @@
 use Rattle.std.proofs.Common.{inl}
-use Rattle.guppy_program.specs.Printed.{called}
+use Rattle.guppy_print.specs.Printed.{called}
 use Rattle.guppy_program.proofs.Refusals.{tells_other}
 use Rattle.guppy_program.proofs.verify.told_as.Goals as goal
 

@@ -2,7 +2,7 @@ use Rattle.std.proofs.Common.{◌≡◌, ◌∙◌, ap, subst, [], ◌∷◌, �
 use Rattle.std.proofs.lemmas.List.{map_push}
 use Rattle.guppy.specs.Graph.{GraphData}
 use Rattle.guppy.specs.Views.{link_graph, link_number}
-use Rattle.guppy_program.specs.Shown.{step_shown}
+use Rattle.guppy_print.specs.Shown.{step_shown}
 use Rattle.guppy_program.specs.Steps.{LeadsTo}
 use Rattle.guppy_command.proofs.FirstItems.{fits_with}
 use Rattle.guppy_program.proofs.why.steps_along.Goals as goal

@@ -1,6 +1,6 @@
 use Rattle.std.proofs.Common.{map, take}
 use Rattle.guppy.specs.Views.{link_number}
-use Rattle.guppy_program.specs.Shown.{step_shown}
+use Rattle.guppy_print.specs.Shown.{step_shown}
 use Rattle.guppy_program.specs.Steps.{AreStepsAlong}
 use Rattle.guppy_program.proofs.why.steps_along.Given as goal
 

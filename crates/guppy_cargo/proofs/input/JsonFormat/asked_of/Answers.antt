@@ -1,6 +1,6 @@
 use Rattle.std.proofs.Common.{ℕ, List, map, string_bytes}
 use Rattle.std.proofs.lemmas.Result.{IfErr-weaker}
-use Rattle.guppy_program.specs.Format.{IsAskingFault}
+use Rattle.guppy_print.specs.Format.{IsAskingFault}
 use Rattle.guppy_arguments.specs.declared.fault.CargoFault.{CargoFault}
 use Rattle.guppy_arguments.specs.declared.fault.CargoFault.TheVariants.{Program, Ambiguous, Unknown, Cycle, Arguments, Metadata, NoText}
 use Rattle.guppy_arguments.specs.Fault.{cause_of}

@@ -4,7 +4,7 @@ use Rattle.guppy_metadata.specs.declared.fault.MetadataFault.TheVariants.{NotJso
 use Rattle.guppy_metadata.specs.Fault.{IsOutOfMemory}
 use Rattle.guppy_metadata.specs.Records.{IsMetadataFault}
 use Rattle.guppy_metadata.proofs.Refused.{of_error}
-use Rattle.guppy_program.specs.Format.{IsReadingFault}
+use Rattle.guppy_print.specs.Format.{IsReadingFault}
 use Rattle.guppy_arguments.specs.Fault.{cause_of, of_metadata}
 use Rattle.guppy_cargo.specs.Json.{json_format}
 use Rattle.guppy_cargo.proofs.input.JsonFormat.records_of.Goals as goal

@@ -130,16 +130,21 @@ loop-frame-smaller-then-far-frame g c =
     let at = goal.at.loop-frame-smaller-then-far-frame g c in
     let graph = c.args.graph.now.graph in
     let cost = degree {E = g.row.G-Edge.Denot} Forward graph.links in
+    let more_here = more g at.After-push-then-frame-leaving_at in
+    let left_over = c.pop.new.self.items in
+    let put_back = c.push-then-frame-leaving_at.new.self.items in
     elim c.if-insert_position-2.branch [
       | then-insert_position-2+in_ok-push-3 w ↦
-          let below = led_below g (goal.at.loop-frame-smaller-then-far-frame g c).After-push-then-frame-leaving_at in
+          let below = led_below g at.After-push-then-frame-leaving_at in
           let same = c.loop-frame.invariant.search.state.limit_is in
           let within : c.look_at-number.result.1 < length c.loop-frame.seen = rw same below in
           let lacks = not-true _ (sym c.insert_position-then-far-frame.ensures.is_new ∙ w.if-insert_position-2.true) in
-          rw (w.frames-is, c.insert_position-then-far-frame.ensures.after) (smaller_new (degree {E = g.row.G-Edge.Denot} Forward graph.links) c.loop-frame.seen c.loop-frame.frames.items c.pop.new.self.items c.push-then-frame-leaving_at.new.self.items c.in-Some.frame c.in-Some.ensures.items (more g (goal.at.loop-frame-smaller-then-far-frame g c).After-push-then-frame-leaving_at) c.in_ok-push-2.ensures.items c.look_at-number.result.1 w.push-then-insert_position-2.new.self.items lacks within w.in_ok-push-3.ensures.items)
+          rw (w.frames-is, c.insert_position-then-far-frame.ensures.after) (smaller_new cost c.loop-frame.seen c.loop-frame.frames.items left_over put_back
+          c.in-Some.frame c.in-Some.ensures.items more_here c.in_ok-push-2.ensures.items c.look_at-number.result.1 w.push-then-insert_position-2.new.self.items lacks within w.in_ok-push-3.ensures.items)
       | else-insert_position-2+else-not-has_position w ↦
           let same = inserted_old _ _ _ _ c.insert_position-then-far-frame.ensures.is_new c.insert_position-then-far-frame.ensures.after w.if-insert_position-2.false in
-          rw (w.frames-is, same) (smaller_step (degree {E = g.row.G-Edge.Denot} Forward graph.links) c.loop-frame.seen c.loop-frame.frames.items c.pop.new.self.items c.push-then-frame-leaving_at.new.self.items c.in-Some.frame c.in-Some.ensures.items (more g (goal.at.loop-frame-smaller-then-far-frame g c).After-push-then-frame-leaving_at) c.in_ok-push-2.ensures.items)
+          rw (w.frames-is, same) (smaller_step cost c.loop-frame.seen c.loop-frame.frames.items left_over put_back
+          c.in-Some.frame c.in-Some.ensures.items more_here c.in_ok-push-2.ensures.items)
     ]
 
 pub loop-frame-preserved-then-far-frame : goal.loop-frame-preserved-then-far-frame

@@ -99,13 +99,16 @@ insert_position-requires-then-is_kept g c =
 
 pub loop-frame-smaller-then-insert_position-2 : goal.loop-frame-smaller-then-insert_position-2
 loop-frame-smaller-then-insert_position-2 g c =
-    let graph = c.args.graph.now.graph in
-    let l = looked g (goal.at.loop-frame-smaller-then-insert_position-2 g c).After-push-then-frame-leaving_at c.is_kept.result c.is_kept.ensures in
-    let below = led_below g (goal.at.loop-frame-smaller-then-insert_position-2 g c).After-push-then-frame-leaving_at c.is_kept.result l in
+    let at = goal.at.loop-frame-smaller-then-insert_position-2 g c in
+    let more_here = more g at.After-push-then-frame-leaving_at in
+    let cost = degree {E = g.row.G-Edge.Denot} Forward c.args.graph.now.graph.links in
+    let l = looked g at.After-push-then-frame-leaving_at c.is_kept.result c.is_kept.ensures in
+    let below = led_below g at.After-push-then-frame-leaving_at c.is_kept.result l in
     let same = c.loop-frame.invariant.search.state.limit_is in
     let within : c.look_at-number.result.1 < length c.loop-frame.seen = rw same below in
     let lacks = not-true _ (sym c.insert_position-then-is_kept.ensures.is_new ∙ c.if-insert_position-2.true) in
-    rw c.insert_position-then-is_kept.ensures.after (smaller_new (degree {E = g.row.G-Edge.Denot} Forward graph.links) c.loop-frame.seen c.loop-frame.frames.items c.pop.new.self.items c.push-then-frame-leaving_at.new.self.items c.in-Some.frame c.in-Some.ensures.items (more g (goal.at.loop-frame-smaller-then-insert_position-2 g c).After-push-then-frame-leaving_at) c.in_ok-push-2.ensures.items c.look_at-number.result.1 c.push-then-insert_position-2.new.self.items lacks within c.in_ok-push-3.ensures.items)
+    rw c.insert_position-then-is_kept.ensures.after (smaller_new cost c.loop-frame.seen c.loop-frame.frames.items c.pop.new.self.items c.push-then-frame-leaving_at.new.self.items
+    c.in-Some.frame c.in-Some.ensures.items more_here c.in_ok-push-2.ensures.items c.look_at-number.result.1 c.push-then-insert_position-2.new.self.items lacks within c.in_ok-push-3.ensures.items)
 
 pub loop-frame-preserved-then-insert_position-2 : goal.loop-frame-preserved-then-insert_position-2
 loop-frame-preserved-then-insert_position-2 g c =

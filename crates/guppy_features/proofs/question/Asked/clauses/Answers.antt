@@ -5,5 +5,5 @@ use Rattle.guppy_features.proofs.question.Asked.clauses.Goals as goal
 
 pub returns : goal.returns
 returns c =
-    let roots = rw c.new-rules.ensures.items at c.in_ok-add_all_roots.ensures in
+    let roots = rw c.in_ok-rules.ensures.items at c.in_ok-add_all_roots.ensures in
     adds_to_nothing (adds_same (what_follows (question_of c.args.self)) (adds_then roots c.in_ok-add_packages.ensures))

@@ -1,9 +1,6 @@
-use Rattle.std.proofs.Common.{◌≡◌, ◌∙◌, ◌↔◌, rules, true, Some, IsTrue, ap, subst}
+use Rattle.std.proofs.Common.{◌≡◌, ◌∙◌, rules, Some}
 use Rattle.std.specs.Prelude.{slice_get}
 use Rattle.std.specs.String.{string_bytes}
-use Rattle.guppy_graph.specs.Graph.{GraphData}
-use Rattle.guppy_features.specs.Dependencies.{AreOf}
-use Rattle.guppy_features.specs.Questions.{Question}
 use Rattle.guppy_features.specs.Resolved.{is_resolved}
 use Rattle.guppy_features.specs.Unresolved.{IsSwitchedOn}
 use Rattle.guppy_features.proofs.Resolving.{has_resolved, unresolved_where}

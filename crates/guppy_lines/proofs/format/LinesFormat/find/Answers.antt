@@ -1,5 +1,5 @@
 use Rattle.std.proofs.Common.{◌∙◌, sym}
-use Rattle.guppy_program.proofs.KnownIds.{has_id-known}
+use Rattle.guppy_print.proofs.KnownIds.{has_id-known}
 use Rattle.guppy_lines.proofs.format.LinesFormat.find.Goals as goal
 
 pub returns-then-branch-clause-known : goal.returns-then-branch-clause-known

@@ -1,0 +1,5 @@
+pub mod KnownIds
+pub mod PrintedTexts
+pub mod FlaggedPackages
+pub mod WrittenObjects
+pub mod GrowingLines

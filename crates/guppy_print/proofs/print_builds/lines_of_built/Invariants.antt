@@ -1,0 +1,11 @@
+use Rattle.std.proofs.Common.{◌≡◌, List, map, take, string_bytes}
+use Rattle.guppy_built.specs.Rows.{row_of}
+use Rattle.guppy_command.specs.Printed.{line_end, lines_of}
+use Rattle.guppy_data.specs.declared.records.PackageRecord.{PackageRecord}
+use Rattle.guppy_print.specs.BuildLines.{row_text}
+use Rattle.guppy_print.specs.Printed.{called}
+use Rattle.guppy_print.proofs.print_builds.lines_of_built.Given as goal
+
+abbrev pub invariant-loop-row : goal.invariant-loop-row
+invariant-loop-row g l = (packages : List PackageRecord) → g.F.Format.are_names l.names packages
+    → string_bytes l.text ≡ lines_of (line_end l.options) (map (row_text (called l.options (g.F.Format.format.text packages))) (map row_of (take l.row-index l.rows)))
