@@ -184,36 +184,8 @@ fn detailed_of<'a>(values: &[Value<'a>], alloc: Global) -> Option<Declared<'a>>
     Some(declared)
 }
 
-// The dependency that the object that comes next tells, without details. Its members' values are read in place of what
-// was read before.
-fn read_plain<'a>(
-    values: &mut [Value<'a>],
-    alloc: Global,
-    reader: &mut Reader<'a>,
-) -> Option<Declared<'a>>
-    requires { length values.old ≡ 10 }
-    ensures { IfSome result (λ made. (told : Json)
-        × (value 124 reader.old ≡ Some (told, reader.new)) × IsDeclared false told made) }
-{
-    read_asked(values, &PLAIN, alloc, reader, MAX_DEPTH - 4)?;
-    plain_of(values, alloc)
-}
-
-// The same with details.
-fn read_detailed<'a>(
-    values: &mut [Value<'a>],
-    alloc: Global,
-    reader: &mut Reader<'a>,
-) -> Option<Declared<'a>>
-    requires { length values.old ≡ 11 }
-    ensures { IfSome result (λ made. (told : Json)
-        × (value 124 reader.old ≡ Some (told, reader.new)) × IsDeclared true told made) }
-{
-    read_asked(values, &DETAILED, alloc, reader, MAX_DEPTH - 4)?;
-    detailed_of(values, alloc)
-}
-
-// The same with details or without.
+// The dependency that the object that comes next tells, with details or without. Its members' values are read in place of
+// what was read before.
 fn read_dependency<'a>(
     values: &mut [Value<'a>],
     alloc: Global,
@@ -225,10 +197,12 @@ fn read_dependency<'a>(
         × (value 124 reader.old ≡ Some (told, reader.new)) × IsDeclared details told made) }
 {
     if details {
-        read_detailed(values, alloc, reader)
-    } else {
-        read_plain(&mut values[..10], alloc, reader)
+        read_asked(values, &DETAILED, alloc, reader, MAX_DEPTH - 4)?;
+        return detailed_of(values, alloc);
     }
+    let plain = &mut values[..10];
+    read_asked(plain, &PLAIN, alloc, reader, MAX_DEPTH - 4)?;
+    plain_of(plain, alloc)
 }
 
 /// The dependencies that the list that comes next tells, with details or without.

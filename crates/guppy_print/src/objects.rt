@@ -88,12 +88,10 @@ impl ToJson for Kinds {
 
     fn write_to(
         &self,
-        alloc: Global,
+        _alloc: Global,
         writer: &mut Writer,
-        graph: &PackageGraph,
+        _graph: &PackageGraph,
     ) -> Result<(), AllocError> {
-        let _ = alloc;
-        let _ = graph;
         writer.begin_array()?;
         push_kind(writer, self.normal, "normal")?;
         push_kind(writer, self.build, "build")?;

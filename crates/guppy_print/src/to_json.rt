@@ -81,12 +81,10 @@ impl ToJson for &str {
 
     fn write_to(
         &self,
-        alloc: Global,
+        _alloc: Global,
         writer: &mut Writer,
-        graph: &PackageGraph,
+        _graph: &PackageGraph,
     ) -> Result<(), AllocError> {
-        let _ = alloc;
-        let _ = graph;
         writer.string(*self)
     }
 }
