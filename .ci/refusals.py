@@ -1,5 +1,5 @@
 #!/usr/bin/env python3
-"""Refuses each request for memory in turn, to the cases of guppy_refusals and to the programs.
+"""Refuses each request for memory in turn, to the cases of guppy_memory_tests and to the programs.
 
 Both are run as the gate built them, in crates/*/out, with refuse.c preloaded, which has the C library refuse
 requests. Each case and each command is run with its first request refused, then with its second, until a run has
@@ -268,7 +268,7 @@ def text_of(crate, file):
 
 
 def read_lines(file):
-    return text_of("guppy_refusals", file).splitlines()
+    return text_of("guppy_memory_tests", file).splitlines()
 
 
 def transcripts(cases):
@@ -293,7 +293,7 @@ def outcomes_of(workers, tries, over):
 
 def try_build(workers, shim, ending):
     """Tries all that one of the compilers built, and returns how many were tried, and how many failed."""
-    crates = "guppy_refusals", "guppy_run", "guppy_cargo_main"
+    crates = "guppy_memory_tests", "guppy_run", "guppy_cargo_main"
     checks, program, cargo = (os.path.join(CRATES, it, "out", it + ending) for it in crates)
     metadata = text_of("guppy_cargo_main", "stdin")
     cases = read_lines("args")

@@ -184,7 +184,8 @@ extern "C" {
     ) -> Outcome;
     /// Writes the packages, links and workspace that the JSON describes as one text, in which each part tells how long
     /// it is. The JSON is what `cargo metadata --format-version 1` prints. Without `details` it takes about half the
-    /// time and memory; the details and free tables of packages and the named features of links are then empty.
+    /// time and two thirds of the memory; the details and free tables of packages and the named features of links are then
+    /// empty.
     ///
     /// A field is its length in bytes, a colon and the text. A list is how many there are, a semicolon, and each. An
     /// option is `-` where there is none. A flag is `y` or `n`. A status is `*` for all platforms, else the list of

@@ -14,6 +14,7 @@ use Rattle.guppy_search.specs.declared.ix.direction.DependencyDirection.TheVaria
 use Rattle.guppy_search.specs.Graph.{NoLink, LinkIs}
 use Rattle.guppy_search.specs.Reach.{LinkStep}
 use Rattle.guppy_data.specs.declared.records.PackageRecord.{PackageRecord}
+use Rattle.guppy_data.proofs.Mapped.{Contains-map, from_map}
 use Rattle.guppy_graph.specs.Cycles.{AreCyclic, AreOnOne, has_self_link, is_cyclic_component, cyclic_components}
 use Rattle.guppy_graph.specs.Graph.{GraphData, IsPackageGraph}
 use Rattle.guppy_graph.specs.Ids.{HasId, id_at, ix_position}
@@ -103,18 +104,6 @@ from_filter p xs x h = (
   All-contains (Contains xs) (filter p xs) x (All-filter p (Contains xs) xs (All-contains_itself xs)) h,
   All-contains (λ y. p y ≡ true) (filter p xs) x (filter_passes p xs) h,
 )
-
-pub Contains-map : {X Y : Type 0} (f : X → Y) (xs : List X) (x : X) → Contains xs x → Contains (map f xs) (f x)
-Contains-map f [] x (k, within, same) = absurd (omega arith)
-Contains-map f (y ∷ ys) x (zero, within, same) = (zero, omega arith, ap f same)
-Contains-map f (y ∷ ys) x (suc k, within, same) = Contains-append_right (f y ∷ []) (map f ys) (f x) (Contains-map f ys x (k, omega arith, same))
-
-pub from_map : {X Y : Type 0} (f : X → Y) (xs : List X) (y : Y) → Contains (map f xs) y → (x : X) × Contains xs x × (f x ≡ y)
-from_map f [] y (k, within, same) = absurd (omega arith)
-from_map f (x ∷ xs) y (zero, within, same) = (x, (zero, omega arith, refl), same)
-from_map f (x ∷ xs) y (suc k, within, same) =
-    let later = from_map f xs y (k, omega arith, same) in
-    (later.0, Contains-append_right (x ∷ []) xs later.0 later.1, later.2)
 
 optional_later : {X : Type 0} (o : Option X) (rest : List X) (y : X) → Contains rest y → Contains (cons_option o rest) y
 optional_later None rest y h = h

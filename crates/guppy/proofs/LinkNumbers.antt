@@ -5,7 +5,7 @@ use Rattle.guppy_search.specs.declared.graph_core.link.Link.{Link}
 use Rattle.guppy_search.specs.Graph.{NoLink, LinkIs}
 use Rattle.guppy_graph.specs.Graph.{GraphData}
 use Rattle.guppy.specs.Views.{LinkData, link_in}
-use Rattle.guppy.proofs.CyclicComponents.{Contains-map, from_map}
+use Rattle.guppy_data.proofs.Mapped.{Contains-map, from_map}
 
 -- a link is in the list exactly where its number is
 pub seen_link : {P : Type 0} (g : GraphData) (numbers : List ℕ) (n : ℕ) → Contains numbers n ↔ P → Contains (map (link_in g) numbers) (link_in g n) ↔ P

@@ -4,10 +4,10 @@ use Rattle.std.specs.Prelude.{◌↔◌, Contains}
 use Rattle.std.specs.List.{Any}
 use Rattle.std.specs.Str.{bytes_eq}
 use Rattle.std.proofs.lemmas.Slice.Eq.{bytes_eq-Decides}
-use Rattle.guppy.specs.DataTypes.records.PackageRecord.{PackageRecord}
-use Rattle.guppy.specs.DataTypes.texts.package_id.PackageId.{PackageId}
-use Rattle.guppy.specs.Sorted.{KeepsUpTo}
-use Rattle.guppy_folders.proofs.Elements.{Contains-map, from_map}
+use Rattle.guppy_data.specs.declared.records.PackageRecord.{PackageRecord}
+use Rattle.guppy_data.specs.declared.texts.package_id.PackageId.{PackageId}
+use Rattle.guppy_data.specs.Sorted.{KeepsUpTo}
+use Rattle.guppy_data.proofs.Mapped.{Contains-map, from_map}
 use Rattle.guppy_affected.specs.Named.{HasOneOf}
 
 abbrev pub told : List (Bor PackageId) → List (List ℕ)

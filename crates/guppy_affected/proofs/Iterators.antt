@@ -3,7 +3,7 @@ use Rattle.std.proofs.Common.{◌≡◌, refl, ℕ, Bool, List, map, None, Ok, E
 use Rattle.std.specs.Prelude.{◌↔◌, Result, IfOk}
 use Rattle.std.specs.Iterator.{Yields, YieldsFirstBy}
 use Rattle.std.proofs.lemmas.Iterator.Consumers.{YieldsList-from_first, YieldsList-end}
-use Rattle.guppy.specs.DataTypes.records.PackageRecord.{PackageRecord}
+use Rattle.guppy_data.specs.declared.records.PackageRecord.{PackageRecord}
 use Rattle.guppy.specs.Query.{IsSetWhere}
 
 -- where no item is left, all that were left at first were given

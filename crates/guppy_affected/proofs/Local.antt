@@ -6,14 +6,15 @@ use Rattle.std.specs.List.Sorted.{IsPermutation}
 use Rattle.std.proofs.lemmas.List.Elements.{Contains-append_left, Contains-push, Contains-push_cases}
 use Rattle.std.proofs.lemmas.List.FromFn.{length-range_with_len, get_or-range_with_len}
 use Rattle.std.proofs.lemmas.List.Sorted.{Contains-permutation, IsPermutation-sym}
-use Rattle.guppy.specs.Path.{Part, components}
-use Rattle.guppy.specs.DataTypes.records.PackageRecord.{PackageRecord}
-use Rattle.guppy.specs.Graph.{GraphData}
-use Rattle.guppy.specs.Ids.{HasId}
+use Rattle.guppy_data.specs.Path.{Part, components}
+use Rattle.guppy_data.specs.declared.records.PackageRecord.{PackageRecord}
+use Rattle.guppy_graph.specs.Graph.{GraphData}
+use Rattle.guppy_graph.specs.Ids.{HasId}
 use Rattle.guppy.specs.Iterators.{packages_of}
 use Rattle.guppy_affected.specs.Folders.{folder_at}
 use Rattle.guppy_affected.specs.Found.{IsFolder}
-use Rattle.guppy_folders.proofs.Elements.{Contains-map, from_map, One, One-push}
+use Rattle.guppy_data.proofs.Mapped.{Contains-map, from_map}
+use Rattle.guppy_folders.proofs.Elements.{One, One-push}
 
 -- the package that is seen is of this machine, with this folder
 abbrev pub HasFolder : List Part → Bor GraphData × ℕ → Type 0

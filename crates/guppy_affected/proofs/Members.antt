@@ -1,9 +1,9 @@
 -- The members that the changed packages affect.
 use Rattle.std.proofs.Common.{◌≡◌, ◌⊎◌, inl, inr, ⊎_elim, refl, sym, subst, ℕ, Bool, List, [], length, Contains, arith}
 use Rattle.std.specs.Prelude.{◌↔◌}
-use Rattle.guppy.specs.IxSet.{IsIn, IsIntersection}
-use Rattle.guppy.specs.Graph.{GraphData}
-use Rattle.guppy.specs.Members.{IsMember}
+use Rattle.guppy_search.specs.IxSet.{IsIn, IsIntersection}
+use Rattle.guppy_graph.specs.Graph.{GraphData}
+use Rattle.guppy_graph.specs.Members.{IsMember}
 use Rattle.guppy.specs.Query.{IsSetWhere, SetData}
 use Rattle.guppy_affected.specs.Affected.{IsAffected, IsAffectedAfter, IsTestedWith, AreIdsOf}
 use Rattle.guppy_affected.specs.Changed.{AreChanged}

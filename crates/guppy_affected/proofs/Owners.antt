@@ -2,14 +2,15 @@
 use Rattle.std.proofs.Common.{◌≡◌, ◌∙◌, ◌⊎◌, inl, inr, ⊎_elim, refl, sym, ap, subst, ℕ, zero, suc, ◌<◌, Bool, false, List, [], ◌∷◌, length, replicate, Contains, Bor, Some, arith}
 use Rattle.std.specs.Prelude.{◌↔◌, IsSomeAnd}
 use Rattle.std.specs.List.Sorted.{IsPermutation}
+use Rattle.std.proofs.lemmas.List.{length-replicate}
 use Rattle.std.proofs.lemmas.List.Elements.{Contains-append_right}
-use Rattle.guppy.specs.IxSet.{IsIn, IsUnion}
-use Rattle.guppy.specs.Path.{Part, components}
-use Rattle.guppy.specs.DataTypes.records.PackageRecord.{PackageRecord}
-use Rattle.guppy.specs.Graph.{GraphData}
+use Rattle.guppy_search.specs.IxSet.{IsIn, IsUnion}
+use Rattle.guppy_data.specs.Path.{Part, components}
+use Rattle.guppy_data.specs.declared.records.PackageRecord.{PackageRecord}
+use Rattle.guppy_graph.specs.Graph.{GraphData}
+use Rattle.guppy_graph.specs.Members.{IsMember}
 use Rattle.guppy.specs.Iterators.{packages_of}
-use Rattle.guppy.specs.Members.{IsMember}
-use Rattle.guppy.specs.Query.{IsSetWhere}
+use Rattle.guppy.specs.Query.{IsSetWhere, SetData}
 use Rattle.guppy_folders.specs.Folders.{IsInside, LiesIn, IsLongest, HoldsNone, HoldsNoneBelow, HoldsOne}
 use Rattle.guppy_folders.specs.Touched.{IsIgnored, IsOneOutside, AreLongest, AreCounted}
 use Rattle.guppy_folders.proofs.LongestFolders.{no_components}
@@ -27,7 +28,7 @@ pub record ArePicked (graph : GraphData) (P : ℕ → Type 0) (left : List (Bor 
   pub inside : (p : ℕ) → IsIn set p → P p
   pub rest : (p : ℕ) → P p → IsIn set p ⊎ ((b : Bor GraphData) × Contains left (b, p))
 
-pub picked_none : (g : Bor GraphData) (P : ℕ → Type 0) → ((p : ℕ) → P p → p < length g.now.packages) → (left : List (Bor GraphData × ℕ)) → IsPermutation (packages_of g) left → (n : ℕ) → ArePicked g.now P left (replicate n false)
+picked_none : (g : Bor GraphData) (P : ℕ → Type 0) → ((p : ℕ) → P p → p < length g.now.packages) → (left : List (Bor GraphData × ℕ)) → IsPermutation (packages_of g) left → (n : ℕ) → ArePicked g.now P left (replicate n false)
 picked_none g P within left all n = record {
   of_graph = λ e there. ap (λ (b : Bor GraphData). b.now) (of_graph g left all e there);
   inside = λ p h. absurd (none_in n p h);
@@ -35,11 +36,11 @@ picked_none g P within left all n = record {
 }
 
 module _ (graph : GraphData) (P : ℕ → Type 0) (set : List Bool) where
-  pub picked_all : ArePicked graph P [] set → (p : ℕ) → IsIn set p ↔ P p
+  picked_all : ArePicked graph P [] set → (p : ℕ) → IsIn set p ↔ P p
   picked_all are p = (are.inside p, λ h. ⊎_elim (λ k. k) (λ later. absurd (omega (arith, later.1.1))) (are.rest p h))
 
   module _ (e : Bor GraphData × ℕ) (left : List (Bor GraphData × ℕ)) (are : ArePicked graph P (e ∷ left) set) where
-    pub picked_graph : e.0.now ≡ graph
+    picked_graph : e.0.now ≡ graph
     picked_graph = are.of_graph e (zero, omega arith, refl)
 
     later_of : (d : Bor GraphData × ℕ) → Contains left d → d.0.now ≡ graph
@@ -72,12 +73,52 @@ changed_within g also folders paths places p = ⊎_elim (with_folder_within _ g.
 -- with one more package, where P holds of it
 module _ (g : GraphData) (P : ℕ → Type 0) (e : Bor GraphData × ℕ) (left : List (Bor GraphData × ℕ)) (set more : List Bool)
     (picked : ArePicked g P (e ∷ left) set) (added : IsAdded g P e.1 set more) where
-  pub picked_added : ArePicked g P left more
+  picked_added : ArePicked g P left more
   picked_added = ⊎_elim (λ (has, count, both). picked_more g P set e left picked has more both)
       (λ (has_not, same). subst (ArePicked g P left) (sym same) (picked_not g P set e left picked has_not)) added
 
-  pub count_added : length set ≡ length g.packages → length more ≡ length g.packages
+  count_added : length set ≡ length g.packages → length more ≡ length g.packages
   count_added count_is = ⊎_elim (λ (has, count, both). count) (λ (has_not, same). ap length same ∙ count_is) added
+
+-- of the packages of the graph with P, the set has those that were seen, and the others are still to come
+pub record IsPicking (g : GraphData) (P : GraphData → ℕ → Type 0) (left : List (Bor GraphData × ℕ)) (set : SetData) : Type 0 where
+  pub same : set.graph ≡ g
+  pub count : length set.included ≡ length g.packages
+  pub picked : ArePicked g (P g) left set.included
+
+pub picking_none : (g : Bor GraphData) (P : GraphData → ℕ → Type 0) → ((p : ℕ) → P g.now p → p < length g.now.packages) → (left : List (Bor GraphData × ℕ)) → IsPermutation (packages_of g) left → (set : SetData) → set.graph ≡ g.now → set.included ≡ replicate (length g.now.packages) false → IsPicking g.now P left set
+picking_none g P within left all set same none = record {
+  same = same;
+  count = ap length none ∙ length-replicate _ false;
+  picked = rw none (picked_none g (P g.now) within left all (length g.now.packages));
+}
+
+module _ {g : GraphData} {P : GraphData → ℕ → Type 0} {before : List (Bor GraphData × ℕ)} {set : SetData} (are : IsPicking g P before set) where
+  pub picking_all : before ≡ [] → IsSetWhere g.packages (P g) set.included
+  picking_all ends = record {
+    count_is = are.count;
+    members = picked_all g (P g) set.included (subst (λ (left : List (Bor GraphData × ℕ)). ArePicked g (P g) left set.included) ends are.picked);
+  }
+
+  -- with the next package
+  module _ (e : Bor GraphData × ℕ) (left : List (Bor GraphData × ℕ)) (next : before ≡ e ∷ left) where
+    up_to : ArePicked g (P g) (e ∷ left) set.included
+    up_to = subst (λ (left : List (Bor GraphData × ℕ)). ArePicked g (P g) left set.included) next are.picked
+
+    own_graph : e.0.now ≡ g
+    own_graph = picked_graph g (P g) set.included e left up_to
+
+    pub picking_graph : set.graph ≡ e.0.now
+    picking_graph = are.same ∙ sym own_graph
+
+    pub picking_more : (more : SetData) → more.graph ≡ set.graph → IsAdded e.0.now (P e.0.now) e.1 set.included more.included → IsPicking g P left more
+    picking_more more same there =
+        let added = subst (λ (h : GraphData). IsAdded h (P h) e.1 set.included more.included) own_graph there in
+        record {
+          same = same ∙ are.same;
+          count = count_added g (P g) e left set.included more.included up_to added are.count;
+          picked = picked_added g (P g) e left set.included more.included up_to added;
+        }
 
 pub union_with_one : (set one more : List Bool) (n : ℕ) → ((p : ℕ) → IsIn one p ↔ (p ≡ n)) → IsUnion set one more → (p : ℕ) → IsIn more p ↔ (IsIn set p ⊎ (p ≡ n))
 union_with_one set one more n only both p = (

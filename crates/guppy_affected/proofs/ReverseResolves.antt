@@ -3,11 +3,11 @@ use Rattle.std.proofs.Common.{◌≡◌, ◌∙◌, ◌⊎◌, inl, inr, ⊎_eli
 use Rattle.std.specs.Prelude.{◌↔◌, slice_get}
 use Rattle.std.proofs.lemmas.List.{append-nil, length-append}
 use Rattle.std.proofs.lemmas.List.Elements.{Contains-append_left}
-use Rattle.guppy.specs.SearchTypes.graph_core.link.Link.{Link}
-use Rattle.guppy.specs.SearchTypes.ix.direction.DependencyDirection.TheVariants.{Forward, Reverse}
-use Rattle.guppy.specs.IxSet.{has, IsIn}
-use Rattle.guppy.specs.Reach.{Step, LinkStep, Walk, here, step}
-use Rattle.guppy.specs.Resolve.{JudgesResolve, IsIncluded, LeavesOne, Visits}
+use Rattle.guppy_search.specs.declared.graph_core.link.Link.{Link}
+use Rattle.guppy_search.specs.declared.ix.direction.DependencyDirection.TheVariants.{Forward, Reverse}
+use Rattle.guppy_search.specs.IxSet.{has, IsIn}
+use Rattle.guppy_search.specs.Reach.{Step, LinkStep, Walk, here, step}
+use Rattle.guppy_search.specs.Resolve.{JudgesResolve, IsIncluded, LeavesOne, Visits}
 use Rattle.guppy_affected.proofs.Walks.{walk_from}
 
 module _ {V : Type 0} (visits : V → ℕ → Bool → V → Type 0) (P : ℕ → Bool → Type 0) (s : V) (each : (n : ℕ) (b : Bool) (t : V) → visits s n b t → P n b × (t ≡ s)) where

@@ -2,16 +2,16 @@
 use Rattle.std.proofs.Common.{◌≡◌, ◌⊎◌, inl, inr, ⊎_elim, refl, sym, subst, ℕ, Bool, List, [], ◌++◌, map, Contains, None, Some, arith}
 use Rattle.std.specs.Prelude.{◌↔◌, IsTrue, Option, IsSomeAnd, slice_get}
 use Rattle.std.proofs.lemmas.List.Sorted.{Contains-permutation, IsPermutation-sym}
-use Rattle.guppy.specs.Path.{Part, components}
-use Rattle.guppy.specs.DataTypes.records.BuildTargetRecord.{BuildTargetRecord}
-use Rattle.guppy.specs.DataTypes.records.PackageRecord.{PackageRecord}
-use Rattle.guppy.specs.Graph.{GraphData}
-use Rattle.guppy.specs.Targets.{AreTargetsById}
-use Rattle.guppy_folders.specs.Places.{resolved, MeetsOne}
+use Rattle.guppy_data.specs.Path.{Part, components}
+use Rattle.guppy_data.specs.declared.records.BuildTargetRecord.{BuildTargetRecord}
+use Rattle.guppy_data.specs.declared.records.PackageRecord.{PackageRecord}
+use Rattle.guppy_graph.specs.Graph.{GraphData}
+use Rattle.guppy_graph.specs.Targets.{AreTargetsById}
+use Rattle.guppy_data.proofs.Mapped.{Contains-map, from_map}
+use Rattle.guppy_folders.specs.Places.{resolved, MeetsOne, place, place_above, Meets}
 use Rattle.guppy_folders.specs.Touched.{IsIgnored, OfOne, AreCounted}
-use Rattle.guppy_folders.proofs.Elements.{Contains-map, from_map}
 use Rattle.guppy_affected.specs.Affected.{IsAffected}
-use Rattle.guppy_affected.specs.Folders.{folder_at, Belongs, IsBelow, place, place_above, Meets, OneElsewhere, HasTargetElsewhere, IsElsewhere, Given, HasFolderGiven, IsAlso, Changes}
+use Rattle.guppy_affected.specs.Folders.{folder_at, Belongs, IsBelow, OneElsewhere, HasTargetElsewhere, IsElsewhere, Given, HasFolderGiven, IsAlso, Changes}
 use Rattle.guppy_affected.specs.Changed.{ArePlaces}
 use Rattle.guppy_affected.proofs.Local.{with_own}
 

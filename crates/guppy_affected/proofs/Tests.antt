@@ -1,17 +1,17 @@
 -- Which packages are tested with those of a set.
 use Rattle.std.proofs.Common.{◌≡◌, ◌∙◌, ◌⊎◌, inl, inr, ⊎_elim, refl, sym, ap, subst, ℕ, zero, suc, ◌<◌, Bool, true, false, List, [], ◌∷◌, length, map, replicate, Some, slice_set, arith}
 use Rattle.std.specs.Prelude.{◌↔◌, slice_get}
-use Rattle.guppy.specs.SearchTypes.graph_core.link.Link.{Link}
-use Rattle.guppy.specs.DataTypes.records.LinkRecord.{LinkRecord}
-use Rattle.guppy.specs.SearchTypes.ix.direction.DependencyDirection.TheVariants.{Forward}
+use Rattle.guppy_search.specs.declared.graph_core.link.Link.{Link}
+use Rattle.guppy_search.specs.declared.ix.direction.DependencyDirection.TheVariants.{Forward}
+use Rattle.guppy_search.specs.IxSet.{IsIn}
+use Rattle.guppy_search.specs.Reach.{LinkStep, Walk, here, step}
+use Rattle.guppy_core.specs.Listing.{Stands}
+use Rattle.guppy_data.specs.declared.records.LinkRecord.{LinkRecord}
+use Rattle.guppy_graph.specs.Graph.{GraphData}
+use Rattle.guppy_graph.specs.Ordered.{FirmStep}
 use Rattle.guppy.specs.declared.link.PackageLink.{PackageLink}
 use Rattle.guppy.specs.declared.metadata.PackageMetadata.{PackageMetadata}
-use Rattle.guppy.specs.Graph.{GraphData}
-use Rattle.guppy.specs.IxSet.{IsIn}
-use Rattle.guppy.specs.Listing.{Stands}
-use Rattle.guppy.specs.Ordered.{FirmStep}
 use Rattle.guppy.specs.Query.{QueryData, SetData}
-use Rattle.guppy.specs.Reach.{LinkStep, Walk, here, step}
 use Rattle.guppy.specs.Views.{PackageData, LinkData, OfLink, link_data, package_in, graph_of, package_position}
 use Rattle.guppy.specs.Visitors.{query_link}
 use Rattle.guppy_affected.specs.Affected.{IsTestedWith}

@@ -1,15 +1,15 @@
 -- Which members of a workspace are to be tested after files changed.
 use Rattle.std.specs.Prelude.{◌≡◌, ◌≢◌, ◌⊎◌, ◌↔◌, ℕ, List}
-use Rattle.guppy.specs.SearchTypes.ix.direction.DependencyDirection.TheVariants.{Forward, Reverse}
-use Rattle.guppy.specs.DataTypes.records.PackageRecord.{PackageRecord}
-use Rattle.guppy.specs.FirmCycles.{HasNoFirmCycle}
-use Rattle.guppy.specs.Graph.{GraphData}
+use Rattle.guppy_search.specs.declared.ix.direction.DependencyDirection.TheVariants.{Forward, Reverse}
+use Rattle.guppy_search.specs.Reach.{LinkStep, Walk}
+use Rattle.guppy_core.specs.Listing.{Stands, IsOnce, Precedes}
+use Rattle.guppy_data.specs.declared.records.PackageRecord.{PackageRecord}
+use Rattle.guppy_graph.specs.FirmCycles.{HasNoFirmCycle}
+use Rattle.guppy_graph.specs.Graph.{GraphData}
+use Rattle.guppy_graph.specs.Members.{IsMember}
+use Rattle.guppy_graph.specs.Ordered.{FirmStep}
 use Rattle.guppy.specs.Listed.{ids_at, positions_listed}
-use Rattle.guppy.specs.Listing.{Stands, IsOnce, Precedes}
-use Rattle.guppy.specs.Members.{IsMember}
-use Rattle.guppy.specs.Ordered.{FirmStep}
 use Rattle.guppy.specs.Query.{SetData}
-use Rattle.guppy.specs.Reach.{LinkStep, Walk}
 use Rattle.guppy_affected.specs.Folders.{Given, Holds, IsHeldByRoot, Changes}
 use Rattle.guppy_affected.specs.Named.{HasOneOf}
 pub use Rattle.guppy_folders.specs.Touched.{IsIgnored, OfOne, IsPath, IsOfWorkspace, IsOfRootsTargets}

@@ -1,15 +1,16 @@
 -- Which packages the paths touch, and the folders that this is told by.
 use Rattle.std.specs.Prelude.{◌≡◌, ◌⊎◌, ◌↔◌, ℕ, Bool, List, length, Contains, IsSomeAnd}
-use Rattle.guppy.specs.Graph.{GraphData}
-use Rattle.guppy.specs.IxSet.{IsIn}
-use Rattle.guppy.specs.Path.{Part, components}
-use Rattle.guppy.specs.DataTypes.records.PackageRecord.{PackageRecord}
-use Rattle.guppy.specs.Members.{IsMember}
+use Rattle.guppy_search.specs.IxSet.{IsIn}
+use Rattle.guppy_data.specs.Path.{Part, components}
+use Rattle.guppy_data.specs.declared.records.PackageRecord.{PackageRecord}
+use Rattle.guppy_graph.specs.Graph.{GraphData}
+use Rattle.guppy_graph.specs.Members.{IsMember}
 use Rattle.guppy.specs.Query.{IsSetWhere}
-use Rattle.guppy_affected.specs.Folders.{folder_at, place, HasTargetElsewhere, Given, HasFolderGiven, Changes}
+use Rattle.guppy_folders.specs.Places.{place, MeetsOne}
+use Rattle.guppy_affected.specs.Folders.{folder_at, HasTargetElsewhere, Given, HasFolderGiven, Changes}
 use Rattle.guppy_folders.specs.Folders.{HoldsOne}
-use Rattle.guppy_folders.specs.Places.{MeetsOne}
-use Rattle.guppy_affected.specs.Affected.{OfOne, IsEveryones}
+use Rattle.guppy_folders.specs.Touched.{OfOne}
+use Rattle.guppy_affected.specs.Affected.{IsEveryones}
 
 -- one of the paths is everyone's
 abbrev pub IsForAll : List PackageRecord → List (List ℕ) → List (List ℕ) → Type 0

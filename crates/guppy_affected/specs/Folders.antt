@@ -1,13 +1,13 @@
 -- The folders of the packages of this machine, and to which of these packages a path belongs.
 use Rattle.std.specs.Prelude.{◌≡◌, ◌⊎◌, ℕ, ◌≤◌, List, length, map, Contains, Option, IsSomeAnd, slice_get}
 use Rattle.std.specs.Borrow.{Bor}
-use Rattle.guppy.specs.Path.{Part, components}
-use Rattle.guppy.specs.DataTypes.records.BuildTargetRecord.{BuildTargetRecord}
-use Rattle.guppy.specs.DataTypes.records.PackageRecord.{PackageRecord}
-use Rattle.guppy.specs.Graph.{GraphData}
-use Rattle.guppy.specs.Ids.{HasId}
-use Rattle.guppy.specs.Keys.{or_empty, item_key}
-use Rattle.guppy.specs.PackageSource.{local_path, recorded_origin}
+use Rattle.guppy_data.specs.Path.{Part, components}
+use Rattle.guppy_data.specs.declared.records.BuildTargetRecord.{BuildTargetRecord}
+use Rattle.guppy_data.specs.declared.records.PackageRecord.{PackageRecord}
+use Rattle.guppy_data.specs.PackageSource.{local_path, recorded_origin}
+use Rattle.guppy_graph.specs.Graph.{GraphData}
+use Rattle.guppy_graph.specs.Ids.{HasId}
+use Rattle.guppy_graph.specs.Keys.{or_empty, item_key}
 pub use Rattle.guppy_folders.specs.Folders.{LiesIn, IsInside}
 pub use Rattle.guppy_folders.specs.Places.{place, place_above, Meets}
 

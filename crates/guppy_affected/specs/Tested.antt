@@ -1,11 +1,11 @@
 -- Sets of packages, by where links lead from them.
 use Rattle.std.specs.Prelude.{◌≡◌, ◌⊎◌, ◌↔◌, ℕ, List}
-use Rattle.guppy.specs.SearchTypes.ix.direction.DependencyDirection.TheVariants.{Forward}
-use Rattle.guppy.specs.Graph.{GraphData}
-use Rattle.guppy.specs.IxSet.{IsIn}
-use Rattle.guppy.specs.Ordered.{FirmStep}
+use Rattle.guppy_search.specs.declared.ix.direction.DependencyDirection.TheVariants.{Forward}
+use Rattle.guppy_search.specs.IxSet.{IsIn}
+use Rattle.guppy_search.specs.Reach.{LinkStep, Walk}
+use Rattle.guppy_graph.specs.Graph.{GraphData}
+use Rattle.guppy_graph.specs.Ordered.{FirmStep}
 use Rattle.guppy.specs.Query.{SetData}
-use Rattle.guppy.specs.Reach.{LinkStep, Walk}
 use Rattle.guppy_affected.specs.Affected.{IsTestedWith}
 use Rattle.guppy_affected.specs.Changed.{AreChanged}
 use Rattle.guppy_affected.specs.Folders.{Given}

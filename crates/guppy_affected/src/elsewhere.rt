@@ -1,9 +1,9 @@
 //! Targets whose sources lie outside of their packages' folders.
 ghost use Rattle.std.specs.Prelude.{◌≡◌, ◌↔◌, IsTrue, map, string_bytes, IfOk};
-ghost use Rattle.guppy.specs.BuildTarget.{seen_target};
-ghost use Rattle.guppy.specs.Component.{part_shown};
+ghost use Rattle.guppy_data.specs.BuildTarget.{seen_target};
+ghost use Rattle.guppy_data.specs.Component.{part_shown};
+ghost use Rattle.guppy_data.specs.Utf8Path.{path_text};
 ghost use Rattle.guppy.specs.TargetIterators.{targets_left};
-ghost use Rattle.guppy.specs.Utf8Path.{path_text};
 ghost use Rattle.guppy.specs.Views.{graph_of, package_position};
 ghost use Rattle.guppy_folders.specs.Folders.{lists_in};
 ghost use Rattle.guppy_folders.specs.Places.{MeetsOne};

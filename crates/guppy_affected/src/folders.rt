@@ -1,7 +1,7 @@
 //! The folders of the packages of this machine.
 ghost use Rattle.std.specs.Prelude.{◌≡◌, IfOk};
 ghost use Rattle.std.specs.Option.{option_map};
-ghost use Rattle.guppy.specs.Utf8Path.{path_text};
+ghost use Rattle.guppy_data.specs.Utf8Path.{path_text};
 ghost use Rattle.guppy.specs.Views.{graph_packages, package_position};
 ghost use Rattle.guppy_folders.specs.Folders.{lists_in};
 ghost use Rattle.guppy_affected.specs.Folders.{folder_at};

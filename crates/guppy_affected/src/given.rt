@@ -1,6 +1,6 @@
 //! Folders that are given to packages beside their own.
 ghost use Rattle.std.specs.Prelude.{◌≡◌, ◌↔◌, IsTrue, IfOk};
-ghost use Rattle.guppy.specs.Utf8Path.{path_text};
+ghost use Rattle.guppy_data.specs.Utf8Path.{path_text};
 ghost use Rattle.guppy.specs.Views.{graph_of, package_position};
 ghost use Rattle.guppy_folders.specs.Folders.{lists_in};
 ghost use Rattle.guppy_folders.specs.Places.{place, MeetsOne};

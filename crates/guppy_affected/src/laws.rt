@@ -1,6 +1,6 @@
 //! Laws on folders that are given to packages, and on packages of which it is told, each stated by the contract of a function.
 ghost use Rattle.std.specs.Prelude.{◌↔◌, ◌⊎◌, ℕ, List, [], Contains};
-ghost use Rattle.guppy.specs.Graph.{GraphData};
+ghost use Rattle.guppy_graph.specs.Graph.{GraphData};
 ghost use Rattle.guppy_affected.specs.Affected.{IsAffected, IsAffectedAfter};
 ghost use Rattle.guppy_affected.specs.Folders.{Given, Belongs, IsBelow, IsElsewhere, Changes};
 

@@ -1,6 +1,6 @@
 //! The packages whose tests are built from changed ones.
 ghost use Rattle.std.specs.Prelude.{◌≡◌, ◌↔◌, ℕ, length, IfOk, IsOkUnless};
-ghost use Rattle.guppy.specs.IxSet.{IsIn};
+ghost use Rattle.guppy_search.specs.IxSet.{IsIn};
 ghost use Rattle.guppy_affected.specs.Tested.{AreBuiltFrom, AreWithDependents, AreTestedWith};
 
 use guppy::graph::DependencyDirection;

@@ -1,7 +1,7 @@
 //! The packages that changed.
 ghost use Rattle.std.specs.Prelude.{◌≡◌, ◌⊎◌, ◌↔◌, IsTrue, ◌++◌, map, string_bytes, Contains, IfOk, IsOkUnless};
-ghost use Rattle.guppy.specs.Path.{components};
-ghost use Rattle.guppy.specs.Utf8Path.{path_text};
+ghost use Rattle.guppy_data.specs.Path.{components};
+ghost use Rattle.guppy_data.specs.Utf8Path.{path_text};
 ghost use Rattle.guppy.specs.Query.{IsSetWhere};
 ghost use Rattle.guppy.specs.Views.{graph_of, graph_packages, package_position};
 ghost use Rattle.guppy_folders.specs.Folders.{lists_in, HoldsOne};

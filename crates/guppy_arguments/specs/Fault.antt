@@ -6,10 +6,9 @@ use Rattle.guppy_data.specs.Texts.{error_text}
 use Rattle.guppy_metadata.specs.Fault.{fault_text as metadata_text}
 use Rattle.guppy_metadata.specs.declared.fault.MetadataFault.{MetadataFault}
 use Rattle.guppy_metadata.specs.declared.fault.MetadataFault.TheVariants.{OutOfMemory as MetadataMemory}
-use Rattle.guppy_command.specs.BuildFault.{build_fault_text}
-use Rattle.guppy_command.specs.Cause.{Cause, library, bad_arguments, ambiguous, bad_input}
-use Rattle.guppy_command.specs.Shown.{cause_shown}
-use Rattle.guppy_command.specs.declared.fault.Fault.TheVariants.{Library, BadArguments, NoWalk, Unpublishable, Build, Before, InputFailed, OutputFailed}
+use Rattle.guppy_process.specs.Fault.{build_fault_text, cause_shown}
+use Rattle.guppy_process.specs.Cause.{Cause, library, bad_arguments, ambiguous, bad_input}
+use Rattle.guppy_process.specs.declared.fault.Fault.TheVariants.{Library, BadArguments, NoWalk, Unpublishable, Build, Before, InputFailed, OutputFailed}
 use Rattle.guppy_arguments.specs.declared.fault.CargoFault.{CargoFault}
 use Rattle.guppy_arguments.specs.declared.fault.CargoFault.TheVariants.{Program, Ambiguous, Unknown, Cycle, Arguments, Metadata, NoText}
 use Rattle.guppy_arguments.specs.Told.{arguments_text}

@@ -4,7 +4,7 @@ use Rattle.std.specs.Str.{bytes_eq}
 use Rattle.std.specs.declared.alloc.Global.{Global}
 use Rattle.std.specs.Fmt.{decimal}
 use Rattle.guppy_data.specs.declared.texts.error.Error.TheVariants.{OutOfMemory}
-use Rattle.guppy_command.specs.declared.fault.Fault.TheVariants.{Library}
+use Rattle.guppy_process.specs.declared.fault.Fault.TheVariants.{Library}
 use Rattle.guppy_command.specs.Grammar.{Misread, no_option, no_value, needless_value, repeated, not_taken, no_command, unknown_command, bad_words, bad_kinds, bad_resolver, bad_format, no_flags, lone_platform, lone_host, all_ignored, no_paths, cfgs_failed, bad_cfg, paths_failed, unended_paths, bad_also, before_failed}
 use Rattle.guppy_command.specs.declared.table.TheConstants.{FORMAT}
 use Rattle.guppy_command.specs.Asked.{IsMisread}

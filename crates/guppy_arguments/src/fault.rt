@@ -1,13 +1,13 @@
 //! Why there is no answer.
 ghost use Rattle.std.specs.Prelude.{◌≡◌};
 ghost use Rattle.guppy_data.specs.declared.texts.error.Error.TheVariants.{OutOfMemory};
-ghost use Rattle.guppy_command.specs.declared.fault.Fault.TheVariants.{Library};
+ghost use Rattle.guppy_process.specs.declared.fault.Fault.TheVariants.{Library};
 ghost use Rattle.guppy_arguments.specs.declared.fault.CargoFault.TheVariants.{Program};
 
 use crate::told::ArgumentsFault;
-use guppy_command::{Fault, ProgramFault};
 use guppy_data::{Error, PackageId};
 use guppy_metadata::MetadataFault;
+use guppy_process::{Fault, ProgramFault};
 use std::alloc::{AllocError, AllocFailed};
 use std::fmt;
 

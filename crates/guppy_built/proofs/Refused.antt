@@ -5,7 +5,7 @@ use Rattle.std.specs.Option.{option_and_then}
 use Rattle.guppy_data.specs.declared.records.PackageRecord.{PackageRecord}
 use Rattle.guppy_graph.specs.Graph.{GraphData}
 use Rattle.guppy_graph.specs.Members.{IsMember, member_path}
-use Rattle.guppy_features.specs.Questions.{question}
+use Rattle.guppy_features.specs.Questions.{Question, question}
 use Rattle.guppy_features.specs.declared.options.CargoOptions.{CargoOptions}
 use Rattle.guppy_built.specs.Asked.{Choice, IsAsked, IsChoiceFault}
 use Rattle.guppy_built.specs.Refused.{IsBuiltFault, IsLackingFault, IsMembersFault}
@@ -41,14 +41,14 @@ module _ (g : GraphData) (c : Choice) where
   choice_refused (Unresolved owner dependency) is = absurd is
   choice_refused OutOfMemory is = tt
 
-  -- what isn't resolved
-  pub lacking_refused : (options : CargoOptions) (members : List ℕ) → IsAsked g c options members → (fault : BuiltFault) → IsLackingFault (question g options) fault → IsBuiltFault g c fault
-  lacking_refused options members asked (NoMember place) is = absurd is
-  lacking_refused options members asked (UnknownFeature place) is = absurd is
-  lacking_refused options members asked LacksFeature is = absurd is
-  lacking_refused options members asked FeatureOff is = absurd is
-  lacking_refused options members asked (Unresolved owner dependency) is = record { options = options; members = members; asked = asked; first = is }
-  lacking_refused options members asked OutOfMemory is = tt
+  -- what isn't resolved of the question
+  pub lacking_refused : (options : CargoOptions) (members : List ℕ) → IsAsked g c options members → (q : Question) → q ≡ question g options → (fault : BuiltFault) → IsLackingFault q fault → IsBuiltFault g c fault
+  lacking_refused options members asked q same (NoMember place) is = absurd is
+  lacking_refused options members asked q same (UnknownFeature place) is = absurd is
+  lacking_refused options members asked q same LacksFeature is = absurd is
+  lacking_refused options members asked q same FeatureOff is = absurd is
+  lacking_refused options members asked q same (Unresolved owner dependency) is = record { options = options; members = members; asked = asked; first = rw same at is }
+  lacking_refused options members asked q same OutOfMemory is = tt
 
   -- each is told of a feature, too
   pub why_refused : (id name : List ℕ) (fault : BuiltFault) → IsBuiltFault g c fault → IsWhyFault g c id name fault

@@ -1,7 +1,7 @@
 -- How a call is refused that writes a text.
 use Rattle.std.specs.Prelude.{◌≡◌, ◌≢◌, ℕ, List}
 use Rattle.guppy_data.specs.declared.texts.error.Error.TheVariants.{OutOfMemory}
-use Rattle.guppy_command.specs.declared.fault.Fault.TheVariants.{Library}
+use Rattle.guppy_process.specs.declared.fault.Fault.TheVariants.{Library}
 use Rattle.guppy_arguments.specs.declared.fault.CargoFault.{CargoFault}
 use Rattle.guppy_arguments.specs.declared.fault.CargoFault.TheVariants.{Program}
 use Rattle.guppy_arguments.specs.Fault.{fault_text}

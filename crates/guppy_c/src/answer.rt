@@ -4,8 +4,8 @@ ghost use Rattle.guppy_cargo.specs.Words.{IsJsonAnswer};
 ghost use Rattle.guppy_c.specs.Answer.{IsRefusal, Refuses};
 
 use guppy_cargo::{CargoFault, answer_json};
-use guppy_command::Fault;
 use guppy_data::Error;
+use guppy_process::Fault;
 use std::alloc::Global;
 
 /// How a call ended that writes a text.

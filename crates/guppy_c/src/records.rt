@@ -3,21 +3,33 @@ ghost use Rattle.std.specs.Prelude.{◌≡◌, ◌≢◌, ◌<◌, ◌≤◌, �
 ghost use Rattle.json.specs.Json.{document};
 ghost use Rattle.guppy_metadata.specs.Fault.{IsOutOfMemory, fault_text};
 ghost use Rattle.guppy_metadata.specs.Records.{IsMetadataFault, IsUnresolved, SaysNoRecordsWith};
-ghost use Rattle.guppy_c.specs.Records.{AreRecords, AreRefused, IsNoJson, kind_of};
+ghost use Rattle.guppy_c.specs.Records.{AreRecords, AreRefused, IsNoJson, details_of, kind_of};
 
 use crate::answer::{Answer, put};
-use guppy_metadata::{MetadataFault, records_with};
-use guppy_wire::records_text;
+use guppy_data::Details;
+use guppy_metadata::{MetadataFault, read_records};
+use guppy_wire::{LinkTexts, records_text};
 use simdutf8::basic::from_utf8;
 use std::alloc::Global;
 
+// What a flag asks for.
+fn details_of(wanted: bool) -> Details
+    ensures { result ≡ details_of wanted }
+{
+    if wanted {
+        Details::With
+    } else {
+        Details::Without
+    }
+}
+
 // The records that the JSON says as one text, with details or without.
-fn text_of(alloc: Global, json: &str, details: bool) -> Result<String, MetadataFault>
+fn text_of(alloc: Global, json: &str, details: Details) -> Result<String, MetadataFault>
     ensures told { IfOk result (λ text. AreRecords details json.now (string_bytes text)) }
     ensures refused { IfErr result (λ fault. ¬ IsOutOfMemory fault → IsMetadataFault details json.now fault) }
 {
-    let records = records_with(alloc, json, details)?;
-    match records_text(alloc, &records) {
+    let records = read_records::<LinkTexts>(alloc, json, details)?;
+    match records_text(alloc, records) {
         Ok(text) => Ok(text),
         Err(_) => Err(MetadataFault::OutOfMemory),
     }
@@ -60,7 +72,8 @@ fn refuse(alloc: Global, fault: &MetadataFault, out: &mut [u8]) -> Answer
 
 /// Writes the packages, links and workspace that the JSON describes as one text, in which each part tells how long
 /// it is. The JSON is what `cargo metadata --format-version 1` prints. Without `details` it takes about half the
-/// time and memory; the details and free tables of packages and the named features of links are then empty.
+/// time and two thirds of the memory; the details and free tables of packages and the named features of links are then
+/// empty.
 ///
 /// A field is its length in bytes, a colon and the text. A list is how many there are, a semicolon, and each. An
 /// option is `-` where there is none. A flag is `y` or `n`. A status is `*` for all platforms, else the list of
@@ -92,18 +105,18 @@ fn refuse(alloc: Global, fault: &MetadataFault, out: &mut [u8]) -> Answer
 /// A refusal says why, with no newline at its end.
 #[unsafe(no_mangle)]
 pub extern "C" fn guppy_records(alloc: Global, json: &[u8], details: bool, out: &mut [u8]) -> Answer
-    ensures told { result.status ≡ 0 → AreRecords details json.now (take result.len out.new) }
+    ensures told { result.status ≡ 0 → AreRecords (details_of details) json.now (take result.len out.new) }
     ensures no_json { result.status ≢ 0 → result.status ≢ 2 → result.status ≢ 3
         → (result.status ≡ 4) ↔ IsNoJson json.now }
     ensures unresolved { result.status ≢ 0 → result.status ≢ 2 → result.status ≢ 3
         → (result.status ≡ 5) ↔ (IsUtf8 json.now × IsUnresolved json.now) }
-    ensures no_records { result.status ≡ 1 → SaysNoRecordsWith details json.now }
+    ensures no_records { result.status ≡ 1 → SaysNoRecordsWith (details_of details) json.now }
     ensures refused { result.status ≢ 0 → result.status ≢ 2 → result.status ≢ 3
-        → AreRefused details json.now result.status (take result.len out.new) }
+        → AreRefused (details_of details) json.now result.status (take result.len out.new) }
     ensures room { result.status ≢ 2 → result.status ≢ 3 → result.len ≤ length out.new }
     ensures no_room { result.status ≡ 2 → (length out.old < result.len)
         × (text : List ℕ) × (length text ≡ result.len)
-        × (AreRecords details json.now text ⊎ (status : ℕ) × AreRefused details json.now status text) }
+        × (AreRecords (details_of details) json.now text ⊎ (status : ℕ) × AreRefused (details_of details) json.now status text) }
     ensures no_memory { result.status ≡ 3 → result.len ≡ 0 }
     ensures status { result.status ≤ 5 }
     ensures unchanged { (result.status ≡ 2) ⊎ (result.status ≡ 3) → out.new ≡ out.old }
@@ -111,7 +124,7 @@ pub extern "C" fn guppy_records(alloc: Global, json: &[u8], details: bool, out: 
     let Ok(text) = from_utf8(json) else {
         return put("the input is no UTF-8", 4, out);
     };
-    match text_of(alloc, text, details) {
+    match text_of(alloc, text, details_of(details)) {
         Ok(text) => put(text.as_str(), 0, out),
         Err(fault) => refuse(alloc, &fault, out),
     }

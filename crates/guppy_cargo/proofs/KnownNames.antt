@@ -1,7 +1,7 @@
 -- IDs of packages that are called by a text are a graph's.
 use Rattle.std.proofs.Common.{◌≡◌, ℕ, zero, suc, ◌<◌, Bool, true, false, cond, List, [], ◌∷◌, filter, map, length, get_or, sym, arith}
 use Rattle.guppy_data.specs.declared.records.PackageRecord.{PackageRecord}
-use Rattle.guppy.specs.Ids.{IsKnown}
+use Rattle.guppy_graph.specs.Ids.{IsKnown}
 use Rattle.guppy_arguments.specs.Names.{is_called, called}
 
 first_known : (r : PackageRecord) (rs others : List PackageRecord) (id : List ℕ) (rest : List (List ℕ)) → (map (λ (p : PackageRecord). p.id) others ≡ id ∷ rest → IsKnown rs id)

@@ -8,7 +8,7 @@ use Rattle.std.proofs.lemmas.List.FromFn.{get_or-map-range_with_len, length-map-
 use Rattle.std.proofs.lemmas.List.Sorted.{Contains-permutation, IsPermutation-sym}
 use Rattle.std.proofs.lemmas.Option.{slice_get_within, slice_get-get_or, get_or_from_slice_get}
 use Rattle.guppy_data.specs.declared.records.PackageRecord.{PackageRecord}
-use Rattle.guppy.specs.Graph.{GraphData}
+use Rattle.guppy_graph.specs.Graph.{GraphData}
 use Rattle.guppy.specs.Iterators.{packages_of}
 use Rattle.guppy_arguments.specs.Names.{name_of}
 use Rattle.guppy_arguments.specs.Nearest.{IsFar, IsNearest}

@@ -1,8 +1,9 @@
 -- What `guppy-cargo` reads, and what it calls packages.
-use Rattle.std.specs.Prelude.{◌≡◌, ℕ, Bool, List, IsSomeAnd, Vec, String, string_bytes}
+use Rattle.std.specs.Prelude.{◌≡◌, ℕ, List, IsSomeAnd, Vec, String, string_bytes}
 use Rattle.std.specs.declared.alloc.Global.{Global}
 use Rattle.std.specs.Str.{IsUtf8}
 use Rattle.json.specs.Json.{document}
+use Rattle.guppy_data.specs.declared.records.Details.{Details}
 use Rattle.guppy_data.specs.declared.records.PackageRecord.{PackageRecord}
 use Rattle.guppy_data.specs.declared.records.LinkRecord.{LinkRecord}
 use Rattle.guppy_data.specs.declared.records.WorkspaceRecord.{WorkspaceRecord}
@@ -19,7 +20,7 @@ use Rattle.guppy_command.specs.Asked.{Asks}
 use Rattle.guppy_cargo.specs.Unknown.{TellsUnknown}
 
 -- the input is JSON that says these records, with details or without
-abbrev pub SaysRecords : Bool → List ℕ → List PackageRecord → List LinkRecord → WorkspaceRecord → Type 0
+abbrev pub SaysRecords : Details → List ℕ → List PackageRecord → List LinkRecord → WorkspaceRecord → Type 0
 SaysRecords details input packages links workspace =
     IsSomeAnd (document input) (λ d. AreRecordsWith details d packages links workspace)
 
@@ -28,7 +29,7 @@ abbrev pub SaysDeclared : List ℕ → List ℕ → List ℕ → Type 0
 SaysDeclared input from to = IsUtf8 input × IsSomeAnd (document input) (λ d. Declares d from to)
 
 -- the input is no UTF-8, or the JSON has the fault
-abbrev pub IsInputFault : Bool → List ℕ → CargoFault → Type 0
+abbrev pub IsInputFault : Details → List ℕ → CargoFault → Type 0
 IsInputFault details input (Metadata fault) = IsMetadataFault details input fault
 IsInputFault details input NoText = ¬ IsUtf8 input
 IsInputFault details input _ = ⊥

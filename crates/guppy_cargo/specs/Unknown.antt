@@ -2,7 +2,7 @@
 use Rattle.std.specs.Prelude.{◌≡◌, ℕ, ◌<◌, ◌≤◌, List, Contains, map, string_bytes}
 use Rattle.guppy_data.specs.declared.records.PackageRecord.{PackageRecord}
 use Rattle.guppy_data.specs.declared.texts.error.Error.TheVariants.{UnknownPackageId}
-use Rattle.guppy_command.specs.declared.fault.Fault.TheVariants.{Library}
+use Rattle.guppy_process.specs.declared.fault.Fault.TheVariants.{Library}
 use Rattle.guppy_arguments.specs.Names.{name_of}
 use Rattle.guppy_arguments.specs.Nearest.{edits}
 use Rattle.guppy_arguments.specs.declared.fault.CargoFault.{CargoFault}

@@ -1,7 +1,7 @@
 -- Arguments as one run of bytes, and why they get no answer.
 use Rattle.std.specs.Prelude.{◌≡◌, ◌⊎◌, ℕ, List}
 use Rattle.std.specs.Str.{IsUtf8}
-use Rattle.guppy_command.specs.declared.fault.Fault.TheVariants.{BadArguments}
+use Rattle.guppy_process.specs.declared.fault.Fault.TheVariants.{BadArguments}
 use Rattle.guppy_program.specs.Run.{IsAnswered, IsAnswerFault}
 use Rattle.guppy_arguments.specs.declared.fault.CargoFault.{CargoFault}
 use Rattle.guppy_arguments.specs.declared.fault.CargoFault.TheVariants.{Program}

@@ -9,7 +9,7 @@ use crate::unknown::unknown;
 use guppy::{PackageGraph, PackageId};
 use guppy_arguments::{CargoFault, Names, asked_of};
 use guppy_command::{Asked, Files};
-use guppy_data::{PackageRecord, Records};
+use guppy_data::{Details, PackageRecord, Records};
 use guppy_declared::declared_members;
 use guppy_metadata::records_with;
 use guppy_print::{Format, has_package};
@@ -49,7 +49,7 @@ impl Format for Json {
         asked_of(alloc, args, files)
     }
 
-    fn records_of(alloc: Global, input: &[u8], details: bool) -> Result<Records, CargoFault> {
+    fn records_of(alloc: Global, input: &[u8], details: Details) -> Result<Records, CargoFault> {
         let Ok(text) = from_utf8(input) else {
             return Err(CargoFault::NoText);
         };

@@ -2,14 +2,14 @@
 ghost use Rattle.std.specs.Prelude.{◌≡◌, map, IfOk, MatchOption};
 ghost use Rattle.std.specs.List.Sorted.{IsPermutation};
 ghost use Rattle.guppy_data.specs.declared.texts.error.Error.TheVariants.{UnknownPackageId};
-ghost use Rattle.guppy_command.specs.Cause.{library};
+ghost use Rattle.guppy_process.specs.Cause.{library};
 ghost use Rattle.guppy_arguments.specs.Fault.{cause_of};
 ghost use Rattle.guppy_arguments.specs.Names.{name_of};
 ghost use Rattle.guppy_cargo.specs.Unknown.{IsNearestName, IsFarFromNames, TellsUnknown};
 
 use guppy::{Error, PackageGraph, PackageId};
 use guppy_arguments::{CargoFault, nearest_of};
-use guppy_command::Fault;
+use guppy_process::Fault;
 use std::alloc::AllocError;
 
 // The name of each package.

@@ -4,7 +4,8 @@ ghost use Rattle.guppy_cargo.specs.Words.{IsJsonAnswer, IsJsonFault};
 
 use crate::input::Json;
 use guppy_arguments::{CargoFault, arguments_in};
-use guppy_command::{Fault, FileFault, Files};
+use guppy_command::{FileFault, Files};
+use guppy_process::Fault;
 use guppy_program::answer_bytes;
 use std::alloc::Global;
 use std::str;

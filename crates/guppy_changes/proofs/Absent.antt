@@ -8,7 +8,7 @@ use Rattle.guppy_data.specs.declared.texts.package_id.PackageId.{PackageId}
 use Rattle.guppy_changes.specs.declared.mark.MarkOf.{MarkOf}
 use Rattle.guppy_changes.specs.Shown.{Marked, shown, all_shown}
 use Rattle.guppy_changes.specs.Missing.{AddsMissing, AreDiffering}
-use Rattle.guppy_changes.proofs.Elements.{map_take_more}
+use Rattle.guppy_data.proofs.Mapped.{one_more_mapped}
 
 last_cases : {X : Type 0} (xs : List X) (x y : X) → Contains (xs ++ x ∷ []) y → Contains xs y ⊎ (x ≡ y)
 last_cases xs x y h = elim (Contains-append_cases xs (x ∷ []) y h) as (λ _. Contains xs y ⊎ (x ≡ y)) [
@@ -72,13 +72,13 @@ module _ (ys : List Marked) (old : List (List ℕ)) where
 
 module _ (ys : List Marked) (old : List (List ℕ)) (marks : List MarkOf) (i : ℕ) (x : MarkOf) (below : i < length marks) (is : x ≡ get_or marks i x) where
   pub next_there : (new : List (List ℕ)) → AddsMissing (all_shown (take i marks)) ys old new → Contains ys (shown x) → AddsMissing (all_shown (take (i + 1) marks)) ys old new
-  next_there new a there = subst (λ xs. AddsMissing xs ys old new) (sym (map_take_more shown marks i x below is)) (missing_there ys old (all_shown (take i marks)) new (shown x) a there)
+  next_there new a there = subst (λ xs. AddsMissing xs ys old new) (sym (one_more_mapped shown marks i x below is)) (missing_there ys old (all_shown (take i marks)) new (shown x) a there)
 
   pub next_new : (ids more : List (Bor PackageId)) → more ≡ ids ++ x.id ∷ [] → AddsMissing (all_shown (take i marks)) ys old (map (λ id. id.now) ids) → ¬ Contains ys (shown x)
       → AddsMissing (all_shown (take (i + 1) marks)) ys old (map (λ id. id.now) more)
   next_new ids more pushed a absent =
       let told : map (λ (id : Bor PackageId). id.now) more ≡ map (λ (id : Bor PackageId). id.now) ids ++ x.id.now ∷ [] = ap (map (λ (id : Bor PackageId). id.now)) pushed ∙ map_push (λ (id : Bor PackageId). id.now) ids x.id in
-      subst (λ xs. AddsMissing xs ys old (map (λ (id : Bor PackageId). id.now) more)) (sym (map_take_more shown marks i x below is))
+      subst (λ xs. AddsMissing xs ys old (map (λ (id : Bor PackageId). id.now) more)) (sym (one_more_mapped shown marks i x below is))
       (subst (AddsMissing (all_shown (take i marks) ++ shown x ∷ []) ys old) (sym told) (missing_new ys old (all_shown (take i marks)) (map (λ (id : Bor PackageId). id.now) ids) (shown x) a absent))
 
 pub apart : (b : Bool) → b ≡ false → b ≡ true → ⊥

@@ -1,5 +1,4 @@
 pub mod Steps
-pub mod Elements
 pub mod Same
 pub mod Sets
 pub mod Absent

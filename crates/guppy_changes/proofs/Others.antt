@@ -6,7 +6,7 @@ use Rattle.guppy_changes.specs.Marks.{Mark}
 use Rattle.guppy_changes.specs.Changes.{State, IsMarked, IsUnchanged, AreOthers, none, fails, holds}
 use Rattle.guppy_changes.specs.Missing.{AreDiffering, IsKept}
 use Rattle.guppy_changes.specs.Shown.{Marked, AreMarks}
-use Rattle.guppy_changes.proofs.Elements.{map_take_more}
+use Rattle.guppy_data.proofs.Mapped.{one_more_mapped}
 
 module _ {X : Type 0} (P : X → Type 0) where
   others_new : {all others : List X} → AreOthers P all others → (x : X) → ¬ P x → AreOthers P (all ++ x ∷ []) (others ++ x ∷ [])
@@ -24,12 +24,12 @@ module _ {X : Type 0} (P : X → Type 0) where
     pub next_other : (those more : List B) (b : B) → more ≡ those ++ b ∷ [] → told b ≡ seen a → AreOthers P (map seen (take i all)) (map told those) → ¬ P (seen a) → AreOthers P (map seen (take (i + 1) all)) (map told more)
     next_other those more b pushed same h off =
         let there : map told more ≡ map told those ++ seen a ∷ [] = ap (map told) pushed ∙ map_push told those b ∙ ap (λ (x : X). map told those ++ x ∷ []) same in
-        subst (λ xs. AreOthers P xs (map told more)) (sym (map_take_more seen all i a below is))
+        subst (λ xs. AreOthers P xs (map told more)) (sym (one_more_mapped seen all i a below is))
         (subst (AreOthers P (map seen (take i all) ++ seen a ∷ [])) (sym there) (others_new h (seen a) off))
 
     -- or one that is
     pub next_kept : (those : List X) → AreOthers P (map seen (take i all)) those → P (seen a) → AreOthers P (map seen (take (i + 1) all)) those
-    next_kept those h on = subst (λ xs. AreOthers P xs those) (sym (map_take_more seen all i a below is)) (others_same h (seen a) on)
+    next_kept those h on = subst (λ xs. AreOthers P xs those) (sym (one_more_mapped seen all i a below is)) (others_same h (seen a) on)
 
 -- the same where the same holds
 pub others_along : {X : Type 0} {P Q : X → Type 0} → ((x : X) → P x ↔ Q x) → {all others : List X} → AreOthers P all others → AreOthers Q all others

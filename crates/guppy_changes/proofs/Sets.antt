@@ -3,7 +3,7 @@ use Rattle.std.proofs.Common.{◌≡◌, ◌∙◌, sym, subst, Bool, true, List
 use Rattle.std.specs.Prelude.{◌↔◌, Contains}
 use Rattle.std.specs.List.{Any}
 use Rattle.guppy_data.specs.Sorted.{KeepsUpTo}
-use Rattle.guppy_changes.proofs.Elements.{Contains-map, from_map}
+use Rattle.guppy_data.proofs.Mapped.{Contains-map, from_map}
 
 module _ {A M : Type 0} (eq : A → A → Bool) (v : A → M) (equal : (a b : A) → eq a b ≡ true → v a ≡ v b) (same : (a b : A) → v a ≡ v b → eq a b ≡ true) where
   -- a look-up in a set finds what is shown the same

@@ -9,7 +9,7 @@ use Rattle.guppy_graph.specs.Ids.{IsKnown, ids_of}
 use Rattle.guppy_built.specs.Rows.{Row}
 use Rattle.guppy_changes.specs.Marks.{Mark, HasMark, it_needs, it_asks_for_defaults, it_asks_for, it_is_built, it_is_built_with}
 use Rattle.guppy_changes.specs.Changes.{State, IsUnchanged, AreOthers, none, fails, holds, edges}
-use Rattle.guppy_changes.proofs.Elements.{from_map}
+use Rattle.guppy_data.proofs.Mapped.{from_map}
 
 -- where all are kept, there are no others
 none_other : {X : Type 0} {P : X → Type 0} {all others : List X} → AreOthers P all others → ((x : X) → Contains all x → P x) → others ≡ []

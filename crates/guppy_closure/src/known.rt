@@ -11,9 +11,10 @@ ghost use Rattle.guppy_closure.specs.Named.{IsExact, StandsAt, Knows};
 
 use crate::clause::Clause;
 use crate::closing::{Closed, closure};
-use crate::hints::{Hints, Spread};
+use crate::hints::{Spread, hints_at};
 use crate::named::{find, held, names_of, numbered};
 use crate::reasons::derivation;
+use guppy_search::Hints;
 use std::alloc::{AllocError, Global};
 use std::marker::Model;
 
@@ -78,7 +79,7 @@ impl<F: Ord + Copy + Spread> Known<F> {
             return Err(ClosureFault::TooManyClauses);
         }
         let names = names_of(alloc, &clauses)?;
-        let hints = Hints::of(alloc, &names)?;
+        let hints = hints_at(alloc, &names)?;
         let numbered = numbered(alloc, &clauses, &names, &hints)?;
         let closed = closure(alloc, &numbered, names.len())?;
         Ok(Known {

@@ -7,8 +7,8 @@ ghost use Rattle.guppy_closure.specs.Named.{IsExact, facts_of, HasNames, StandsA
 
 use crate::clause::Clause;
 use crate::fact::Facts;
-use crate::hints::{Hints, Spread};
-use guppy_search::IxSet;
+use crate::hints::{Spread, hinted, put};
+use guppy_search::{Hints, IxSet};
 use std::alloc::{AllocError, Global};
 
 /// The facts that the clauses name, ascending, each once.
@@ -94,10 +94,10 @@ fn add_name<F: Ord + Copy + Spread>(
     ensures named { OnOk result (Contains names.new.items fact.now) }
     ensures few { OnOk result (vec_len names.new ≤ vec_len names.old + 1) }
 {
-    if hints.find(names, fact).is_some() {
+    if hinted(hints, names, fact).is_some() {
         return Ok(());
     }
-    hints.put(fact, names.len());
+    put(hints, fact, names.len());
     names.push(*fact)?;
     Ok(())
 }
@@ -108,7 +108,7 @@ pub(crate) fn find<F: Ord + Spread>(names: &[F], hints: &Hints, fact: &F) -> Opt
     requires order { IsStrictlySortedBy F.cmp names.now }
     ensures { MatchOption result (¬ Contains names.now fact.now) (StandsAt names.now fact.now) }
 {
-    match hints.find(names, fact) {
+    match hinted(hints, names, fact) {
         Some(place) => Some(place),
         None => names.binary_search(fact).ok(),
     }

@@ -2,5 +2,4 @@ pub mod FirstItems
 pub mod ShownItems
 pub mod Asking
 pub mod ReadArguments
-pub mod Writes
 pub mod Paths

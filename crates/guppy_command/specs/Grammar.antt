@@ -2,7 +2,7 @@
 use Rattle.std.specs.Prelude.{◌≡◌, ℕ, ◌==◌, nat_eq, nat_lt, Bool, true, false, ◌||◌, List, [], ◌∷◌, ◌++◌, length, map, Option, Some, None, Result, Ok, Err, codes, if◌then◌else◌}
 use Rattle.std.specs.List.{after_first, before_first, find, position_or_len, starts_with}
 use Rattle.std.specs.Option.{option_map_or}
-use Rattle.std.specs.Str.{bytes_eq}
+use Rattle.std.specs.Str.{byte, bytes_eq}
 
 -- an option: what it is called, whether it takes a value, whether it may come again, and the commands that take it,
 -- where not all do
@@ -58,7 +58,7 @@ abbrev pub is_dashed : List ℕ → Bool
 is_dashed text = starts_with nat_eq text (codes "-")
 
 abbrev pub is_equals : ℕ → Bool
-is_equals b = b == 61
+is_equals b = b == byte "="
 
 -- the name of an option, as `--kinds` in `--kinds=dev`
 abbrev pub name_in : List ℕ → List ℕ

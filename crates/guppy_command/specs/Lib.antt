@@ -1,6 +1,3 @@
-pub mod Device
-pub mod Cause
-pub mod BuildFault
 pub mod Ids
 pub mod Grammar
 pub mod Platforms
@@ -11,5 +8,4 @@ pub mod Builds
 pub mod Paths
 pub mod Asked
 pub mod Shown
-pub mod Process
 pub mod Printed

@@ -1,7 +1,7 @@
 -- What is asked of every command: which links count, and how an answer is shown.
 use Rattle.std.specs.Prelude.{ℕ, ◌==◌, Bool, ◌&&◌, ◌||◌, List, Option, Some, None, is_some, codes, if◌then◌else◌}
 use Rattle.std.specs.List.{list_all, list_any, filter, slice_split}
-use Rattle.std.specs.Str.{bytes_eq}
+use Rattle.std.specs.Str.{byte, bytes_eq}
 use Rattle.guppy_data.specs.declared.records.LinkRecord.{LinkRecord}
 use Rattle.guppy_platforms.specs.Counting.{is_asked_for}
 use Rattle.guppy_command.specs.declared.options.Kinds.{Kinds}
@@ -24,7 +24,7 @@ is_kind word = is_some (section_of word)
 
 -- what stands before, between and after the commas
 abbrev pub names_in : List ℕ → List (List ℕ)
-names_in word = slice_split (λ b. b == 44) word
+names_in word = slice_split (λ b. b == byte ",") word
 
 -- the name is one of those in the word
 abbrev pub names_kind : List ℕ → List ℕ → Bool

@@ -5,7 +5,7 @@ use Rattle.guppy_command.specs.declared.options.Kinds.{Kinds}
 use Rattle.guppy_command.specs.declared.options.Options.{Options}
 
 abbrev pub newline : List ℕ
-newline = 10 ∷ []
+newline = codes "\n"
 
 -- what ends a line of an answer that is a list: a newline, or a NUL
 abbrev pub line_end : Options → List ℕ
@@ -21,7 +21,7 @@ lines_of end texts = flat_map (line_of end) texts
 
 -- these texts, parted by spaces
 abbrev pub joined : List (List ℕ) → List ℕ
-joined texts = join_by (λ text. text) (32 ∷ []) texts
+joined texts = join_by (λ text. text) (codes " ") texts
 
 abbrev pub truth_line : Bool → List ℕ
 truth_line answer = line_of newline (if answer then codes "true" else codes "false")

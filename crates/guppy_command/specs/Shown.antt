@@ -1,4 +1,4 @@
--- Commands, arguments and faults without where they lie in memory.
+-- Commands, arguments and what is misread without where they lie in memory.
 use Rattle.std.specs.Prelude.{◌≡◌, Bool, ℕ, List, map, Option, Some, None, option_map, is_some, IfSome, Result, Ok, Err}
 use Rattle.std.specs.Borrow.{Bor}
 use Rattle.std.specs.String.{string_bytes}
@@ -13,12 +13,8 @@ use Rattle.guppy_command.specs.declared.command.Command.{Command as GivenCommand
 use Rattle.guppy_command.specs.declared.command.Command.TheVariants.{Reach, Depends, Why, Order, Roots, Links, Cycles, Duplicates, Built, Features, WhyFeature, Verify, PublishOrder, Dot, Affected}
 use Rattle.guppy_command.specs.declared.asked.Asked.{Asked as GivenAsked}
 use Rattle.guppy_command.specs.declared.asked.Wanted.{Wanted as GivenWanted}
-use Rattle.guppy_command.specs.declared.fault.Fault.{Fault}
-use Rattle.guppy_command.specs.declared.fault.Fault.TheVariants.{Library, BadArguments, NoWalk, Unpublishable, Build, InputFailed, OutputFailed, Before}
 use Rattle.guppy_command.specs.Grammar.{OptionRow, Program, Argument, option, word, Misread, no_option, no_value, needless_value, repeated, not_taken, no_command, unknown_command, bad_words, bad_kinds, bad_resolver, bad_format, no_flags, lone_platform, lone_host, all_ignored, no_paths, cfgs_failed, bad_cfg, paths_failed, unended_paths, bad_also, before_failed}
 use Rattle.guppy_command.specs.Asked.{Asked, Wanted}
-use Rattle.guppy_command.specs.BuildFault.{build_cause_of}
-use Rattle.guppy_command.specs.Cause.{Cause, library, bad_arguments, no_walk, unpublishable, build, bad_before, input_failed, output_failed}
 use Rattle.guppy_command.specs.Command.{BuildRequest, Command, reach, depends, why, order, roots, links, cycles, duplicates, built, features, why_feature, verify, publish_order, dot, affected}
 
 abbrev pub texts : List (Bor (List ℕ)) → List (List ℕ)
@@ -125,13 +121,3 @@ Unless shown P (Err misread) = IfSome (misread_shown misread) (λ told. P (Err t
 -- the outcome is this one, unless memory ran out
 abbrev pub Gives : {T A : Type 0} → (T → A) → Result A Misread → Result T GivenMisread → Type 0
 Gives shown outcome result = Unless shown (λ other. outcome ≡ other) result
-
-abbrev pub cause_shown : Fault → Cause
-cause_shown (Library error) = library error
-cause_shown BadArguments = bad_arguments
-cause_shown (NoWalk from to) = no_walk (string_bytes from) (string_bytes to)
-cause_shown (Unpublishable member needed) = unpublishable (string_bytes member) (string_bytes needed)
-cause_shown (Build fault) = build (build_cause_of fault)
-cause_shown (Before text) = bad_before (string_bytes text)
-cause_shown InputFailed = input_failed
-cause_shown OutputFailed = output_failed

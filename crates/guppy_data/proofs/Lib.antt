@@ -7,3 +7,4 @@ pub mod NamedFeatures
 pub mod Statuses
 pub mod Ternaries
 pub mod Replaced
+pub mod Mapped

@@ -20,9 +20,9 @@ pub use platform::status::{PlatformEval, PlatformStatus, PlatformStatusImpl};
 pub use platform::target::{TargetEval, TargetSpec};
 pub use platform::ternary::EnabledTernary;
 pub use records::{
-    BuildTargetKindRecord, BuildTargetRecord, DepRequiredOrOptional, DependencyReqImpl, LinkRecord,
-    OwnedBuildTargetId, PackagePublishRecord, PackageRecord, PackageSourceRecord, Records,
-    WorkspaceRecord,
+    BuildTargetKindRecord, BuildTargetRecord, DepRequiredOrOptional, DependencyReqImpl, Details,
+    LinkRecord, OwnedBuildTargetId, PackagePublishRecord, PackageRecord, PackageSourceRecord,
+    Records, WorkspaceRecord,
 };
 pub use texts::component::{Component, Components};
 pub use texts::dependency_kind::DependencyKind;

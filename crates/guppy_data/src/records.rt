@@ -431,3 +431,12 @@ pub struct Records {
     /// The workspace.
     pub workspace: WorkspaceRecord,
 }
+
+/// Whether the details of packages and links are read too.
+#[derive(Clone, Copy, Debug)]
+pub enum Details {
+    /// They are read.
+    With,
+    /// They are left empty.
+    Without,
+}

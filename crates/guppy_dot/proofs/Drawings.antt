@@ -26,7 +26,7 @@ use Rattle.guppy.specs.Query.{IsSetOfIds, SetData}
 use Rattle.guppy_graph.specs.Members.{member_path}
 use Rattle.guppy.specs.Views.{LinkData, link_in, package_in}
 use Rattle.guppy.specs.Walked.{AreLinksInside, AreWalkedLinks, IsWhole}
-use Rattle.guppy.proofs.CyclicComponents.{Contains-map, from_map}
+use Rattle.guppy_data.proofs.Mapped.{Contains-map, from_map}
 use Rattle.guppy_dot.specs.Dot.{AreEdges, AreNodes, AreOnceAll, Edge, IsDrawn, IsEdge, IsLinkWithin, IsNode, Node, ShowsLink, style_of}
 use Rattle.guppy_dot.proofs.GivenIds.{iff_trans}
 

@@ -12,8 +12,8 @@ use Rattle.guppy_data.specs.declared.texts.error.Error.TheVariants.{PackageGraph
 use Rattle.guppy_data.specs.declared.records.PackageRecord.{PackageRecord}
 use Rattle.guppy_graph.specs.Ids.{IsKnown}
 use Rattle.guppy_graph.specs.Refused.{NamesId, named_id, IsFirstUnknown, EndsInUnknown}
+use Rattle.guppy_graph.proofs.UnknownTexts.{NamesText-along, first_unknown-read}
 use Rattle.guppy.specs.Read.{ReadsTo, text_now}
-use Rattle.guppy.proofs.UnknownTexts.{NamesText-along, first_unknown-read}
 
 -- where no item is left, all that were left at first were given
 pub all_given : {S A B : Type 0} (view : A → B) (rest : S → List B) (s t u : S) (given : List A) → Yields (YieldsFirstBy view rest) s given t → YieldsFirstBy view rest t None u → map view given ≡ rest s

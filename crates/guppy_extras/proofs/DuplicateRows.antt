@@ -7,7 +7,7 @@ use Rattle.std.proofs.lemmas.List.{length-map, map_push}
 use Rattle.std.proofs.lemmas.Option.{slice_get_within}
 use Rattle.guppy_core.specs.Listing.{Stands}
 use Rattle.guppy_graph.proofs.Lists.{in_some, some_of}
-use Rattle.guppy.specs.DataTypes.records.PackageRecord.{PackageRecord}
+use Rattle.guppy_data.specs.declared.records.PackageRecord.{PackageRecord}
 use Rattle.guppy_graph.specs.Graph.{GraphData}
 use Rattle.guppy.specs.Views.{graph_of, graph_packages, package_position}
 use Rattle.guppy.specs.declared.metadata.PackageMetadata.{PackageMetadata}

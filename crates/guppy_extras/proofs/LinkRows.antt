@@ -8,8 +8,8 @@ use Rattle.std.proofs.lemmas.List.{append-nil, map_push}
 use Rattle.guppy_search.specs.Links.{numbers_where}
 use Rattle.guppy_search.specs.declared.graph_core.link.Link.{Link}
 use Rattle.guppy_search.specs.declared.ix.direction.DependencyDirection.TheVariants.{Reverse}
-use Rattle.guppy.specs.DataTypes.records.LinkRecord.{LinkRecord}
-use Rattle.guppy.specs.DataTypes.records.PackageRecord.{PackageRecord}
+use Rattle.guppy_data.specs.declared.records.LinkRecord.{LinkRecord}
+use Rattle.guppy_data.specs.declared.records.PackageRecord.{PackageRecord}
 use Rattle.guppy.specs.DirectLinks.{links_leaving}
 use Rattle.guppy_graph.specs.Graph.{GraphData}
 use Rattle.guppy_graph.specs.Ids.{id_at}

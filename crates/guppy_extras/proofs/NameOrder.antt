@@ -13,7 +13,7 @@ use Rattle.std.proofs.lemmas.Map.Lookups.{exact_bytes}
 use Rattle.semver.specs.Eval.{precedence_cmp}
 use Rattle.semver.specs.OrderLaws.{precedence_total}
 use Rattle.semver.specs.declared.Version.{Version}
-use Rattle.guppy.specs.DataTypes.records.PackageRecord.{PackageRecord}
+use Rattle.guppy_data.specs.declared.records.PackageRecord.{PackageRecord}
 use Rattle.guppy_graph.proofs.Lookups.{not_less, equal_of_both}
 use Rattle.guppy_extras.specs.Duplicates.{by_name}
 

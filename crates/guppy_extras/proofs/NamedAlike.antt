@@ -20,7 +20,7 @@ use Rattle.guppy_core.specs.Listing.{Stands, IsOnce}
 use Rattle.guppy_core.proofs.Listings.{stands_contains, contains_stands}
 use Rattle.guppy_graph.proofs.KeyIndexes.{below_range}
 use Rattle.guppy_graph.proofs.Lists.{All-slice_get, some_at, some_of, of_some}
-use Rattle.guppy.specs.DataTypes.records.PackageRecord.{PackageRecord}
+use Rattle.guppy_data.specs.declared.records.PackageRecord.{PackageRecord}
 use Rattle.guppy_graph.specs.Graph.{GraphData}
 use Rattle.guppy.specs.Iterators.{packages_of}
 use Rattle.guppy.specs.PackageNames.{HasPackageName}

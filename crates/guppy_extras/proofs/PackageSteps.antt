@@ -13,7 +13,7 @@ use Rattle.guppy_search.specs.declared.ix.direction.DependencyDirection.TheVaria
 use Rattle.guppy_search.specs.Links.{links_at}
 use Rattle.guppy_search.specs.IxSet.{has, IsIn}
 use Rattle.guppy_search.proofs.Members.{member_count-le-length}
-use Rattle.guppy.specs.DataTypes.records.LinkRecord.{LinkRecord}
+use Rattle.guppy_data.specs.declared.records.LinkRecord.{LinkRecord}
 use Rattle.guppy.specs.declared.link.PackageLink.{PackageLink}
 use Rattle.guppy.specs.declared.metadata.PackageMetadata.{PackageMetadata}
 use Rattle.guppy_graph.specs.Graph.{GraphData}

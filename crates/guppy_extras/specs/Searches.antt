@@ -3,7 +3,7 @@ use Rattle.std.specs.Prelude.{◌≡◌, ℕ, Bool, List, length, map, All, Some
 use Rattle.std.specs.Option.{option_map}
 use Rattle.std.specs.Borrow.{Bor}
 use Rattle.guppy_search.specs.declared.graph_core.link.Link.{Link}
-use Rattle.guppy.specs.DataTypes.records.LinkRecord.{LinkRecord}
+use Rattle.guppy_data.specs.declared.records.LinkRecord.{LinkRecord}
 use Rattle.guppy_graph.specs.Graph.{GraphData}
 use Rattle.guppy.specs.Views.{graph_of, graph_packages, package_position, link_graph, link_number}
 use Rattle.guppy.specs.declared.metadata.PackageMetadata.{PackageMetadata}

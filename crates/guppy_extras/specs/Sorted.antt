@@ -4,7 +4,7 @@ use Rattle.std.specs.Borrow.{Bor}
 use Rattle.std.specs.List.Sorted.{IsPermutation, IsSorted}
 use Rattle.std.specs.Option.{option_cmp}
 use Rattle.std.specs.String.{string_bytes}
-use Rattle.guppy.specs.DataTypes.records.PackageRecord.{PackageRecord}
+use Rattle.guppy_data.specs.declared.records.PackageRecord.{PackageRecord}
 use Rattle.guppy_graph.specs.Graph.{GraphData}
 use Rattle.guppy.specs.Iterators.{packages_of}
 use Rattle.guppy.specs.Views.{graph_packages, package_position, package_seen}

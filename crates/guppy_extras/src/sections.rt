@@ -7,7 +7,7 @@
 //! }
 //! ```
 ghost use Rattle.std.specs.Prelude.{◌≡◌};
-ghost use Rattle.guppy.specs.Platform.{question_of};
+ghost use Rattle.guppy_data.specs.Platform.{question_of};
 ghost use Rattle.guppy.specs.Views.{OfLink};
 ghost use Rattle.guppy_target.specs.Sections.{section_value};
 

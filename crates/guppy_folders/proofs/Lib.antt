@@ -1,3 +1,4 @@
+pub use Rattle.guppy_data.proofs.Mapped
 pub mod Elements
 pub mod LastNames
 pub mod Prefixes

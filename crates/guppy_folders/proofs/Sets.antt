@@ -16,7 +16,7 @@ use Rattle.guppy_data.specs.declared.texts.component.Component.{Component}
 use Rattle.guppy_folders.specs.Folders.{IsName, IsInside, EndsInNoName, lists_in}
 use Rattle.guppy_folders.proofs.LastNames.{All-more, last_of, last_is_name}
 use Rattle.guppy_folders.proofs.Prefixes.{equal_shown, shown_equal}
-use Rattle.guppy_folders.proofs.Elements.{Contains-map, from_map}
+use Rattle.guppy_data.proofs.Mapped.{Contains-map, from_map}
 
 both_true : (a b : Bool) → (a && b) ≡ true → (a ≡ true) × (b ≡ true)
 both_true true b h = (refl, h)

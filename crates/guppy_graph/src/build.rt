@@ -11,7 +11,7 @@ ghost use Rattle.guppy_graph.specs.Accepted.{ArePackagesAccepted};
 ghost use Rattle.guppy_graph.specs.Links.{AreEndsKnown, AreEndsOf};
 ghost use Rattle.guppy_graph.specs.Refused.{TellsFault, IsRefusal};
 
-use crate::hints::Hints;
+use crate::hints::IdHints;
 use crate::joined::{ids_in, joined_ids};
 use crate::keyed::index_from;
 use crate::keys::{
@@ -41,7 +41,7 @@ pub(crate) struct Indexes {
     /// For each package, the places of its build targets by ID.
     pub(crate) by_target: Vec<Vec<usize>>,
     /// Where the package with an ID may be.
-    pub(crate) hints: Hints,
+    pub(crate) hints: IdHints,
 }
 
 impl Indexes {
@@ -230,7 +230,7 @@ fn indexes_of(alloc: Global, ids: &Ids<'_>, workspace: &WorkspaceRecord) -> Resu
     let by_name = distinct_names(alloc, packages, by_id.as_slice())?;
     let members = workspace.default_members.as_slice();
     check_members(ids, by_id.as_slice(), members)?;
-    let hints = Hints::new(alloc, ids)?;
+    let hints = IdHints::new(alloc, ids)?;
     Ok(Indexes {
         by_id,
         by_path,
@@ -241,7 +241,7 @@ fn indexes_of(alloc: Global, ids: &Ids<'_>, workspace: &WorkspaceRecord) -> Resu
 }
 
 // Guesses at the positions of the ends of the first records, so many.
-fn guesses_of(hints: &Hints, records: &[LinkRecord]) -> [(usize, usize); GUESSES] {
+fn guesses_of(hints: &IdHints, records: &[LinkRecord]) -> [(usize, usize); GUESSES] {
     let mut guesses = [(0, 0); GUESSES];
     for (guess, entry) in guesses.iter_mut().zip(records) {
         *guess = (hints.guess(&entry.from), hints.guess(&entry.to));

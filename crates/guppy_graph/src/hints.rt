@@ -1,12 +1,10 @@
 //! Hints at where the package with an ID is.
-ghost use Rattle.std.specs.Prelude.{◌<◌, length};
+ghost use Rattle.std.specs.Prelude.{◌≤◌, length, IsTrue};
 
 use crate::keys::{Ids, position_of_id};
 use guppy_data::PackageId;
+use guppy_search::Hints;
 use std::alloc::{AllocError, Global};
-
-// How many places of the table are looked at for one hash.
-const TRIES: usize = 4;
 
 // How many places the table has for each package: so many that most IDs have their first place to themselves.
 const ROOM: usize = 4;
@@ -14,15 +12,10 @@ const ROOM: usize = 4;
 // What the first hash of an ID is mixed with, and what the second one is.
 const FACTORS: [usize; 2] = [0x9E37_79B9_7F4A_7C15, 0xC2B2_AE3D_27D4_EB4F];
 
-// A place with no hint: the position of no package.
-const NO_HINT: u32 = u32::MAX;
-
-/// Positions of packages, each at one of the few places that the two hashes of its ID name. A hint is believed
-/// only where the package there has the ID, so the table may hold anything.
+/// Positions of packages by the two hashes of their IDs. A hint counts only where the package there has the ID.
 #[derive(Drop)]
-pub(crate) struct Hints {
-    table: Vec<u32>,
-    ghost room: { 4 < length table.items },
+pub(crate) struct IdHints {
+    hints: Hints,
 }
 
 // A number made of the text, eight bytes at a time. No contract needs anything of it.
@@ -44,53 +37,34 @@ fn mixed(number: usize, factor: usize) -> usize {
     product ^ product >> 32
 }
 
-impl Hints {
-    ghost use Rattle.std.specs.Prelude.{◌≤◌, ◌+◌, IfSome, MatchOption};
+impl IdHints {
+    ghost use Rattle.std.specs.Prelude.{◌<◌, ◌^◌, IfSome, MatchOption};
     ghost use Rattle.guppy_graph.specs.Keys.{NoneBelow};
     ghost use Rattle.guppy_graph.specs.Ids.{HasId};
     ghost use Rattle.guppy_graph.specs.Indexes.{IsIdIndex};
 
     /// Hints for all packages but those whose places are taken.
-    pub(crate) fn new(alloc: Global, ids: &Ids<'_>) -> Result<Hints, AllocError>
+    pub(crate) fn new(alloc: Global, ids: &Ids<'_>) -> Result<IdHints, AllocError>
         requires { length ids.now.packages.now ≤ 4294967295 }
     {
         let count = ids.packages.len();
-        let mut hints = Hints {
-            table: vec![in alloc; NO_HINT; ROOM * count + TRIES + 1]?,
+        let mut hints = IdHints {
+            hints: Hints::empty(alloc, ROOM * count)?,
         };
         for position in 0..count {
             if let Some(id) = ids.text_at(position) {
-                hints.put(id, position as u32);
+                hints.put(id, position);
             }
         }
         Ok(hints)
     }
 
-    // The first of the places that one of the ID's hashes names: it lies as far into the table as the hash lies into all
-    // numbers, since to multiply takes a tenth of the time that a division takes.
-    fn first_place(&self, id: &str, factor: usize) -> usize
-        ensures { result + 4 < length self.now.table.items }
-    {
-        let (_, place) = hash_of(id, factor).carrying_mul(self.table.len() - TRIES, 0);
-        place
-    }
-
-    // Puts the position at the first of the places of the hash that is free, and tells whether there is one.
-    fn put_by(&mut self, id: &str, factor: usize, position: u32) -> bool {
-        let first = self.first_place(id, factor);
-        for place in first..first + TRIES {
-            if self.table[place] == NO_HINT {
-                self.table[place] = position;
-                return true;
-            }
-        }
-        false
-    }
-
     // Puts the position at the first of the places for the ID that is free.
-    fn put(&mut self, id: &str, position: u32) {
+    fn put(&mut self, id: &str, position: usize)
+        requires { position < 2 ^ 32 }
+    {
         for factor in FACTORS {
-            if self.put_by(id, factor, position) {
+            if self.hints.put(hash_of(id, factor), position) {
                 return;
             }
         }
@@ -98,21 +72,19 @@ impl Hints {
 
     /// The position that is most likely the ID's. Nothing is compared.
     pub(crate) fn guess(&self, id: &PackageId) -> usize {
-        self.table[self.first_place(id.repr(), FACTORS[0])] as usize
+        self.hints.guess(hash_of(id.repr(), FACTORS[0]))
     }
 
     // The package with the ID, if there is a hint at it at a place of the hash.
     fn hinted_by(&self, ids: &Ids<'_>, id: &str, factor: usize) -> Option<usize>
         ensures { IfSome result (HasId ids.now.packages.now id.now) }
     {
-        let first = self.first_place(id, factor);
-        for place in first..first + TRIES {
-            let position = self.table[place] as usize;
-            if ids.has_id(position, id) {
-                return Some(position);
-            }
-        }
-        None
+        self.hints.find(
+            hash_of(id, factor),
+            |position: usize| -> bool
+                ensures { IsTrue result → HasId ids.entry.now.packages.now id.entry.now position }
+            { ids.has_id(position, id) },
+        )
     }
 
     // The package with the ID, if there is a hint at it.

@@ -3,7 +3,7 @@ use Rattle.std.specs.Prelude.{◌≡◌, ℕ, false, List, ◌++◌}
 use Rattle.guppy_lines.specs.declared.fault.RunFault.{RunFault}
 use Rattle.guppy_lines.specs.declared.fault.RunFault.TheVariants.{Library, BadLine}
 use Rattle.guppy_data.specs.declared.records.Records.{Records}
-use Rattle.guppy_command.specs.Cause.{OrMemory}
+use Rattle.guppy_process.specs.Cause.{OrMemory}
 use Rattle.guppy_lines.specs.Text.{Statement, is_good, IsFirstBadLine}
 use Rattle.guppy_lines.specs.Records.{AreRecordsOf}
 

@@ -2,8 +2,8 @@
 use Rattle.std.specs.Prelude.{ℕ, List, ◌++◌, codes, string_bytes}
 use Rattle.std.specs.Fmt.{decimal}
 use Rattle.guppy_data.specs.Texts.{error_text}
-use Rattle.guppy_command.specs.BuildFault.{build_cause_of, build_fault_text}
-use Rattle.guppy_command.specs.Cause.{Cause, library, bad_arguments, no_walk, unpublishable, build, bad_before, bad_input, input_failed, output_failed}
+use Rattle.guppy_process.specs.Fault.{build_cause_of, build_fault_text}
+use Rattle.guppy_process.specs.Cause.{Cause, library, bad_arguments, no_walk, unpublishable, build, bad_before, bad_input, input_failed, output_failed}
 use Rattle.guppy_lines.specs.declared.fault.RunFault.{RunFault}
 use Rattle.guppy_lines.specs.declared.fault.RunFault.TheVariants.{Library, BadArguments, NoWalk, Unpublishable, Build, Before, BadLine, InputFailed, OutputFailed}
 

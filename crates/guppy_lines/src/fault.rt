@@ -4,8 +4,8 @@ ghost use Rattle.guppy_data.specs.declared.texts.error.Error.TheVariants.{OutOfM
 ghost use Rattle.guppy_lines.specs.declared.fault.RunFault.TheVariants.{Library};
 ghost use Rattle.guppy_lines.specs.RunFault.{cause_of, fault_text, status_of};
 
-use guppy_command::{BuildFault, Fault, ProgramFault};
 use guppy_data::Error;
+use guppy_process::{BuildFault, Fault, ProgramFault};
 use std::alloc::{AllocError, AllocFailed};
 use std::fmt;
 

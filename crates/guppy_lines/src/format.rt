@@ -15,7 +15,7 @@ use guppy_command::table::{
     NULL, PLATFORM, RESOLVER, TESTS, WORKSPACE,
 };
 use guppy_command::{Asked, Files, Misread, OptionRow, Program};
-use guppy_data::{PackageRecord, Records, VerifyFault};
+use guppy_data::{Details, PackageRecord, Records, VerifyFault};
 use guppy_print::{Format, has_package};
 use std::alloc::{AllocError, Global};
 
@@ -136,7 +136,7 @@ impl Format for Lines {
         }
     }
 
-    fn records_of(alloc: Global, input: &[u8], _details: bool) -> Result<Records, RunFault> {
+    fn records_of(alloc: Global, input: &[u8], _details: Details) -> Result<Records, RunFault> {
         records_of(alloc, input)
     }
 

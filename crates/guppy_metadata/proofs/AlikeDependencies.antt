@@ -9,6 +9,8 @@ use Rattle.json.specs.Json.{Json}
 use Rattle.semver.specs.Identifiers.{comparator_view}
 use Rattle.guppy_data.specs.declared.records.DependencyReqImpl.{DependencyReqImpl}
 use Rattle.guppy_data.specs.declared.records.DepRequiredOrOptional.{DepRequiredOrOptional}
+use Rattle.guppy_data.specs.declared.records.Details.{Details}
+use Rattle.guppy_data.specs.declared.records.Details.TheVariants.{With, Without}
 use Rattle.guppy_data.specs.declared.records.LinkRecord.{LinkRecord}
 use Rattle.guppy_data.specs.declared.texts.dependency_kind.DependencyKind.{DependencyKind}
 use Rattle.guppy_data.specs.declared.texts.dependency_kind.DependencyKind.TheVariants.{Normal, Development, Build}
@@ -46,12 +48,12 @@ same_itself x = record {
 }
 
 -- one JSON asks for the same features
-asked_once : (details : Bool) (d : Json) (texts others : List (List ℕ)) → AreAsked details d texts → AreAsked details d others → texts ≡ others
-asked_once true d texts others are also = texts_once d (codes "features") texts others (are.told refl) (also.told refl)
-asked_once false d texts others are also = are.left_out refl ∙ sym (also.left_out refl)
+asked_once : (details : Details) (d : Json) (texts others : List (List ℕ)) → AreAsked details d texts → AreAsked details d others → texts ≡ others
+asked_once With d texts others are also = texts_once d (codes "features") texts others (are.told refl) (also.told refl)
+asked_once Without d texts others are also = are.left_out refl ∙ sym (also.left_out refl)
 
 -- one JSON declares the same
-pub declared_once : (details : Bool) (d : Json) (x y : Declared) → IsDeclared details d x → IsDeclared details d y → IsSame x y
+pub declared_once : (details : Details) (d : Json) (x y : Declared) → IsDeclared details d x → IsDeclared details d y → IsSame x y
 declared_once details d x y is also = record {
   name = text_once d (codes "name") x.name.now y.name.now is.name also.name;
   rename = optional_text_once d (codes "rename") (option_copied x.rename) (option_copied y.rename) is.rename also.rename;

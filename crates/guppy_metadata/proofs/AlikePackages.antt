@@ -1,13 +1,14 @@
 -- Packages that are told by objects with the same members, but for the dependencies.
-use Rattle.std.proofs.Common.{◌≡◌, ◌∙◌, ℕ, Bool, true, false, List, map, Option, None, Some, IsSomeAnd, option_map, option_and_then, refl, sym, ap, subst, codes}
+use Rattle.std.proofs.Common.{◌≡◌, ◌∙◌, ℕ, true, false, List, map, Option, None, Some, IsSomeAnd, option_map, option_and_then, refl, sym, ap, subst, codes}
 use Rattle.std.specs.Prelude.{unwrap_or, string_bytes}
 use Rattle.std.specs.Str.{bytes_eq}
-use Rattle.std.proofs.lemmas.Bool.{false≢true}
 use Rattle.json.specs.Json.{Json, null}
 use Rattle.json.specs.Find.{get}
 use Rattle.semver.specs.declared.Version.{Version}
 use Rattle.serde_json.specs.View.{view}
 use Rattle.guppy_data.specs.declared.records.BuildTargetRecord.{BuildTargetRecord}
+use Rattle.guppy_data.specs.declared.records.Details.{Details}
+use Rattle.guppy_data.specs.declared.records.Details.TheVariants.{With, Without}
 use Rattle.guppy_data.specs.declared.records.PackagePublishRecord.{PackagePublishRecord}
 use Rattle.guppy_data.specs.declared.records.PackagePublishRecord.TheVariants.{Unrestricted, Registries}
 use Rattle.guppy_data.specs.declared.records.PackageRecord.{PackageRecord}
@@ -19,9 +20,9 @@ use Rattle.guppy_metadata.specs.Target.{IsTarget}
 use Rattle.guppy_metadata.proofs.ObjectMembers.{texts_alike}
 
 -- what is asked for without details is asked for with them
-asked_too : (details : Bool) (name : List ℕ) → is_asked false name ≡ true → is_asked details name ≡ true
-asked_too true name asked = refl
-asked_too false name asked = asked
+asked_too : (details : Details) (name : List ℕ) → is_asked Without name ≡ true → is_asked details name ≡ true
+asked_too With name asked = refl
+asked_too Without name asked = asked
 
 present_alike : (d e : Json) (name : List ℕ) → get name d ≡ get name e → option_and_then unless_null (get name e) ≡ option_and_then unless_null (get name d)
 present_alike d e name same = ap (option_and_then unless_null) (sym same)
@@ -30,11 +31,11 @@ text_same : (d e : Json) (name : List ℕ) (text : Option (List ℕ)) → get na
 text_same d e name text same is = present_alike d e name same ∙ is
 
 -- what is read with details or without
-module _ (details : Bool) (d e : Json) (same : AreAlike details d e) where
-  pub plain_same : (name : List ℕ) → bytes_eq (codes "dependencies") name ≡ false → is_asked false name ≡ true → get name d ≡ get name e
+module _ (details : Details) (d e : Json) (same : AreAlike details d e) where
+  pub plain_same : (name : List ℕ) → bytes_eq (codes "dependencies") name ≡ false → is_asked Without name ≡ true → get name d ≡ get name e
   plain_same name no_dependencies plain = same name (no_dependencies, asked_too details name plain)
 
-  pub text_alike : (name : List ℕ) (text : Option (List ℕ)) → bytes_eq (codes "dependencies") name ≡ false → is_asked false name ≡ true → IsText name d text → IsText name e text
+  pub text_alike : (name : List ℕ) (text : Option (List ℕ)) → bytes_eq (codes "dependencies") name ≡ false → is_asked Without name ≡ true → IsText name d text → IsText name e text
   text_alike name text no_dependencies plain is = text_same d e name text (plain_same name no_dependencies plain) is
 
   publish_alike : (publish : PackagePublishRecord) → IsPublishable d publish → IsPublishable e publish
@@ -59,7 +60,7 @@ module _ (details : Bool) (d e : Json) (same : AreAlike details d e) where
   }
 
 -- the details
-module _ (d e : Json) (same : AreAlike true d e) where
+module _ (d e : Json) (same : AreAlike With d e) where
   own_same : (name : List ℕ) → bytes_eq (codes "dependencies") name ≡ false → get name d ≡ get name e
   own_same name no_dependencies = same name (no_dependencies, refl)
 
@@ -91,25 +92,25 @@ module _ (d e : Json) (same : AreAlike true d e) where
   }
 
 -- the details, where they are read
-pub detailed_alike : (details : Bool) (d e : Json) (same : AreAlike details d e) (r : PackageRecord) → HasDetails details d r → HasDetails details e r
-detailed_alike true d e same r is = record {
+pub detailed_alike : (details : Details) (d e : Json) (same : AreAlike details d e) (r : PackageRecord) → HasDetails details d r → HasDetails details e r
+detailed_alike With d e same r is = record {
   described = λ all. described_alike d e same r (is.described all);
   filled = λ all. filled_alike d e same r (is.filled all);
   plain = is.plain;
 }
-detailed_alike false d e same r is = record {
-  described = λ all. absurd (false≢true all);
-  filled = λ all. absurd (false≢true all);
+detailed_alike Without d e same r is = record {
+  described = λ all. cc;
+  filled = λ all. cc;
   plain = is.plain;
 }
 
 -- the build targets, where they are read
-pub targets_alike : (details : Bool) (d e : Json) (same : AreAlike details d e) (targets : List BuildTargetRecord) → AreAskedTargets details d targets → AreAskedTargets details e targets
-targets_alike true d e same targets are = record {
+pub targets_alike : (details : Details) (d e : Json) (same : AreAlike details d e) (targets : List BuildTargetRecord) → AreAskedTargets details d targets → AreAskedTargets details e targets
+targets_alike With d e same targets are = record {
   told = λ all. subst (λ o. IsSomeAnd o (λ told. IsListOf IsTarget told targets)) (own_same d e same (codes "targets") refl) (are.told all);
   left_out = are.left_out;
 }
-targets_alike false d e same targets are = record {
-  told = λ all. absurd (false≢true all);
+targets_alike Without d e same targets are = record {
+  told = λ all. cc;
   left_out = are.left_out;
 }

@@ -9,6 +9,7 @@ use Rattle.json.specs.Json.{Json}
 use Rattle.json.specs.Find.{get}
 use Rattle.indexmap.specs.IndexMap.{IndexMap}
 use Rattle.semver.specs.Identifiers.{parts_of}
+use Rattle.guppy_data.specs.declared.records.Details.{Details}
 use Rattle.guppy_data.specs.declared.records.LinkRecord.{LinkRecord}
 use Rattle.guppy_data.specs.declared.records.PackageRecord.{PackageRecord}
 use Rattle.guppy_metadata.specs.declared.types.Package.{Package}
@@ -103,11 +104,11 @@ module _ (root : List ℕ) (is_member : List ℕ → Bool) where
   records_of_whole (p ∷ ps) (q ∷ qs) (r ∷ rs) all are = (record_of_whole p q r all.0 are.0, records_of_whole ps qs rs all.1 are.1)
 
 -- packages that are read are whole
-pub whole_left : (details : Bool) (d : Json) (packages : List Package) → IsSomeAnd (get (codes "packages") d) (λ told. IsListOf (IsParsedPackage details) told packages) → AreSlimPackages details d packages
+pub whole_left : (details : Details) (d : Json) (packages : List Package) → IsSomeAnd (get (codes "packages") d) (λ told. IsListOf (IsParsedPackage details) told packages) → AreSlimPackages details d packages
 whole_left details d packages told = record { whole = packages; told = told; left = none_let packages }
 
 -- packages that are held, where some are let go while links are read
-module _ {A : Type 0} (items : A → List Package) (details : Bool) (d e : Json) (same : get (codes "packages") d ≡ get (codes "packages") e) where
+module _ {A : Type 0} (items : A → List Package) (details : Details) (d e : Json) (same : get (codes "packages") d ≡ get (codes "packages") e) where
   pub still_left : (old : Option A) → IfSome old (λ a. AreSlimPackages details d (items a)) → IfSome old (λ a. AreSlimPackages details e (items a))
   still_left None left = tt
   still_left (Some a) left = record { whole = left.whole; told = told_alike d e details left.whole same left.told; left = left.left }

@@ -9,6 +9,7 @@ pub mod FittingLists
 pub mod KnownMembers
 pub mod LetGo
 pub mod MatchedDependencies
+mod Misread
 pub mod Nodes
 pub mod Objects
 pub mod Options

@@ -1,5 +1,5 @@
 -- What is told by an object, where a member is put behind its others.
-use Rattle.std.proofs.Common.{◌≡◌, ◌≢◌, ◌⊎◌, ◌∙◌, ℕ, Bool, false, true, cond, List, [], map, Option, None, Some, IsSomeAnd, option_and_then, refl, sym, ap, subst, codes}
+use Rattle.std.proofs.Common.{◌≡◌, ◌≢◌, ◌⊎◌, ◌∙◌, ℕ, false, true, cond, List, [], map, Option, None, Some, IsSomeAnd, option_and_then, refl, sym, ap, subst, codes}
 use Rattle.std.specs.Prelude.{unwrap_or}
 use Rattle.std.proofs.lemmas.Bool.{false_from_ne_true}
 use Rattle.std.proofs.lemmas.Slice.Eq.{bytes_eq-Decides}
@@ -8,6 +8,7 @@ use Rattle.json.specs.Json.{Json, null, string, array}
 use Rattle.json.specs.Find.{get}
 use Rattle.json.specs.Value.{items_of}
 use Rattle.serde_json.specs.View.{view}
+use Rattle.guppy_data.specs.declared.records.Details.{Details}
 use Rattle.guppy_data.specs.declared.records.LinkRecord.{LinkRecord}
 use Rattle.guppy_data.specs.declared.records.WorkspaceRecord.{WorkspaceRecord}
 use Rattle.guppy_metadata.specs.declared.types.Package.{Package}
@@ -22,10 +23,10 @@ pub differs : (text other : List ℕ) → text ≢ other → bytes_eq text other
 differs text other not_same = false_from_ne_true _ (λ same. not_same ((bytes_eq-Decides text other).0 same))
 
 module _ (d e : Json) where
-  pub told_alike : (details : Bool) (packages : List Package) → get (codes "packages") d ≡ get (codes "packages") e → AreParsedPackages details d packages → AreParsedPackages details e packages
+  pub told_alike : (details : Details) (packages : List Package) → get (codes "packages") d ≡ get (codes "packages") e → AreParsedPackages details d packages → AreParsedPackages details e packages
   told_alike details packages same are = subst (λ o. IsSomeAnd o (λ told. IsListOf (IsParsedPackage details) told packages)) same are
 
-  pub links_alike : (details : Bool) (links : List LinkRecord) → get (codes "packages") d ≡ get (codes "packages") e → get (codes "resolve") d ≡ get (codes "resolve") e
+  pub links_alike : (details : Details) (links : List LinkRecord) → get (codes "packages") d ≡ get (codes "packages") e → get (codes "resolve") d ≡ get (codes "resolve") e
       → AreLinksWith details d links → AreLinksWith details e links
   links_alike details links same alike are = record {
     packages = are.packages;

@@ -5,6 +5,7 @@ use Rattle.std.specs.Option.{option_copied}
 use Rattle.std.specs.Prelude.{IsSomeAnd}
 use Rattle.json.specs.Json.{Json, string}
 use Rattle.json.specs.Find.{get}
+use Rattle.guppy_data.specs.declared.records.Details.{Details}
 use Rattle.guppy_data.specs.declared.records.PackageRecord.{PackageRecord}
 use Rattle.guppy_metadata.specs.declared.types.Package.{Package}
 use Rattle.guppy_metadata.specs.Dependency.{IsDeclared, NamesOptional}
@@ -15,7 +16,7 @@ use Rattle.guppy_metadata.proofs.OnceTold.{text_once}
 use Rattle.guppy_metadata.proofs.Options.{some_and}
 
 -- packages and records of one list have the same IDs
-pub same_ids : (details : Bool) (d : Json) (root : List ℕ) (is_member : List ℕ → Bool) (packages : List Package) (records : List PackageRecord) → AreParsedPackages details d packages
+pub same_ids : (details : Details) (d : Json) (root : List ℕ) (is_member : List ℕ → Bool) (packages : List Package) (records : List PackageRecord) → AreParsedPackages details d packages
     → IsSomeAnd (get (codes "packages") d) (λ told. IsListOf (IsPackage details root is_member) told records) → map (λ p. p.id.now) packages ≡ map (λ r. r.id) records
 same_ids details d root is_member packages records tells are =
     made_alike (λ p r. p.id.now ≡ r.id) (λ p. p.id.now) (λ r. r.id) (λ p r same. same) packages records
@@ -32,7 +33,7 @@ record_alike root known told same p r is = record {
 }
 
 -- a package's record, in a workspace with these members
-module _ (details : Bool) (root : List ℕ) (is_member : List ℕ → Bool) where
+module _ (details : Details) (root : List ℕ) (is_member : List ℕ → Bool) where
   record_is : (d : Json) (p : Package) (r : PackageRecord) → IsParsedPackage details d p → IsRecordOf root is_member p r → IsPackage details root is_member d r
   record_is d p r tells is =
       let named = is.named d tells.named in
@@ -57,7 +58,7 @@ module _ (details : Bool) (root : List ℕ) (is_member : List ℕ → Bool) wher
   records_are (d ∷ ds) (p ∷ ps) (r ∷ rs) tells are = (record_is d p r tells.0 are.0, records_are ds ps rs tells.1 are.1)
 
 -- the records of all packages that the JSON tells
-pub packages_are : (details : Bool) (d : Json) (root path : List ℕ) (members : List (List ℕ)) (packages : List Package) (records : List PackageRecord)
+pub packages_are : (details : Details) (d : Json) (root path : List ℕ) (members : List (List ℕ)) (packages : List Package) (records : List PackageRecord)
     → path ≡ root → get (codes "workspace_root") d ≡ Some (string root) → get (codes "workspace_members") d ≡ Some (list_of members)
     → AreParsedPackages details d packages → are_known packages members ≡ true → AllZip (IsRecordOf path (is_among members)) packages records → ArePackagesWith details d records
 packages_are details d root path members packages records path_is root_is members_are tells here are =

@@ -1,8 +1,9 @@
 -- What the JSON has that says records.
-use Rattle.std.proofs.Common.{◌≡◌, ◌∙◌, ℕ, Bool, true, List, Some, IsSomeAnd, sym, ap, subst, codes}
+use Rattle.std.proofs.Common.{◌≡◌, ◌∙◌, ℕ, true, List, Some, IsSomeAnd, sym, ap, subst, codes}
 use Rattle.json.specs.Json.{Json, Items, array}
 use Rattle.json.specs.Find.{get}
 use Rattle.json.specs.Value.{items_of}
+use Rattle.guppy_data.specs.declared.records.Details.{Details}
 use Rattle.guppy_data.specs.declared.records.LinkRecord.{LinkRecord}
 use Rattle.guppy_data.specs.declared.records.PackageRecord.{PackageRecord}
 use Rattle.guppy_data.specs.declared.records.WorkspaceRecord.{WorkspaceRecord}
@@ -16,7 +17,7 @@ use Rattle.guppy_metadata.proofs.Options.{some_told}
 use Rattle.guppy_metadata.proofs.Packages.{same_ids}
 use Rattle.guppy_metadata.proofs.SamePackages.{links_between_told}
 
-module _ (details : Bool) (d : Json) (records : List PackageRecord) (links : List LinkRecord) (workspace : WorkspaceRecord) (are : AreRecordsWith details d records links workspace) where
+module _ (details : Details) (d : Json) (records : List PackageRecord) (links : List LinkRecord) (workspace : WorkspaceRecord) (are : AreRecordsWith details d records links workspace) where
   pub nodes_there : (nodes : Items) × (nodes_in d ≡ Some (array nodes))
   nodes_there = let nodes = some_told (nodes_in d) are.links_are.links_are in (items_of nodes.2.0, nodes.1 ∙ ap Some nodes.2.1)
 

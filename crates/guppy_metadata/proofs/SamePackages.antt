@@ -1,5 +1,5 @@
 -- Packages that one JSON tells: the links between them are the same.
-use Rattle.std.proofs.Common.{◌≡◌, ◌∙◌, ◌⊎◌, inl, inr, filter, [], ◌∷◌, ℕ, ◌==◌, ◌&&◌, ◌||◌, Bool, List, Option, None, Some, map, option_map, length, refl, sym, ap, subst, string_bytes, codes}
+use Rattle.std.proofs.Common.{◌≡◌, ◌∙◌, ◌⊎◌, inl, inr, filter, [], ◌∷◌, ℕ, ◌==◌, ◌&&◌, ◌||◌, List, Option, None, Some, map, option_map, length, refl, sym, ap, subst, string_bytes, codes}
 use Rattle.std.specs.List.{AllZip}
 use Rattle.std.specs.Str.{bytes_eq}
 use Rattle.std.proofs.lemmas.List.{length-map}
@@ -12,6 +12,7 @@ use Rattle.semver.specs.declared.Version.{Version}
 use Rattle.semver.specs.declared.VersionReq.{VersionReq}
 use Rattle.semver.proofs.EvalViews.{matches_all-views, matches_all-read}
 use Rattle.semver.proofs.Numerals.{ok-value}
+use Rattle.guppy_data.specs.declared.records.Details.{Details}
 use Rattle.guppy_data.specs.declared.records.LinkRecord.{LinkRecord}
 use Rattle.guppy_metadata.specs.declared.types.Declared.{Declared}
 use Rattle.guppy_metadata.specs.declared.types.Resolved.{Resolved}
@@ -47,7 +48,7 @@ alike_itself p = record {
 }
 
 -- one JSON tells such
-told_once : (details : Bool) (d : Json) (p q : Package) → IsParsedPackage details d p → IsParsedPackage details d q → IsAlike p q
+told_once : (details : Details) (d : Json) (p q : Package) → IsParsedPackage details d p → IsParsedPackage details d q → IsAlike p q
 told_once details d p q is also = record {
   id = text_once d (codes "id") p.id.now q.id.now is.id also.id;
   name = text_once d (codes "name") (string_bytes p.record.name) (string_bytes q.record.name) is.named.known.name also.named.known.name;
@@ -59,7 +60,7 @@ told_once details d p q is also = record {
 }
 
 -- one list tells such, place by place
-packages_once : (details : Bool) (d : Json) (packages others : List Package) → AreParsedPackages details d packages → AreParsedPackages details d others → AllZip IsAlike packages others
+packages_once : (details : Details) (d : Json) (packages others : List Package) → AreParsedPackages details d packages → AreParsedPackages details d others → AllZip IsAlike packages others
 packages_once details d packages others are also = lists_fit (IsParsedPackage details) (IsParsedPackage details) IsAlike (told_once details) (get (codes "packages") d) packages others are also
 
 with_id_same : (id : List ℕ) (packages others : List Package) → AllZip IsAlike packages others → OptionsFit IsAlike (with_id id packages) (with_id id others)
@@ -179,6 +180,6 @@ pub asked_once : (packages : List Package) (from : List ℕ) (d : Json) (r : Lin
 asked_once packages from d r is resolved resolved_is = asked_between packages packages (each_itself IsAlike alike_itself packages) from d r is resolved resolved_is
 
 -- what is told of links between packages is told of those between the packages that the same JSON tells
-pub links_between_told : (details : Bool) (d : Json) (packages others : List Package) (nodes : Json) (links : List LinkRecord) → AreParsedPackages details d packages → AreParsedPackages details d others
+pub links_between_told : (details : Details) (d : Json) (packages others : List Package) (nodes : Json) (links : List LinkRecord) → AreParsedPackages details d packages → AreParsedPackages details d others
     → AreLinksOfList others nodes links → AreLinksOfList packages nodes links
 links_between_told details d packages others nodes links are also = links_of_list_between others packages (packages_once details d others packages also are) nodes links

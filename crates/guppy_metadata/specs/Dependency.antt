@@ -1,5 +1,5 @@
 -- What the JSON of a declared dependency says.
-use Rattle.std.specs.Prelude.{◌≡◌, ◌⊎◌, ℕ, Bool, true, false, List, [], Option, Some, None, Ok, String, map, unwrap_or, if◌then◌else◌, codes}
+use Rattle.std.specs.Prelude.{◌≡◌, ◌⊎◌, ℕ, true, false, List, [], Option, Some, None, Ok, String, map, unwrap_or, if◌then◌else◌, codes}
 use Rattle.std.specs.declared.alloc.Global.{Global}
 use Rattle.std.specs.List.{filter_map}
 use Rattle.std.specs.Option.{option_copied}
@@ -11,6 +11,8 @@ use Rattle.semver.specs.declared.VersionReq.{VersionReq}
 use Rattle.json.specs.Json.{Json, string}
 use Rattle.json.specs.Find.{get}
 use Rattle.indexmap.specs.IndexSet.{IndexSet, insert_all}
+use Rattle.guppy_data.specs.declared.records.Details.{Details}
+use Rattle.guppy_data.specs.declared.records.Details.TheVariants.{With, Without}
 use Rattle.guppy_data.specs.declared.texts.dependency_kind.DependencyKind.{DependencyKind}
 use Rattle.guppy_data.specs.declared.texts.dependency_kind.DependencyKind.TheVariants.{Normal, Development, Build}
 use Rattle.guppy_metadata.specs.declared.types.Declared.{Declared}
@@ -28,12 +30,12 @@ NamesRequirement d req = (text : List ℕ) × (get (codes "req") d ≡ Some (str
     × (req_of text ≡ Ok (map comparator_view req.comparators.items))
 
 -- the features that a dependency asks for, or none where details are left out
-pub record AreAsked (details : Bool) (d : Json) (texts : List (List ℕ)) : Type 0 where
-  pub told : details ≡ true → AreTexts (codes "features") d texts
-  pub left_out : details ≡ false → texts ≡ []
+pub record AreAsked (details : Details) (d : Json) (texts : List (List ℕ)) : Type 0 where
+  pub told : details ≡ With → AreTexts (codes "features") d texts
+  pub left_out : details ≡ Without → texts ≡ []
 
 -- a declared dependency
-pub record IsDeclared (details : Bool) (d : Json) (x : Declared) : Type 0 where
+pub record IsDeclared (details : Details) (d : Json) (x : Declared) : Type 0 where
   pub name : get (codes "name") d ≡ Some (string x.name.now)
   pub rename : IsText (codes "rename") d (option_copied x.rename)
   pub requirement : NamesRequirement d x.requirement
@@ -60,4 +62,4 @@ NamesOptional declared names =
 
 -- these are the names of the optional ones among the dependencies of a list
 abbrev pub AreOptional : {S : Type 0} → Json → IndexSet (String Global) S → Type 0
-AreOptional d names = (declared : List Declared) × IsListOf (IsDeclared true) d declared × NamesOptional declared names
+AreOptional d names = (declared : List Declared) × IsListOf (IsDeclared With) d declared × NamesOptional declared names

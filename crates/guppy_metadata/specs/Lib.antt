@@ -14,6 +14,7 @@ pub mod Path
 pub mod PathText
 pub mod Records
 pub mod Resolved
+pub mod Sink
 pub mod Table
 pub mod Target
 pub mod Told

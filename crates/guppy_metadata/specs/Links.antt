@@ -1,10 +1,12 @@
 -- What the JSON says of links.
-use Rattle.std.specs.Prelude.{◌≡◌, ℕ, Bool, true, List, [], Option, Some, None, IsSomeAnd, option_and_then, filter, string_bytes, codes}
+use Rattle.std.specs.Prelude.{◌≡◌, ℕ, true, List, [], Option, Some, None, IsSomeAnd, option_and_then, filter, string_bytes, codes}
 use Rattle.std.specs.List.{AllZip, flat_map}
 use Rattle.std.specs.Option.{option_copied}
 use Rattle.json.specs.Json.{Json, string, array}
 use Rattle.json.specs.Find.{get}
 use Rattle.json.specs.Value.{items_of}
+use Rattle.guppy_data.specs.declared.records.Details.{Details}
+use Rattle.guppy_data.specs.declared.records.Details.TheVariants.{With}
 use Rattle.guppy_data.specs.declared.records.LinkRecord.{LinkRecord}
 use Rattle.guppy_metadata.specs.declared.types.LinkTexts.{LinkTexts}
 use Rattle.guppy_metadata.specs.declared.types.Resolved.{Resolved}
@@ -92,11 +94,11 @@ abbrev pub nodes_in : Json → Option Json
 nodes_in d = option_and_then (get (codes "nodes")) (get (codes "resolve") d)
 
 -- the links of what is resolved, between the packages, with details or without
-pub record AreLinksWith (details : Bool) (d : Json) (links : List LinkRecord) : Type 0 where
+pub record AreLinksWith (details : Details) (d : Json) (links : List LinkRecord) : Type 0 where
   pub packages : List Package
   pub packages_are : AreParsedPackages details d packages
   pub links_are : IsSomeAnd (nodes_in d) (λ nodes. AreLinksOfList packages nodes links)
 
 -- the links of what is resolved, between the packages
 abbrev pub AreLinks : Json → List LinkRecord → Type 0
-AreLinks d links = AreLinksWith true d links
+AreLinks d links = AreLinksWith With d links

@@ -13,6 +13,8 @@ use Rattle.json.specs.Find.{get}
 use Rattle.serde_json.specs.View.{view}
 use Rattle.serde_json.specs.declared.value.Value.{Null}
 use Rattle.guppy_data.specs.declared.records.BuildTargetRecord.{BuildTargetRecord}
+use Rattle.guppy_data.specs.declared.records.Details.{Details}
+use Rattle.guppy_data.specs.declared.records.Details.TheVariants.{With, Without}
 use Rattle.guppy_data.specs.declared.records.PackageRecord.{PackageRecord}
 use Rattle.guppy_data.specs.declared.records.PackagePublishRecord.{PackagePublishRecord}
 use Rattle.guppy_data.specs.declared.records.PackagePublishRecord.TheVariants.{Unrestricted, Registries}
@@ -124,30 +126,30 @@ pub record HasNoDetails (r : PackageRecord) : Type 0 where
   pub optional_deps : r.optional_deps.keys ≡ []
 
 -- the details that are told of a package, or none of them where they are left out
-pub record HasDetails (details : Bool) (d : Json) (r : PackageRecord) : Type 0 where
-  pub described : details ≡ true → HasDescription d r
-  pub filled : details ≡ true → HasCargoFields d r
-  pub plain : details ≡ false → HasNoDetails r
+pub record HasDetails (details : Details) (d : Json) (r : PackageRecord) : Type 0 where
+  pub described : details ≡ With → HasDescription d r
+  pub filled : details ≡ With → HasCargoFields d r
+  pub plain : details ≡ Without → HasNoDetails r
 
 -- these are the build targets that are told of a package
 abbrev pub AreTargets : Json → List BuildTargetRecord → Type 0
 AreTargets d targets = IsSomeAnd (get (codes "targets") d) (λ told. IsListOf IsTarget told targets)
 
 -- the build targets that are told of a package, or none of them where details are left out
-pub record AreAskedTargets (details : Bool) (d : Json) (targets : List BuildTargetRecord) : Type 0 where
-  pub told : details ≡ true → AreTargets d targets
-  pub left_out : details ≡ false → targets ≡ []
+pub record AreAskedTargets (details : Details) (d : Json) (targets : List BuildTargetRecord) : Type 0 where
+  pub told : details ≡ With → AreTargets d targets
+  pub left_out : details ≡ Without → targets ≡ []
 
 -- this is the name of the package's library, or it has none
 abbrev pub IsLibrary : Json → Option (List ℕ) → Type 0
 IsLibrary d name = IsSomeAnd (get (codes "targets") d) (λ told. IsLibraryAmong told name)
 
 -- these are the dependencies that a package declares
-abbrev pub AreDeclared : Bool → Json → List Declared → Type 0
+abbrev pub AreDeclared : Details → Json → List Declared → Type 0
 AreDeclared details d declared = IsSomeAnd (get (codes "dependencies") d) (λ told. IsListOf (IsDeclared details) told declared)
 
 -- a package as the JSON tells it, but for where it comes from
-pub record IsParsedPackage (details : Bool) (d : Json) (p : Package) : Type 0 where
+pub record IsParsedPackage (details : Details) (d : Json) (p : Package) : Type 0 where
   pub id : get (codes "id") d ≡ Some (string p.id.now)
   pub source : IsText (codes "source") d (option_copied p.source)
   pub named : HasPlainFields d p.record
@@ -155,23 +157,23 @@ pub record IsParsedPackage (details : Bool) (d : Json) (p : Package) : Type 0 wh
   pub targets : AreAskedTargets details d p.record.build_targets.items
   pub library : IsLibrary d (option_map string_bytes p.library)
   pub declared : AreDeclared details d p.declared.items
-  pub optional : details ≡ true → NamesOptional p.declared.items p.record.optional_deps
+  pub optional : details ≡ With → NamesOptional p.declared.items p.record.optional_deps
 
 -- whether the member of this name is asked for: without details, whether it is none
-abbrev pub is_asked : Bool → List ℕ → Bool
-is_asked true name = true
-is_asked false name = is_among (codes "id" ∷ codes "name" ∷ codes "version" ∷ codes "source" ∷ codes "manifest_path" ∷ codes "edition" ∷ codes "description" ∷ codes "license" ∷ codes "repository" ∷ codes "publish" ∷ []) name
+abbrev pub is_asked : Details → List ℕ → Bool
+is_asked With name = true
+is_asked Without name = is_among (codes "id" ∷ codes "name" ∷ codes "version" ∷ codes "source" ∷ codes "manifest_path" ∷ codes "edition" ∷ codes "description" ∷ codes "license" ∷ codes "repository" ∷ codes "publish" ∷ []) name
 
 -- the member of this name is asked for, and is not the dependencies
-abbrev pub IsOwn : Bool → List ℕ → Type 0
+abbrev pub IsOwn : Details → List ℕ → Type 0
 IsOwn details name = (bytes_eq (codes "dependencies") name ≡ false) × (is_asked details name ≡ true)
 
 -- the members of the two objects that are asked for are the same, but for the dependencies
-abbrev pub AreAlike : Bool → Json → Json → Type 0
+abbrev pub AreAlike : Details → Json → Json → Type 0
 AreAlike details d e = (name : List ℕ) → IsOwn details name → get name d ≡ get name e
 
 -- the packages that the JSON tells
-abbrev pub AreParsedPackages : Bool → Json → List Package → Type 0
+abbrev pub AreParsedPackages : Details → Json → List Package → Type 0
 AreParsedPackages details d packages = IsSomeAnd (get (codes "packages") d) (λ told. IsListOf (IsParsedPackage details) told packages)
 
 -- the second is the first package, whose dependencies may have been let go
@@ -183,7 +185,7 @@ pub record IsSlimPackage (p q : Package) : Type 0 where
   pub declared : (p.declared.items ≡ q.declared.items) ⊎ (q.declared.items ≡ [])
 
 -- the packages that the JSON tells, whose dependencies may have been let go
-pub record AreSlimPackages (details : Bool) (d : Json) (packages : List Package) : Type 0 where
+pub record AreSlimPackages (details : Details) (d : Json) (packages : List Package) : Type 0 where
   pub whole : List Package
   pub told : AreParsedPackages details d whole
   pub left : AllZip IsSlimPackage whole packages
@@ -192,22 +194,22 @@ pub record AreSlimPackages (details : Bool) (d : Json) (packages : List Package)
 pub record IsRecordOf (root : List ℕ) (is_member : List ℕ → Bool) (p : Package) (r : PackageRecord) : Type 0 where
   pub source : IsFrom root r.manifest_path (is_member p.id.now) (option_copied p.source) r.source
   pub named : (d : Json) → HasPlainFields d p.record → HasPlainFields d r
-  pub detailed : (details : Bool) (d : Json) → HasDetails details d p.record → HasDetails details d r
+  pub detailed : (details : Details) (d : Json) → HasDetails details d p.record → HasDetails details d r
   pub targets : r.build_targets ≡ p.record.build_targets
   pub optional : r.optional_deps ≡ p.record.optional_deps
 
 -- a package's record, in a workspace at the root of which these IDs are the members
-pub record IsPackage (details : Bool) (root : List ℕ) (is_member : List ℕ → Bool) (d : Json) (r : PackageRecord) : Type 0 where
+pub record IsPackage (details : Details) (root : List ℕ) (is_member : List ℕ → Bool) (d : Json) (r : PackageRecord) : Type 0 where
   pub named : HasPlainFields d r
   pub detailed : HasDetails details d r
   pub targets : AreAskedTargets details d r.build_targets.items
-  pub optional : details ≡ true → IsSomeAnd (get (codes "dependencies") d) (λ told. AreOptional told r.optional_deps)
+  pub optional : details ≡ With → IsSomeAnd (get (codes "dependencies") d) (λ told. AreOptional told r.optional_deps)
   pub source : Option (List ℕ)
   pub source_is : IsText (codes "source") d source
   pub comes_from : IsFrom root r.manifest_path (is_member r.id) source r.source
 
 -- the packages, in their order, of which each member is one, with details or without
-abbrev pub ArePackagesWith : Bool → Json → List PackageRecord → Type 0
+abbrev pub ArePackagesWith : Details → Json → List PackageRecord → Type 0
 ArePackagesWith details d records = (root : List ℕ) × (members : List (List ℕ))
     × (get (codes "workspace_root") d ≡ Some (string root))
     × (get (codes "workspace_members") d ≡ Some (list_of members))
@@ -216,7 +218,7 @@ ArePackagesWith details d records = (root : List ℕ) × (members : List (List �
 
 -- the packages, in their order, of which each member is one
 abbrev pub ArePackages : Json → List PackageRecord → Type 0
-ArePackages d records = ArePackagesWith true d records
+ArePackages d records = ArePackagesWith With d records
 
 -- whether each of these is the ID of one of the packages
 abbrev pub are_known : List Package → List (List ℕ) → Bool

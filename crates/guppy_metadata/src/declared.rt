@@ -1,5 +1,5 @@
 //! A dependency as a package declares it.
-ghost use Rattle.std.specs.Prelude.{◌≡◌, true, false, Some, map, length, IfOk, IfSome, MatchOption, MatchResult};
+ghost use Rattle.std.specs.Prelude.{◌≡◌, Some, map, length, IfOk, IfSome, MatchOption, MatchResult};
 ghost use Rattle.std.specs.Option.{option_copied};
 ghost use Rattle.json.specs.Json.{Json, value};
 ghost use Rattle.guppy_data.specs.declared.texts.dependency_kind.DependencyKind.{DependencyKind};
@@ -15,7 +15,7 @@ use crate::fault::{Misfit, TextFault};
 use crate::key::name_key;
 use crate::object::{Object, requirement_of};
 use crate::types::Declared;
-use guppy_data::DependencyKind;
+use guppy_data::{DependencyKind, Details};
 use indexmap::IndexSet;
 use json::{MAX_DEPTH, Reader, Token, Value};
 use std::alloc::{AllocError, Global};
@@ -48,19 +48,18 @@ pub(crate) fn section_of(object: Object<'_, '_>) -> Result<DependencyKind, Misfi
 }
 
 // The features that are asked for.
-fn asked_features<'a>(dependency: Object<'_, 'a>, details: bool) -> Result<Vec<&'a str>, Misfit>
+fn asked_features<'a>(dependency: Object<'_, 'a>, details: Details) -> Result<Vec<&'a str>, Misfit>
     ensures { MatchResult result
         (λ features. AreAsked details (data_of dependency.entry) (map (λ text. text.now) features.items))
         (NoneIs (AreAsked details (data_of dependency.entry))) }
 {
-    if details {
-        dependency.texts("features")
-    } else {
-        Ok(Vec::new(dependency.alloc))
+    match details {
+        Details::With => dependency.texts("features"),
+        Details::Without => Ok(Vec::new(dependency.alloc)),
     }
 }
 
-fn declared_of<'a>(dependency: Object<'_, 'a>, details: bool) -> Result<Declared<'a>, Misfit>
+fn declared_of<'a>(dependency: Object<'_, 'a>, details: Details) -> Result<Declared<'a>, Misfit>
     ensures { IsRead (IsDeclared details (data_of dependency.entry)) result }
 {
     let name = dependency.text("name")?;
@@ -92,7 +91,7 @@ fn declared_of<'a>(dependency: Object<'_, 'a>, details: bool) -> Result<Declared
 /// The dependencies that a package declares, with details or without: the items of the list `dependencies`.
 pub(crate) fn declared_dependencies<'a>(
     json: Object<'_, 'a>,
-    details: bool,
+    details: Details,
 ) -> Result<Vec<Declared<'a>>, Misfit>
     ensures { MatchResult result
         (λ declared. AreDeclared details (data_of json.entry) declared.items)
@@ -145,7 +144,7 @@ const DETAILED: [&str; 11] = [
 fn plain_of<'a>(values: &[Value<'a>], alloc: Global) -> Option<Declared<'a>>
     requires { length values.now ≡ 10 }
     ensures { IfSome result (λ made. (told : Json) → AreValuesOf told (map (λ n. n.now) PLAIN) values.now
-        → IsDeclared false told made) }
+        → IsDeclared Details.Without told made) }
 {
     let name = values[0].as_str()?;
     let text = values[2].as_str()?;
@@ -177,7 +176,7 @@ fn plain_of<'a>(values: &[Value<'a>], alloc: Global) -> Option<Declared<'a>>
 fn detailed_of<'a>(values: &[Value<'a>], alloc: Global) -> Option<Declared<'a>>
     requires { length values.now ≡ 11 }
     ensures { IfSome result (λ made. (told : Json) → AreValuesOf told (map (λ n. n.now) DETAILED) values.now
-        → IsDeclared true told made) }
+        → IsDeclared Details.With told made) }
 {
     let mut declared = plain_of(&values[..10], alloc)?;
     declared.features = texts_in(alloc, &values[10])?;
@@ -190,26 +189,30 @@ fn read_dependency<'a>(
     values: &mut [Value<'a>],
     alloc: Global,
     reader: &mut Reader<'a>,
-    details: bool,
+    details: Details,
 ) -> Option<Declared<'a>>
     requires { length values.old ≡ 11 }
     ensures { IfSome result (λ made. (told : Json)
         × (value 124 reader.old ≡ Some (told, reader.new)) × IsDeclared details told made) }
 {
-    if details {
-        read_asked(values, &DETAILED, alloc, reader, MAX_DEPTH - 4)?;
-        return detailed_of(values, alloc);
+    match details {
+        Details::With => {
+            read_asked(values, &DETAILED, alloc, reader, MAX_DEPTH - 4)?;
+            detailed_of(values, alloc)
+        }
+        Details::Without => {
+            let plain = &mut values[..10];
+            read_asked(plain, &PLAIN, alloc, reader, MAX_DEPTH - 4)?;
+            plain_of(plain, alloc)
+        }
     }
-    let plain = &mut values[..10];
-    read_asked(plain, &PLAIN, alloc, reader, MAX_DEPTH - 4)?;
-    plain_of(plain, alloc)
 }
 
 /// The dependencies that the list that comes next tells, with details or without.
 pub(crate) fn read_dependencies<'a>(
     alloc: Global,
     reader: &mut Reader<'a>,
-    details: bool,
+    details: Details,
 ) -> Option<Vec<Declared<'a>>>
     ensures { IfSome result (λ declared. (told : Json)
         × (value 125 reader.old ≡ Some (told, reader.new)) × IsListOf (IsDeclared details) told declared.items) }

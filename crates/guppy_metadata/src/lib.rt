@@ -20,6 +20,7 @@
 //! - `fits`: which declared dependencies were resolved to one; `gathered`: what a link is gathered from;
 //! - `link`: links, of what is declared and what is resolved;
 //! - `node`: the links of a node, read member by member;
+//! - `sink`: what takes links while they are read;
 //! - `told`: the packages and the links, read item by item;
 //! - `by_item`: all records, of JSON that is read item by item;
 //! - `whole`: all records, so or of JSON that is read as a whole;
@@ -45,6 +46,7 @@ mod path;
 mod read;
 mod records;
 mod resolved;
+mod sink;
 mod table;
 mod target;
 mod told;
@@ -54,4 +56,5 @@ mod workspace;
 
 pub use fault::{Kind, MetadataFault, TextFault};
 pub use guppy_data::Records;
-pub use records::{plain_records_of, records_of, records_with};
+pub use records::{plain_records_of, read_records, records_of, records_with};
+pub use sink::{LinkSink, NoSink, ReadLinks, ReadRecords};

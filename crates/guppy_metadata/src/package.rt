@@ -1,5 +1,5 @@
 //! Packages.
-ghost use Rattle.std.specs.Prelude.{◌≡◌, ◌++◌, ◌∷◌, [], true, Some, IfOk, IfErr, OnOk, MatchResult, map, string_bytes, codes};
+ghost use Rattle.std.specs.Prelude.{◌≡◌, ◌++◌, ◌∷◌, [], Some, IfOk, IfErr, OnOk, MatchResult, map, string_bytes, codes};
 ghost use Rattle.std.specs.List.{AllZip};
 ghost use Rattle.std.specs.Option.{option_copied};
 ghost use Rattle.json.specs.Json.{Json, string};
@@ -20,7 +20,7 @@ use crate::target::{build_targets, first_library};
 use crate::types::{Declared, Package};
 use crate::workspace::set_of;
 use guppy_data::{
-    BuildTargetRecord, NamedFeatureDep, PackageId, PackagePublishRecord, PackageRecord,
+    BuildTargetRecord, Details, NamedFeatureDep, PackageId, PackagePublishRecord, PackageRecord,
     PackageSourceRecord, Utf8Path, Utf8PathBuf,
 };
 use indexmap::{IndexMap, IndexSet};
@@ -181,14 +181,13 @@ fn show(made: &mut PackageRecord, json: Object<'_, '_>) -> Result<(), Misfit>
 }
 
 // The build targets that are told of a package, or none of them where details are left out.
-fn asked_targets(json: Object<'_, '_>, details: bool) -> Result<Vec<BuildTargetRecord>, Misfit>
+fn asked_targets(json: Object<'_, '_>, details: Details) -> Result<Vec<BuildTargetRecord>, Misfit>
     ensures { MatchResult result (λ targets. AreAskedTargets details (data_of json.entry) targets.items)
         (NoneIs (AreAskedTargets details (data_of json.entry))) }
 {
-    if details {
-        build_targets(json)
-    } else {
-        Ok(Vec::new(json.alloc))
+    match details {
+        Details::With => build_targets(json),
+        Details::Without => Ok(Vec::new(json.alloc)),
     }
 }
 
@@ -197,21 +196,22 @@ fn add_details(
     made: &mut PackageRecord,
     json: Object<'_, '_>,
     declared: &[Declared<'_>],
-    details: bool,
+    details: Details,
 ) -> Result<(), Misfit>
     ensures targets { OnOk result (AreAskedTargets details (data_of json.entry) made.new.build_targets.items) }
     ensures detailed { OnOk result (HasNoDetails made.old → HasDetails details (data_of json.entry) made.new) }
     ensures refused { IfErr result (NoneIs (λ (r : PackageRecord). AreAskedTargets details (data_of json.entry) r.build_targets.items
         × HasDetails details (data_of json.entry) r)) }
-    ensures optional { OnOk result (details ≡ true → NamesOptional declared.now made.new.optional_deps) }
+    ensures optional { OnOk result (details ≡ Details.With → NamesOptional declared.now made.new.optional_deps) }
     ensures named { (d : Json) → HasPlainFields d made.old → HasPlainFields d made.new }
 {
     made.build_targets = asked_targets(json, details)?;
-    if details {
-        describe(made, json)?;
-        fill(made, json, declared)
-    } else {
-        Ok(())
+    match details {
+        Details::With => {
+            describe(made, json)?;
+            fill(made, json, declared)
+        }
+        Details::Without => Ok(()),
     }
 }
 
@@ -224,7 +224,7 @@ pub(crate) fn add_package<'a>(
     source: Option<&'a str>,
     library: Option<&'a str>,
     declared: Vec<Declared<'a>>,
-    details: bool,
+    details: Details,
 ) -> Result<(), Misfit>
     ensures added { OnOk result ((p : Package) × (packages.new.items ≡ packages.old.items ++ p ∷ [])
         × ((d : Json) → AreAlike details (data_of json.entry) d
@@ -256,7 +256,7 @@ pub(crate) fn add_package<'a>(
 pub(crate) fn package_of<'a>(
     packages: &mut Vec<Package<'a>>,
     json: Object<'_, 'a>,
-    details: bool,
+    details: Details,
 ) -> Result<(), Misfit>
     ensures added { OnOk result ((p : Package) × (packages.new.items ≡ packages.old.items ++ p ∷ [])
         × IsParsedPackage details (data_of json.entry) p) }
@@ -275,7 +275,7 @@ pub(crate) fn package_at<'a>(
     alloc: Global,
     index: usize,
     item: &Value<'a>,
-    details: bool,
+    details: Details,
 ) -> Result<(), Misfit>
     ensures added { OnOk result ((p : Package) × (packages.new.items ≡ packages.old.items ++ p ∷ [])
         × IsParsedPackage details (value_view item.now) p) }
@@ -291,7 +291,7 @@ pub(crate) fn package_at<'a>(
 /// The packages that the JSON tells, with details or without: the items of the list `packages`.
 pub(crate) fn packages_of<'a>(
     metadata: Object<'_, 'a>,
-    details: bool,
+    details: Details,
 ) -> Result<Vec<Package<'a>>, Misfit>
     ensures { MatchResult result (λ packages. AreParsedPackages details (data_of metadata.entry) packages.items)
         (NoneIs (AreParsedPackages details (data_of metadata.entry))) }

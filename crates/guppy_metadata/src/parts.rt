@@ -1,5 +1,5 @@
 //! A package, read member by member.
-ghost use Rattle.std.specs.Prelude.{◌≡◌, ◌++◌, ◌∷◌, [], true, false, Some, IfSome, OnSome};
+ghost use Rattle.std.specs.Prelude.{◌≡◌, ◌++◌, ◌∷◌, [], true, Some, IfSome, OnSome};
 ghost use Rattle.std.specs.Option.{option_copied};
 ghost use Rattle.json.specs.Json.{Json, value};
 ghost use Rattle.guppy_metadata.specs.Members.{data_of};
@@ -13,6 +13,7 @@ use crate::object::Object;
 use crate::package::add_package;
 use crate::target::{first_library, read_library};
 use crate::types::{Package, Parts};
+use guppy_data::Details;
 use json::{MAX_DEPTH, Reader, Token, Value};
 use std::alloc::Global;
 
@@ -31,10 +32,13 @@ const PLAIN: [&str; 10] = [
 ];
 
 // Whether the member of this name is asked for: without details, whether it is none.
-fn is_asked(name: &str, details: bool) -> bool
+fn is_asked(name: &str, details: Details) -> bool
     ensures { result ≡ is_asked details name.now }
 {
-    details || is_one_of(&PLAIN, name)
+    match details {
+        Details::With => true,
+        Details::Without => is_one_of(&PLAIN, name),
+    }
 }
 
 // Reads the member of this name, whose value comes next.
@@ -43,27 +47,30 @@ fn read_member<'a>(
     alloc: Global,
     reader: &mut Reader<'a>,
     name: &'a str,
-    details: bool,
+    details: Details,
 ) -> Option<()>
     ensures { OnSome result ((told : Json) × (value 125 reader.old ≡ Some (told, reader.new))
         × ((d e : Json) → IsWith name.now told d e → TellsParts details d parts.old → TellsParts details e parts.new)) }
 {
-    if name == "dependencies" {
-        parts.declared = Some(read_dependencies(alloc, reader, details)?);
-    } else if !details && name == "targets" {
-        parts.library = read_library(alloc, reader)?;
-        parts.has_targets = true;
-    } else if is_asked(name, details) {
-        let value = Value::read(alloc, reader, MAX_DEPTH - 3).ok()?;
-        parts.others.push((name, value)).ok()?;
-    } else {
-        reader.skip_value(MAX_DEPTH - 3).ok()?;
+    match (name, details) {
+        ("dependencies", _) => {
+            parts.declared = Some(read_dependencies(alloc, reader, details)?);
+        }
+        ("targets", Details::Without) => {
+            parts.library = read_library(alloc, reader)?;
+            parts.has_targets = true;
+        }
+        _ if is_asked(name, details) => {
+            let value = Value::read(alloc, reader, MAX_DEPTH - 3).ok()?;
+            parts.others.push((name, value)).ok()?;
+        }
+        _ => reader.skip_value(MAX_DEPTH - 3).ok()?,
     }
     Some(())
 }
 
 // What the object that comes next tells, with details or without.
-fn read_parts<'a>(alloc: Global, reader: &mut Reader<'a>, details: bool) -> Option<Parts<'a>>
+fn read_parts<'a>(alloc: Global, reader: &mut Reader<'a>, details: Details) -> Option<Parts<'a>>
     ensures { IfSome result (λ parts. (told : Json)
         × (value 126 reader.old ≡ Some (told, reader.new)) × TellsParts details told parts) }
 {
@@ -87,15 +94,15 @@ fn library_told<'a>(
     json: Object<'_, 'a>,
     library: Option<&'a str>,
     has_targets: bool,
-    details: bool,
+    details: Details,
 ) -> Option<Option<&'a str>>
     ensures { IfSome result (λ name. (d : Json) → AreAlike details (data_of json.entry) d
-        → (details ≡ false → has_targets ≡ true → IsLibrary d (option_copied library.entry)) → IsLibrary d (option_copied name)) }
+        → (details ≡ Details.Without → has_targets ≡ true → IsLibrary d (option_copied library.entry)) → IsLibrary d (option_copied name)) }
 {
-    if details {
-        return first_library(json).ok();
+    match details {
+        Details::With => first_library(json).ok(),
+        Details::Without => has_targets.then_some(library),
     }
-    if has_targets { Some(library) } else { None }
 }
 
 // Adds the package that is told, where nothing is missing or wrong.
@@ -103,7 +110,7 @@ fn package_told<'a>(
     packages: &mut Vec<Package<'a>>,
     alloc: Global,
     parts: Parts<'a>,
-    details: bool,
+    details: Details,
 ) -> Option<()>
     ensures { OnSome result ((p : Package) × (packages.new.items ≡ packages.old.items ++ p ∷ [])
         × ((d : Json) → TellsParts details d parts.entry → IsParsedPackage details d p)) }
@@ -131,7 +138,7 @@ pub(crate) fn read_package<'a>(
     packages: &mut Vec<Package<'a>>,
     alloc: Global,
     reader: &mut Reader<'a>,
-    details: bool,
+    details: Details,
 ) -> Option<()>
     ensures { OnSome result ((told : Json) × (value 126 reader.old ≡ Some (told, reader.new))
         × (p : Package) × (packages.new.items ≡ packages.old.items ++ p ∷ []) × IsParsedPackage details told p) }

@@ -1,16 +1,19 @@
 //! All records.
-ghost use Rattle.std.specs.Prelude.{◌≡◌, ◌↔◌, false, IsSome, IsSomeAnd, IfOk, OnOk, IfErr, None, codes};
+ghost use Rattle.std.specs.Prelude.{◌≡◌, ◌↔◌, List, IsSome, IsSomeAnd, IfOk, OnOk, IfErr, None, codes};
 ghost use Rattle.json.specs.Json.{document};
+ghost use Rattle.guppy_data.specs.declared.records.LinkRecord.{LinkRecord};
 ghost use Rattle.guppy_metadata.specs.Fault.{IsNotJson, IsNotResolved, IsOutOfMemory};
 ghost use Rattle.guppy_metadata.specs.Links.{AreLinks, AreLinksWith};
 ghost use Rattle.guppy_metadata.specs.Members.{present};
 ghost use Rattle.guppy_metadata.specs.Package.{ArePackages, ArePackagesWith};
 ghost use Rattle.guppy_metadata.specs.Records.{AreRecordsWith, IsMetadataFault, SaysNoRecords, SaysNoRecordsWith, IsUnresolved};
+ghost use Rattle.guppy_metadata.specs.Sink.{AreRead};
 ghost use Rattle.guppy_metadata.specs.Workspace.{IsWorkspace};
 
 use crate::fault::MetadataFault;
-use crate::whole::records_from;
-use guppy_data::Records;
+use crate::sink::{LinkSink, ReadRecords};
+use crate::whole::{read_from, records_from};
+use guppy_data::{Details, Records};
 use std::alloc::Global;
 
 /// The records that the JSON says which `cargo metadata --format-version 1` prints.
@@ -45,7 +48,7 @@ pub fn records_of(alloc: Global, json: &str) -> Result<Records, MetadataFault>
         → IsNotResolved fault ↔ IsUnresolved json.now) }
     ensures refused { IfErr result (λ fault. ¬ IsOutOfMemory fault → SaysNoRecords json.now) }
 {
-    records_from(alloc, json, true)
+    records_from(alloc, json, Details::With)
 }
 
 /// The records without details, in less time and memory: as [`records_of`], but no features, and of a package neither
@@ -57,9 +60,9 @@ pub fn records_of(alloc: Global, json: &str) -> Result<Records, MetadataFault>
 pub fn plain_records_of(alloc: Global, json: &str) -> Result<Records, MetadataFault>
     ensures json { OnOk result (IsSome (document json.now)) }
     ensures packages { IfOk result
-        (λ r. IsSomeAnd (document json.now) (λ d. ArePackagesWith false d r.packages.items)) }
+        (λ r. IsSomeAnd (document json.now) (λ d. ArePackagesWith Details.Without d r.packages.items)) }
     ensures links { IfOk result
-        (λ r. IsSomeAnd (document json.now) (λ d. AreLinksWith false d r.links.items)) }
+        (λ r. IsSomeAnd (document json.now) (λ d. AreLinksWith Details.Without d r.links.items)) }
     ensures workspace { IfOk result
         (λ r. IsSomeAnd (document json.now) (λ d. IsWorkspace d r.workspace)) }
     ensures no_json { IfErr result (λ fault. IsNotJson fault → document json.now ≡ None) }
@@ -69,16 +72,30 @@ pub fn plain_records_of(alloc: Global, json: &str) -> Result<Records, MetadataFa
         → IsNotJson fault ↔ (document json.now ≡ None)) }
     ensures tells_unresolved { IfErr result (λ fault. ¬ IsOutOfMemory fault
         → IsNotResolved fault ↔ IsUnresolved json.now) }
-    ensures refused { IfErr result (λ fault. ¬ IsOutOfMemory fault → SaysNoRecordsWith false json.now) }
+    ensures refused { IfErr result (λ fault. ¬ IsOutOfMemory fault → SaysNoRecordsWith Details.Without json.now) }
 {
-    records_from(alloc, json, false)
+    records_from(alloc, json, Details::Without)
 }
 
 /// The records with details or without: those of [`records_of`] or of [`plain_records_of`], with their faults.
-pub fn records_with(alloc: Global, json: &str, details: bool) -> Result<Records, MetadataFault>
+pub fn records_with(alloc: Global, json: &str, details: Details) -> Result<Records, MetadataFault>
     ensures said { IfOk result (λ r. IsSomeAnd (document json.now)
         (λ d. AreRecordsWith details d r.packages.items r.links.items r.workspace)) }
     ensures refused { IfErr result (λ fault. ¬ IsOutOfMemory fault → IsMetadataFault details json.now fault) }
 {
     records_from(alloc, json, details)
+}
+
+/// The records with details or without, of which a sink may take the links while they are read: as [`records_with`], but
+/// takes no memory for links that the sink took.
+pub fn read_records<S: LinkSink>(
+    alloc: Global,
+    json: &str,
+    details: Details,
+) -> Result<ReadRecords<S>, MetadataFault>
+    ensures said { IfOk result (λ r. (links : List LinkRecord) × AreRead S.took r.links links
+        × IsSomeAnd (document json.now) (λ d. AreRecordsWith details d r.packages.items links r.workspace)) }
+    ensures refused { IfErr result (λ fault. ¬ IsOutOfMemory fault → IsMetadataFault details json.now fault) }
+{
+    read_from::<S>(alloc, json, details)
 }

@@ -1,18 +1,21 @@
 //! The packages and the resolved nodes, read item by item, so that no value of the whole stands in memory.
-ghost use Rattle.std.specs.Prelude.{◌≡◌, [], Some, IfSome, OnSome, IsSomeAnd, codes};
+ghost use Rattle.std.specs.Prelude.{◌≡◌, List, [], Some, IfSome, OnSome, IsSomeAnd, codes};
 ghost use Rattle.std.specs.List.{AllZip};
 ghost use Rattle.json.specs.Json.{Json, max_depth, value};
+ghost use Rattle.guppy_data.specs.declared.records.LinkRecord.{LinkRecord};
 ghost use Rattle.json.specs.Find.{get};
 ghost use Rattle.guppy_metadata.specs.Links.{AreLinksOfList};
 ghost use Rattle.guppy_metadata.specs.Members.{IsListOf};
 ghost use Rattle.guppy_metadata.specs.Package.{IsParsedPackage, IsSlimPackage, ArePositions};
+ghost use Rattle.guppy_metadata.specs.Sink.{AreRead};
 ghost use Rattle.guppy_metadata.specs.Told.{Tells, IsWith};
 
 use crate::node::read_node;
 use crate::package::positions_of;
 use crate::parts::read_package;
+use crate::sink::{LinkSink, ReadLinks};
 use crate::types::{Package, Told};
-use guppy_data::LinkRecord;
+use guppy_data::{Details, LinkRecord};
 use indexmap::IndexMap;
 use json::{MAX_DEPTH, Reader, Token, Value};
 use std::alloc::Global;
@@ -21,7 +24,7 @@ use std::alloc::Global;
 fn read_packages<'a>(
     alloc: Global,
     reader: &mut Reader<'a>,
-    details: bool,
+    details: Details,
 ) -> Option<Vec<Package<'a>>>
     ensures { IfSome result (λ packages. (told : Json)
         × (value 127 reader.old ≡ Some (told, reader.new)) × IsListOf (IsParsedPackage details) told packages.items) }
@@ -45,49 +48,54 @@ fn declared_count(packages: &[Package<'_>]) -> usize {
     count
 }
 
-// No links, with room for one of each dependency that the packages declare, so that none is moved.
-fn room_for_links(alloc: Global, packages: &[Package<'_>]) -> Option<Vec<LinkRecord>>
+// No links, with the room that the sink asks for: one that leaves all has room for one of each dependency that the
+// packages declare, so that none is moved.
+fn room_for_links<S: LinkSink>(alloc: Global, packages: &[Package<'_>]) -> Option<Vec<LinkRecord>>
     ensures { IfSome result (λ links. links.items ≡ []) }
 {
-    Vec::with_capacity(alloc, declared_count(packages)).ok()
+    Vec::with_capacity(alloc, S::room(declared_count(packages))).ok()
 }
 
 // The links of the nodes of the list that comes next. Lets go what the packages of these declare.
-fn read_nodes(
+fn read_nodes<S: LinkSink>(
     alloc: Global,
     reader: &mut Reader<'_>,
     packages: &mut [Package<'_>],
     positions: &IndexMap<String, usize>,
-) -> Option<Vec<LinkRecord>>
+) -> Option<ReadLinks<S>>
     requires { ArePositions packages.old positions.now }
-    ensures links { IfSome result (λ links. (told : Json)
+    ensures links { IfSome result (λ read. (told : Json)
         × (value 126 reader.old ≡ Some (told, reader.new))
-        × AreLinksOfList packages.old told links.items) }
+        × (links : List LinkRecord) × AreRead S.took read links
+        × AreLinksOfList packages.old told links) }
     ensures left { OnSome result (AllZip IsSlimPackage packages.old packages.new) }
 {
     let Some(Token::BeginArray) = reader.next() else {
         return None;
     };
-    let mut links = room_for_links(alloc, packages)?;
+    let mut sink = S::new(alloc);
+    let mut left = room_for_links::<S>(alloc, packages)?;
     while !reader.take_end_array() {
-        read_node(&mut links, reader, packages, positions)?;
+        read_node(&mut left, reader, packages, positions)?;
+        sink.take(&mut left).ok()?;
     }
-    links.shrink_to_fit();
-    Some(links)
+    left.shrink_to_fit();
+    Some(ReadLinks { sink, left })
 }
 
 // The links of the nodes of the object that comes next. Lets go what the packages of these declare.
-fn read_resolve(
+fn read_resolve<S: LinkSink>(
     alloc: Global,
     reader: &mut Reader<'_>,
     packages: &mut [Package<'_>],
     positions: &IndexMap<String, usize>,
-) -> Option<Vec<LinkRecord>>
+) -> Option<ReadLinks<S>>
     requires { ArePositions packages.old positions.now }
-    ensures links { IfSome result (λ links. (told : Json)
+    ensures links { IfSome result (λ read. (told : Json)
         × (value 127 reader.old ≡ Some (told, reader.new))
+        × (links : List LinkRecord) × AreRead S.took read links
         × IsSomeAnd (get (codes "nodes") told)
-        (λ nodes. AreLinksOfList packages.old nodes links.items)) }
+        (λ nodes. AreLinksOfList packages.old nodes links)) }
     ensures left { OnSome result (AllZip IsSlimPackage packages.old packages.new) }
 {
     let Some(Token::BeginObject) = reader.next() else {
@@ -106,15 +114,16 @@ fn read_resolve(
 
 // The links, between the packages, of the nodes of the object that comes next. Lets go what the packages of these
 // declare.
-fn read_links<'a>(
-    so_far: &mut Told<'a>,
+fn read_links<'a, S: LinkSink>(
+    so_far: &mut Told<'a, S>,
     alloc: Global,
     reader: &mut Reader<'a>,
-) -> Option<Vec<LinkRecord>>
-    ensures links { IfSome result (λ links. (told : Json)
+) -> Option<ReadLinks<S>>
+    ensures links { IfSome result (λ read. (told : Json)
         × (value 127 reader.old ≡ Some (told, reader.new))
+        × (links : List LinkRecord) × AreRead S.took read links
         × IsSomeAnd so_far.old.packages (λ packages. IsSomeAnd (get (codes "nodes") told)
-        (λ nodes. AreLinksOfList packages.items nodes links.items))) }
+        (λ nodes. AreLinksOfList packages.items nodes links))) }
     ensures left { OnSome result (IsSomeAnd so_far.old.packages (λ packages.
         IsSomeAnd so_far.new.packages (λ left. AllZip IsSlimPackage packages.items left.items))) }
     ensures others { so_far.new.others ≡ so_far.old.others }
@@ -125,15 +134,16 @@ fn read_links<'a>(
 }
 
 // Reads the member of this name, whose value comes next.
-fn read_member<'a>(
-    so_far: &mut Told<'a>,
+fn read_member<'a, S: LinkSink>(
+    so_far: &mut Told<'a, S>,
     alloc: Global,
     reader: &mut Reader<'a>,
     name: &'a str,
-    details: bool,
+    details: Details,
 ) -> Option<()>
     ensures { OnSome result ((told : Json) × (value 127 reader.old ≡ Some (told, reader.new))
-        × ((d e : Json) → IsWith name.now told d e → Tells details d so_far.old → Tells details e so_far.new)) }
+        × ((d e : Json) → IsWith name.now told d e
+        → Tells S.took details d so_far.old → Tells S.took details e so_far.new)) }
 {
     if name == "packages" {
         if so_far.links.is_some() {
@@ -151,9 +161,13 @@ fn read_member<'a>(
 
 /// What the object that comes next tells, with details or without. There is none where its packages don't stand
 /// before what is resolved, as Cargo prints them, and where something is wrong: then the whole is to be read.
-pub(crate) fn told_in<'a>(alloc: Global, reader: &mut Reader<'a>, details: bool) -> Option<Told<'a>>
+pub(crate) fn told_in<'a, S: LinkSink>(
+    alloc: Global,
+    reader: &mut Reader<'a>,
+    details: Details,
+) -> Option<Told<'a, S>>
     ensures { IfSome result (λ told. (d : Json)
-        × (value max_depth reader.old ≡ Some (d, reader.new)) × Tells details d told) }
+        × (value max_depth reader.old ≡ Some (d, reader.new)) × Tells S.took details d told) }
 {
     let Some(Token::BeginObject) = reader.next() else {
         return None;

@@ -2,7 +2,8 @@
 ghost use Rattle.std.specs.Prelude.{◌≡◌};
 ghost use Rattle.guppy_metadata.specs.Key.{name_key};
 
-use guppy_data::{DependencyKind, LinkRecord, PackageId, PackageRecord};
+use crate::sink::{LinkSink, ReadLinks};
+use guppy_data::{DependencyKind, PackageId, PackageRecord};
 use json::Value;
 use semver::{Version, VersionReq};
 
@@ -129,11 +130,11 @@ pub(crate) struct Parts<'a> {
 
 /// What the object of the whole JSON tells.
 #[derive(Drop)]
-pub(crate) struct Told<'a> {
+pub(crate) struct Told<'a, S: LinkSink> {
     /// The packages; without what they declare, where the links were read.
     pub(crate) packages: Option<Vec<Package<'a>>>,
     /// The links of what is resolved.
-    pub(crate) links: Option<Vec<LinkRecord>>,
+    pub(crate) links: Option<ReadLinks<S>>,
     /// All other members.
     pub(crate) others: Vec<(&'a str, Value<'a>)>,
 }

@@ -10,15 +10,17 @@ ghost use Rattle.guppy_metadata.specs.Links.{AreLinksOfAll, nodes_in};
 ghost use Rattle.guppy_metadata.specs.Members.{data_of, present};
 ghost use Rattle.guppy_metadata.specs.Package.{are_known};
 ghost use Rattle.guppy_metadata.specs.Records.{AreRecordsWith, SaysNoRecordsWith, IsUnresolved};
+ghost use Rattle.guppy_metadata.specs.Sink.{AreRead};
 
 use crate::by_item::records_by_item;
 use crate::fault::{MetadataFault, Misfit};
 use crate::link::{Packages, check_members, links_of};
 use crate::object::Object;
 use crate::package::{package_records, packages_of, positions_of};
+use crate::sink::{LinkSink, NoSink, ReadRecords};
 use crate::types::Package;
 use crate::workspace::{member_ids, workspace_record};
-use guppy_data::{LinkRecord, Records};
+use guppy_data::{Details, LinkRecord, Records};
 use json::{Error, MAX_DEPTH, Reader, Scratch, Value};
 use std::alloc::Global;
 
@@ -82,7 +84,7 @@ fn links_between(
 }
 
 // The records that the JSON says, with details or without.
-fn records_in(metadata: Object<'_, '_>, details: bool) -> Result<Records, Misfit>
+fn records_in(metadata: Object<'_, '_>, details: Details) -> Result<Records, Misfit>
     ensures { MatchResult result
         (λ r. AreRecordsWith details (data_of metadata.entry) r.packages.items r.links.items r.workspace)
         (NoneIs (λ (said : List PackageRecord × List LinkRecord × WorkspaceRecord).
@@ -104,11 +106,12 @@ fn records_in(metadata: Object<'_, '_>, details: bool) -> Result<Records, Misfit
     })
 }
 
-/// The records that the text says, with details or without.
-pub(crate) fn records_from(
+// The records that the text says, with details or without, read as a whole.
+fn whole_records(
     alloc: Global,
     json: &str,
-    details: bool,
+    scratch: &mut Scratch,
+    details: Details,
 ) -> Result<Records, MetadataFault>
     ensures json { OnOk result (IsSome (document json.now)) }
     ensures records { IfOk result (λ r. IsSomeAnd (document json.now)
@@ -122,11 +125,7 @@ pub(crate) fn records_from(
         → IsNotResolved fault ↔ IsUnresolved json.now) }
     ensures refused { IfErr result (λ fault. ¬ IsOutOfMemory fault → SaysNoRecordsWith details json.now) }
 {
-    let mut scratch = Scratch::new(alloc);
-    if let Some(records) = records_by_item(alloc, json, &mut scratch, details) {
-        return Ok(records);
-    }
-    let value = value_of(alloc, json, &mut scratch)?;
+    let value = value_of(alloc, json, scratch)?;
     let metadata = match Object::new(alloc, &value) {
         Ok(metadata) => metadata,
         Err(misfit) => return Err(misfit.within(alloc, "the JSON").into()),
@@ -135,4 +134,62 @@ pub(crate) fn records_from(
         return Err(MetadataFault::NotResolved);
     }
     Ok(records_in(metadata, details)?)
+}
+
+/// The records that the text says, with details or without, of which a sink may take links.
+pub(crate) fn read_from<S: LinkSink>(
+    alloc: Global,
+    json: &str,
+    details: Details,
+) -> Result<ReadRecords<S>, MetadataFault>
+    ensures json { OnOk result (IsSome (document json.now)) }
+    ensures records { IfOk result (λ r. (links : List LinkRecord) × AreRead S.took r.links links
+        × IsSomeAnd (document json.now) (λ d. AreRecordsWith details d r.packages.items links r.workspace)) }
+    ensures no_json { IfErr result (λ fault. IsNotJson fault → document json.now ≡ None) }
+    ensures not_resolved { IfErr result (λ fault. IsNotResolved fault
+        → IsSomeAnd (document json.now) (λ d. present (codes "resolve") d ≡ None)) }
+    ensures tells_no_json { IfErr result (λ fault. ¬ IsOutOfMemory fault
+        → IsNotJson fault ↔ (document json.now ≡ None)) }
+    ensures tells_unresolved { IfErr result (λ fault. ¬ IsOutOfMemory fault
+        → IsNotResolved fault ↔ IsUnresolved json.now) }
+    ensures refused { IfErr result (λ fault. ¬ IsOutOfMemory fault → SaysNoRecordsWith details json.now) }
+{
+    let mut scratch = Scratch::new(alloc);
+    if let Some(records) = records_by_item::<S>(alloc, json, &mut scratch, details) {
+        return Ok(records);
+    }
+    match whole_records(alloc, json, &mut scratch, details) {
+        Ok(records) => Ok(ReadRecords::left(alloc, records)),
+        Err(fault) => Err(fault),
+    }
+}
+
+/// The records that the text says, with details or without.
+pub(crate) fn records_from(
+    alloc: Global,
+    json: &str,
+    details: Details,
+) -> Result<Records, MetadataFault>
+    ensures json { OnOk result (IsSome (document json.now)) }
+    ensures records { IfOk result (λ r. IsSomeAnd (document json.now)
+        (λ d. AreRecordsWith details d r.packages.items r.links.items r.workspace)) }
+    ensures no_json { IfErr result (λ fault. IsNotJson fault → document json.now ≡ None) }
+    ensures not_resolved { IfErr result (λ fault. IsNotResolved fault
+        → IsSomeAnd (document json.now) (λ d. present (codes "resolve") d ≡ None)) }
+    ensures tells_no_json { IfErr result (λ fault. ¬ IsOutOfMemory fault
+        → IsNotJson fault ↔ (document json.now ≡ None)) }
+    ensures tells_unresolved { IfErr result (λ fault. ¬ IsOutOfMemory fault
+        → IsNotResolved fault ↔ IsUnresolved json.now) }
+    ensures refused { IfErr result (λ fault. ¬ IsOutOfMemory fault → SaysNoRecordsWith details json.now) }
+{
+    let ReadRecords {
+        packages,
+        links,
+        workspace,
+    } = read_from::<NoSink>(alloc, json, details)?;
+    Ok(Records {
+        packages,
+        links: links.left,
+        workspace,
+    })
 }

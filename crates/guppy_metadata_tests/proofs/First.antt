@@ -4,13 +4,13 @@ use Rattle.std.specs.Prelude.{Option, IsSomeAnd, MatchOption, is_some, slice_get
 use Rattle.std.specs.Option.{option_and_then}
 use Rattle.std.specs.List.{cons_option}
 use Rattle.std.proofs.lemmas.Option.{slice_get_within}
+use Rattle.guppy_search.specs.Reach.{Walk}
 use Rattle.guppy_data.specs.declared.records.PackageRecord.{PackageRecord}
-use Rattle.guppy.specs.Graph.{GraphData}
-use Rattle.guppy.specs.Ids.{HasId}
+use Rattle.guppy_graph.specs.Graph.{GraphData}
+use Rattle.guppy_graph.specs.Ids.{HasId}
+use Rattle.guppy_graph.specs.Members.{IsMember, member_path}
+use Rattle.guppy_graph.specs.Ordered.{FirmStep}
 use Rattle.guppy.specs.Listed.{ids_at}
-use Rattle.guppy.specs.Members.{IsMember, member_path}
-use Rattle.guppy.specs.Ordered.{FirmStep}
-use Rattle.guppy.specs.Reach.{Walk}
 use Rattle.guppy_publish.specs.Publishing.{IsPublishOrder}
 
 -- the ID is that of a member from which no walk leads to another one; where there is none, there is no member

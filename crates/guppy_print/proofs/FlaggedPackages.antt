@@ -8,7 +8,7 @@ use Rattle.std.proofs.lemmas.Slice.Eq.{bytes_eq-Decides}
 use Rattle.semver.specs.declared.Version.{Version}
 use Rattle.semver.specs.Identifiers.{version_text}
 use Rattle.guppy_data.specs.declared.records.PackageRecord.{PackageRecord}
-use Rattle.guppy.specs.Ids.{HasId, IsKnown, DistinctBelow}
+use Rattle.guppy_graph.specs.Ids.{HasId, IsKnown, DistinctBelow}
 use Rattle.guppy_command.specs.Ids.{full_name_of, is_only}
 use Rattle.guppy_print.specs.Flags.{record_of, spec_of}
 

@@ -11,7 +11,7 @@ use Rattle.guppy_command.specs.declared.options.Options.{Options}
 use Rattle.guppy_command.specs.declared.options.OutputFormat.{OutputFormat}
 use Rattle.guppy_command.specs.declared.options.OutputFormat.TheVariants.{Lines, Flags}
 use Rattle.json.specs.Json.{Json}
-use Rattle.guppy.proofs.CyclicComponents.{Contains-map, from_map}
+use Rattle.guppy_data.proofs.Mapped.{Contains-map, from_map}
 use Rattle.guppy_print.specs.Format.{Format}
 use Rattle.guppy_print.specs.Printed.{on_lines, told_in}
 

@@ -10,7 +10,7 @@ use Rattle.json.specs.Value.{items_of}
 use Rattle.semver.specs.declared.Version.{Version}
 use Rattle.semver.specs.Identifiers.{version_text}
 use Rattle.guppy_data.specs.declared.records.PackageRecord.{PackageRecord}
-use Rattle.guppy.specs.Ids.{HasId, IsKnown, DistinctBelow}
+use Rattle.guppy_graph.specs.Ids.{HasId, IsKnown, DistinctBelow}
 use Rattle.guppy_print.specs.Objects.{object_of, package_object}
 use Rattle.guppy_print.proofs.FlaggedPackages.{found_at, not_found}
 

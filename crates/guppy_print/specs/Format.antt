@@ -1,19 +1,20 @@
 -- What a program is asked, how it reads its input, and what it calls packages.
-use Rattle.std.specs.Prelude.{◌≡◌, ◌<◌, ℕ, Bool, List, [], length, map, codes, Vec}
+use Rattle.std.specs.Prelude.{◌≡◌, ◌<◌, ℕ, List, [], length, map, codes, Vec}
 use Rattle.std.specs.declared.alloc.Global.{Global}
 use Rattle.std.specs.List.{join_by}
+use Rattle.guppy_data.specs.declared.records.Details.{Details}
 use Rattle.guppy_data.specs.declared.records.PackageRecord.{PackageRecord}
 use Rattle.guppy_data.specs.declared.records.LinkRecord.{LinkRecord}
 use Rattle.guppy_data.specs.declared.records.WorkspaceRecord.{WorkspaceRecord}
 use Rattle.guppy_data.specs.declared.texts.error.Error.TheVariants.{UnknownPackageId, OutOfMemory}
+use Rattle.guppy_process.specs.Cause.{Cause, library, bad_arguments, ambiguous, bad_input, OrMemory}
 use Rattle.guppy_command.specs.Asked.{Asked}
-use Rattle.guppy_command.specs.Cause.{Cause, library, bad_arguments, ambiguous, bad_input, OrMemory}
 
 pub record Format (Fault : Type 0) : Type 1 where
   -- the input says these records, with details or without
-  pub says : Bool → List ℕ → List PackageRecord → List LinkRecord → WorkspaceRecord → Type 0
+  pub says : Details → List ℕ → List PackageRecord → List LinkRecord → WorkspaceRecord → Type 0
   -- the input says no such records, and the fault tells why
-  pub refuses : Bool → List ℕ → Fault → Type 0
+  pub refuses : Details → List ℕ → Fault → Type 0
   -- the input says that the member with the one ID declares the one with the other, whether or not a link does
   pub declares : List ℕ → List ℕ → List ℕ → Type 0
   -- the arguments ask this, of which the files that they name have some
@@ -39,7 +40,7 @@ IsAskingFault format has args fault (library error) = OrMemory ⊥ error
 IsAskingFault format has args fault _ = ⊥
 
 -- the input says no such records, and the fault tells why, or memory ran out
-abbrev pub IsReadingFault : {Fault : Type 0} → Format Fault → Bool → List ℕ → Fault → Cause → Type 0
+abbrev pub IsReadingFault : {Fault : Type 0} → Format Fault → Details → List ℕ → Fault → Cause → Type 0
 IsReadingFault format details input fault bad_input = format.refuses details input fault
 IsReadingFault format details input fault (library error) = OrMemory ⊥ error
 IsReadingFault format details input fault _ = ⊥

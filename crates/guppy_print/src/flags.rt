@@ -1,6 +1,6 @@
 //! Packages as flags, as cargo takes them.
 ghost use Rattle.std.specs.Prelude.{◌≡◌, length, map, string_bytes, IfOk};
-ghost use Rattle.guppy.specs.Ids.{DistinctBelow};
+ghost use Rattle.guppy_graph.specs.Ids.{DistinctBelow};
 ghost use Rattle.guppy.specs.Views.{OfPackage};
 ghost use Rattle.guppy_command.specs.Ids.{full_name_of};
 ghost use Rattle.guppy_print.specs.Flags.{flag_of, spec_of};

@@ -3,16 +3,17 @@ ghost use Rattle.std.specs.Prelude.{◌≡◌, ◌↔◌, ◌∷◌, [], ℕ, Li
 ghost use Rattle.guppy_data.specs.declared.records.PackageRecord.{PackageRecord as PackageData};
 ghost use Rattle.guppy_data.specs.declared.texts.error.Error.TheVariants.{PackageGraphInternalError};
 ghost use Rattle.guppy_data.specs.declared.texts.fault.VerifyFault.TheVariants.{Cycle};
-ghost use Rattle.guppy.specs.Ids.{IsKnown};
+ghost use Rattle.guppy_graph.specs.Ids.{IsKnown};
 ghost use Rattle.guppy_publish.specs.Needs.{pair_texts};
-ghost use Rattle.guppy_command.specs.Cause.{library};
+ghost use Rattle.guppy_process.specs.Cause.{library};
 ghost use Rattle.guppy_command.specs.Ids.{has_id, is_only};
 ghost use Rattle.guppy_print.specs.Format.{Format as FormatOf, IsAskingFault, IsReadingFault, IsUnclear};
 ghost use Rattle.guppy_command.specs.Shown.{asked_shown};
 
 use guppy::{Error, PackageGraph, PackageId};
-use guppy_command::{Asked, Files, ProgramFault};
-use guppy_data::{PackageRecord, Records};
+use guppy_command::{Asked, Files};
+use guppy_data::{Details, PackageRecord, Records};
+use guppy_process::ProgramFault;
 use std::alloc::{AllocError, Global};
 
 /// What a program is asked, how it reads its input, and what it calls packages.
@@ -44,7 +45,7 @@ pub trait Format {
             (map string_bytes args.now) fault (Self.Fault.cause fault)) };
 
     /// The records that the input says, with details, as the build targets of packages, or without.
-    fn records_of(alloc: Global, input: &[u8], details: bool) -> Result<Records, Self::Fault>
+    fn records_of(alloc: Global, input: &[u8], details: Details) -> Result<Records, Self::Fault>
         ensures said { IfOk result (λ r.
             format.says details input.now r.packages.items r.links.items r.workspace) }
         ensures refused { IfErr result (λ fault.

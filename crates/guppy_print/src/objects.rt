@@ -3,7 +3,7 @@ ghost use Rattle.std.specs.Prelude.{◌≡◌, ◌∷◌, ◌++◌, [], ℕ, Lis
 ghost use Rattle.semver.specs.Identifiers.{version_text};
 ghost use Rattle.json.specs.Token.{string};
 ghost use Rattle.json.specs.Tree.{json_tokens};
-ghost use Rattle.guppy.specs.Ids.{DistinctBelow};
+ghost use Rattle.guppy_graph.specs.Ids.{DistinctBelow};
 ghost use Rattle.guppy.specs.Views.{OfPackage};
 ghost use Rattle.guppy_command.specs.Printed.{line_of};
 ghost use Rattle.guppy_print.specs.Objects.{array_of, json_text, kinds_array, link_object, needs_object, object_of, package_object, step_object};

@@ -2,7 +2,7 @@
 ghost use Rattle.std.specs.Prelude.{◌≡◌, ◌++◌, length, OnOk};
 ghost use Rattle.json.specs.Json.{Members};
 ghost use Rattle.json.specs.Tree.{json_tokens, members_tokens};
-ghost use Rattle.guppy.specs.Ids.{DistinctBelow};
+ghost use Rattle.guppy_graph.specs.Ids.{DistinctBelow};
 ghost use Rattle.guppy_built.specs.Features.{FeatureData, feature_shown};
 ghost use Rattle.guppy_built.specs.Names.{NamedFactData, StepData, fact_shown, said_shown, step_shown};
 ghost use Rattle.guppy_built.specs.Rows.{Row, row_of};

@@ -1,8 +1,8 @@
 //! How an answer is printed.
 ghost use Rattle.std.specs.Prelude.{◌≡◌, ◌↔◌, ◌∷◌, [], ℕ, List, Contains, length, map, string_bytes, IfOk};
 ghost use Rattle.guppy_data.specs.declared.records.PackageRecord.{PackageRecord};
+ghost use Rattle.guppy_graph.specs.Ids.{DistinctBelow};
 ghost use Rattle.guppy_command.specs.Printed.{joined, line_end, lines_of};
-ghost use Rattle.guppy.specs.Ids.{DistinctBelow};
 ghost use Rattle.guppy_print.specs.Printed.{AreSortedLines, IsAscending, IsPrinted, IsSetIn, called, link_text, list_in, packages_text, walk_text};
 ghost use Rattle.guppy_print.specs.Shown.{answer_shown, link_shown, step_shown};
 

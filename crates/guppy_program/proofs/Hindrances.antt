@@ -10,10 +10,10 @@ use Rattle.guppy_data.specs.PackagePublish.{Publish, Everywhere, OnlyTo, recorde
 use Rattle.guppy_data.specs.declared.records.LinkRecord.{LinkRecord}
 use Rattle.guppy_data.specs.declared.records.PackageRecord.{PackageRecord}
 use Rattle.guppy_search.specs.declared.graph_core.link.Link.{Link}
-use Rattle.guppy.specs.DevOnly.{is_dev_only}
-use Rattle.guppy.specs.Graph.{GraphData}
-use Rattle.guppy.specs.Ids.{HasId, DistinctBelow}
-use Rattle.guppy.specs.Members.{member_path}
+use Rattle.guppy_graph.specs.DevOnly.{is_dev_only}
+use Rattle.guppy_graph.specs.Graph.{GraphData}
+use Rattle.guppy_graph.specs.Ids.{HasId, DistinctBelow}
+use Rattle.guppy_graph.specs.Members.{member_path}
 use Rattle.guppy_program.specs.Publish.{is_somewhere, is_held_back, is_hindrance, hindrance_of, IsFree}
 use Rattle.guppy_program.proofs.Membership.{same_truth}
 use Rattle.guppy_print.proofs.FlaggedPackages.{one_place}

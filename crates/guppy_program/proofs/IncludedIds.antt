@@ -6,7 +6,7 @@ use Rattle.guppy_core.specs.Listing.{IsListing, Stands}
 use Rattle.guppy_core.proofs.SetMembers.{listed_members}
 use Rattle.guppy_search.specs.declared.ix.direction.DependencyDirection.{DependencyDirection}
 use Rattle.guppy_data.specs.declared.records.PackageRecord.{PackageRecord}
-use Rattle.guppy.specs.Ids.{HasId}
+use Rattle.guppy_graph.specs.Ids.{HasId}
 use Rattle.guppy.specs.Listed.{ids_at, positions_listed}
 use Rattle.guppy.specs.Query.{IncludesId, SetData}
 

@@ -5,8 +5,8 @@ use Rattle.std.specs.List.{list_any}
 use Rattle.std.specs.Str.{bytes_eq}
 use Rattle.std.proofs.lemmas.Slice.Eq.{bytes_eq-Decides}
 use Rattle.guppy_data.specs.declared.records.PackageRecord.{PackageRecord}
-use Rattle.guppy.specs.Ids.{HasId}
-use Rattle.guppy.specs.Members.{IsMember, member_path}
+use Rattle.guppy_graph.specs.Ids.{HasId}
+use Rattle.guppy_graph.specs.Members.{IsMember, member_path}
 use Rattle.guppy_program.specs.Answer.{is_member}
 use Rattle.guppy_print.proofs.KnownIds.{either_true, first_true, second_true}
 

@@ -5,10 +5,10 @@ use Rattle.std.specs.List.{concat, filter}
 use Rattle.std.proofs.lemmas.List.{get_or-replicate, map_push}
 use Rattle.std.proofs.lemmas.List.Elements.{All-tail}
 use Rattle.std.proofs.lemmas.Option.{slice_get-get_or}
-use Rattle.guppy_core.specs.IxSet.{has}
+use Rattle.guppy_search.specs.IxSet.{has}
 use Rattle.guppy_core.specs.Listing.{IsListing}
 use Rattle.guppy_search.specs.declared.ix.direction.DependencyDirection.TheVariants.{Forward}
-use Rattle.guppy.specs.Graph.{GraphData}
+use Rattle.guppy_graph.specs.Graph.{GraphData}
 use Rattle.guppy.specs.Listed.{ids_at, positions_listed}
 use Rattle.guppy.specs.Query.{SetData}
 

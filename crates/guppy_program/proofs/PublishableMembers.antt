@@ -3,7 +3,7 @@ use Rattle.std.proofs.Common.{◌≡◌, sym, refl, subst, ℕ, zero, suc, ◌<�
 use Rattle.std.specs.Prelude.{◌↔◌, not, Option, slice_get, IsSomeAnd, IsTrue}
 use Rattle.guppy_data.specs.PackagePublish.{Publish, Everywhere, OnlyTo, recorded_publish}
 use Rattle.guppy_data.specs.declared.records.PackageRecord.{PackageRecord}
-use Rattle.guppy.specs.Ids.{HasId, DistinctBelow}
+use Rattle.guppy_graph.specs.Ids.{HasId, DistinctBelow}
 use Rattle.guppy_program.specs.Publish.{is_somewhere, is_publishable}
 use Rattle.guppy_print.proofs.FlaggedPackages.{one_place}
 use Rattle.guppy_program.proofs.Membership.{passing-known, known-passing, same_truth}

@@ -2,10 +2,10 @@
 use Rattle.std.proofs.Common.{◌≡◌, ◌↔◌, ℕ, zero, suc, arith, Bool, List, [], ◌∷◌, sym, subst}
 use Rattle.std.specs.Prelude.{All}
 use Rattle.guppy_search.specs.declared.ix.direction.DependencyDirection.{DependencyDirection}
-use Rattle.guppy_core.specs.IxSet.{IsIn}
-use Rattle.guppy_core.specs.Reach.{LinkStep, ReachedFrom}
-use Rattle.guppy.specs.Ids.{HasId}
-use Rattle.guppy.specs.Graph.{GraphData}
+use Rattle.guppy_search.specs.IxSet.{IsIn}
+use Rattle.guppy_search.specs.Reach.{LinkStep, ReachedFrom}
+use Rattle.guppy_graph.specs.Ids.{HasId}
+use Rattle.guppy_graph.specs.Graph.{GraphData}
 use Rattle.guppy.specs.Query.{IsSetOfIds, IncludesId, SetData}
 use Rattle.guppy_program.specs.Answer.{IsReached}
 

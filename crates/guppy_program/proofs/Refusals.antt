@@ -6,13 +6,13 @@ use Rattle.std.specs.List.{AllZip}
 use Rattle.guppy_data.specs.declared.records.PackageRecord.{PackageRecord}
 use Rattle.guppy_data.specs.declared.texts.error.Error.{Error}
 use Rattle.guppy_data.specs.declared.texts.error.Error.TheVariants.{PackageGraphConstructError, UnknownPackageId, UnknownFeatureId, UnknownWorkspacePath, UnknownWorkspaceName, PackageGraphInternalError, FeatureGraphInternalError, OutOfMemory}
-use Rattle.guppy_command.specs.Cause.{Cause, library, bad_arguments, ambiguous, no_walk, unpublishable, build, bad_before, bad_input, input_failed, output_failed}
+use Rattle.guppy_process.specs.Cause.{Cause, library, bad_arguments, ambiguous, no_walk, unpublishable, build, bad_before, bad_input, input_failed, output_failed}
 use Rattle.guppy_command.specs.Command.{Command}
 use Rattle.guppy_program.specs.Meant.{Means}
 use Rattle.guppy_print.specs.Format.{Format, IsUnclear}
-use Rattle.guppy.specs.Graph.{GraphData}
-use Rattle.guppy.specs.Refused.{IsFirstNot}
-use Rattle.guppy.specs.Verified.{TellsVerifyFault, IsVerifyFault as IsGraphFault}
+use Rattle.guppy_graph.specs.Graph.{GraphData}
+use Rattle.guppy_graph.specs.Refused.{IsFirstNot}
+use Rattle.guppy_graph.specs.Verified.{TellsVerifyFault, IsVerifyFault as IsGraphFault}
 use Rattle.guppy_data.specs.declared.texts.fault.VerifyFault.{VerifyFault}
 use Rattle.guppy_data.specs.declared.texts.fault.VerifyFault.TheVariants.{TargetKind, Version, NoSection, Cycle}
 use Rattle.guppy_program.specs.Answer.{IsClear, IsWordFault, IsVerifyFault, IsVerifyTold, IsToldAs, TellsCycle, IsCommandFault, IsFaultOn, words_of}

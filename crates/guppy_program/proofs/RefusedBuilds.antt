@@ -1,13 +1,13 @@
 -- Why nothing is told of what Cargo builds.
 use Rattle.std.proofs.Common.{◌≡◌, ⊎_elim, refl, sym, subst, ℕ, List, Some, None}
 use Rattle.std.specs.Prelude.{◌⊎◌, Option, IsSomeAnd, slice_get}
-use Rattle.guppy.specs.Graph.{GraphData}
+use Rattle.guppy_graph.specs.Graph.{GraphData}
 use Rattle.guppy_built.specs.Asked.{Choice, IsRefused}
 use Rattle.guppy_built.specs.Refused.{IsBuiltFault, IsFirstOther}
 use Rattle.guppy_built.specs.Why.{IsWhyFault}
 use Rattle.guppy_built.specs.declared.fault.BuiltFault.{BuiltFault}
 use Rattle.guppy_built.specs.declared.fault.BuiltFault.TheVariants.{LacksFeature, FeatureOff}
-use Rattle.guppy_command.specs.Cause.{BuildCause, Cause, library, bad_arguments, ambiguous, no_walk, unpublishable, build, bad_before, bad_input, input_failed, output_failed, no_member, unknown_feature, lacks_feature, feature_off, unresolved}
+use Rattle.guppy_process.specs.Cause.{BuildCause, Cause, library, bad_arguments, ambiguous, no_walk, unpublishable, build, bad_before, bad_input, input_failed, output_failed, no_member, unknown_feature, lacks_feature, feature_off, unresolved}
 use Rattle.guppy_command.specs.Command.{BuildRequest, Command}
 use Rattle.guppy_data.specs.declared.texts.error.Error.TheVariants.{PackageGraphConstructError, UnknownPackageId, UnknownFeatureId, UnknownWorkspacePath, UnknownWorkspaceName, PackageGraphInternalError, FeatureGraphInternalError, OutOfMemory}
 use Rattle.guppy_program.specs.Answer.{IsFaultOn}

@@ -3,11 +3,11 @@ use Rattle.std.proofs.Common.{◌≡◌, ◌⊎◌, inl, inr, sym, subst, ℕ, L
 use Rattle.std.specs.Prelude.{Option}
 use Rattle.guppy_data.specs.declared.texts.error.Error.{Error}
 use Rattle.guppy_data.specs.declared.texts.error.Error.TheVariants.{PackageGraphConstructError, UnknownPackageId, UnknownFeatureId, UnknownWorkspacePath, UnknownWorkspaceName, PackageGraphInternalError, FeatureGraphInternalError, OutOfMemory}
-use Rattle.guppy.specs.Accepted.{distinct_ids}
-use Rattle.guppy.specs.Graph.{GraphData}
-use Rattle.guppy.specs.Ids.{DistinctBelow}
+use Rattle.guppy_graph.specs.Accepted.{distinct_ids}
+use Rattle.guppy_graph.specs.Graph.{GraphData}
+use Rattle.guppy_graph.specs.Ids.{DistinctBelow}
+use Rattle.guppy_process.specs.Cause.{Cause, library, bad_arguments, ambiguous, no_walk, unpublishable, build, bad_before, bad_input, input_failed, output_failed, OrMemory}
 use Rattle.guppy_command.specs.Asked.{Asked}
-use Rattle.guppy_command.specs.Cause.{Cause, library, bad_arguments, ambiguous, no_walk, unpublishable, build, bad_before, bad_input, input_failed, output_failed, OrMemory}
 use Rattle.guppy_print.specs.Format.{Format}
 use Rattle.guppy_program.specs.Loaded.{IsBadBefore, IsLoaded}
 use Rattle.guppy_program.specs.Answer.{IsFaultOn}

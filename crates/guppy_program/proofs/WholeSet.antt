@@ -1,6 +1,6 @@
 -- The set of all packages.
 use Rattle.std.proofs.Common.{◌≡◌, ◌∙◌, ap, Bool, true, List, length, replicate}
-use Rattle.guppy.specs.Graph.{GraphData}
+use Rattle.guppy_graph.specs.Graph.{GraphData}
 use Rattle.guppy.specs.Query.{SetData}
 use Rattle.guppy_program.specs.Answer.{all_packages}
 

@@ -3,34 +3,34 @@ use Rattle.std.specs.Prelude.{◌≡◌, ◌↔◌, ◌⊎◌, ◌++◌, ◌<◌
 use Rattle.std.specs.List.{AllZip, concat, filter, list_all, list_any}
 use Rattle.std.specs.Str.{bytes_eq}
 use Rattle.guppy_search.specs.declared.ix.direction.DependencyDirection.{DependencyDirection}
-use Rattle.guppy_core.specs.Reach.{LinkStep, ReachedFrom}
+use Rattle.guppy_search.specs.Reach.{LinkStep, ReachedFrom}
 use Rattle.guppy_data.specs.declared.records.PackageRecord.{PackageRecord}
 use Rattle.guppy_data.specs.declared.texts.error.Error.TheVariants.{UnknownPackageId, PackageGraphInternalError, OutOfMemory}
 use Rattle.guppy_data.specs.declared.texts.fault.VerifyFault.{VerifyFault}
 use Rattle.guppy_data.specs.declared.texts.fault.VerifyFault.TheVariants.{Cycle}
 use Rattle.guppy_data.specs.Texts.{round_text}
-use Rattle.guppy.specs.Ids.{HasId, IsKnown}
-use Rattle.guppy.specs.Cycles.{AreCyclic, AreOnOne}
-use Rattle.guppy.specs.Graph.{GraphData, IsInOrder}
+use Rattle.guppy_graph.specs.Ids.{HasId, IsKnown}
+use Rattle.guppy_graph.specs.Cycles.{AreCyclic, AreOnOne}
+use Rattle.guppy_graph.specs.Graph.{GraphData, IsInOrder}
+use Rattle.guppy_graph.specs.Depends.{DependsOn}
+use Rattle.guppy_graph.specs.Members.{IsMember, member_path}
+use Rattle.guppy_graph.specs.Refused.{IsFirstNot}
+use Rattle.guppy_graph.specs.FirmCycles.{HasNoFirmCycle}
+use Rattle.guppy_graph.specs.Verified.{IsVerified, IsVerifyFault as IsGraphFault}
 use Rattle.guppy.specs.Listed.{ids_at}
 use Rattle.guppy.specs.ListedCycles.{cycles_of}
-use Rattle.guppy.specs.Depends.{DependsOn}
-use Rattle.guppy.specs.Members.{IsMember, member_path}
 use Rattle.guppy.specs.Query.{IsSetWhere, SetData}
-use Rattle.guppy.specs.Refused.{IsFirstNot}
 use Rattle.guppy.specs.Rooted.{AreRootIds}
 use Rattle.guppy.specs.Views.{LinkData}
-use Rattle.guppy.specs.FirmCycles.{HasNoFirmCycle}
-use Rattle.guppy.specs.Verified.{IsVerified, IsVerifyFault as IsGraphFault}
 use Rattle.guppy.specs.Walked.{AreWalkedLinks}
 use Rattle.guppy_affected.specs.Affected.{AreAffectedIds}
 use Rattle.guppy_affected.specs.Folders.{Given}
 use Rattle.guppy_extras.specs.Duplicates.{AreDuplicates}
 use Rattle.guppy_publish.specs.Publishing.{ArePublishIds}
 use Rattle.guppy_extras.specs.Walk.{NoWalk, Between}
+use Rattle.guppy_process.specs.Cause.{Cause, library, ambiguous, no_walk, unpublishable, build}
 use Rattle.guppy_command.specs.declared.options.Kinds.{Kinds}
 use Rattle.guppy_command.specs.declared.options.Options.{Options}
-use Rattle.guppy_command.specs.Cause.{Cause, library, ambiguous, no_walk, unpublishable, build}
 use Rattle.guppy_command.specs.Command.{BuildRequest, Command, reach, depends, why, order, roots, links, cycles, duplicates, built, features, why_feature, verify, publish_order, dot, affected}
 use Rattle.guppy_dot.specs.Dot.{Drawing, IsDrawing, IsDrawn, IsNamed, among}
 use Rattle.guppy_built.specs.Asked.{Choice}

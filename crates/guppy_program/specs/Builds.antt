@@ -4,10 +4,10 @@ use Rattle.std.specs.List.{AllZip}
 use Rattle.guppy_data.specs.Platform.{Question, question_of}
 use Rattle.guppy_data.specs.declared.texts.error.Error.TheVariants.{OutOfMemory}
 use Rattle.guppy_target.specs.Platform.{PlatformData}
-use Rattle.guppy.specs.Graph.{GraphData}
-use Rattle.guppy.specs.Ids.{IsKnown}
+use Rattle.guppy_graph.specs.Graph.{GraphData}
+use Rattle.guppy_graph.specs.Ids.{IsKnown}
+use Rattle.guppy_process.specs.Cause.{BuildCause, Cause, library, build, no_member, unknown_feature, lacks_feature, feature_off, unresolved}
 use Rattle.guppy_command.specs.Asked.{Asked}
-use Rattle.guppy_command.specs.Cause.{BuildCause, Cause, library, build, no_member, unknown_feature, lacks_feature, feature_off, unresolved}
 use Rattle.guppy_command.specs.Command.{BuildRequest, Command, built, features, why_feature}
 use Rattle.guppy_built.specs.Asked.{Choice, IsRefused}
 use Rattle.guppy_built.specs.Refused.{IsFirstOther, IsLackingFor}

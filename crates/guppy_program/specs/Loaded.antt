@@ -1,13 +1,15 @@
 -- The package graph of the records that an input says, with the links that are asked for.
 use Rattle.std.specs.Prelude.{◌≡◌, ◌↔◌, ℕ, Bool, true, false, ◌||◌, List, Option, Some, None, Contains, if◌then◌else◌}
+use Rattle.guppy_data.specs.declared.records.Details.{Details}
+use Rattle.guppy_data.specs.declared.records.Details.TheVariants.{With, Without}
 use Rattle.guppy_data.specs.declared.records.PackageRecord.{PackageRecord}
 use Rattle.guppy_data.specs.declared.records.LinkRecord.{LinkRecord}
 use Rattle.guppy_data.specs.declared.records.WorkspaceRecord.{WorkspaceRecord}
 use Rattle.guppy_data.specs.declared.texts.error.Error.{Error}
-use Rattle.guppy.specs.Accepted.{IsAccepted}
-use Rattle.guppy.specs.Graph.{GraphData, Holds}
-use Rattle.guppy.specs.Refused.{IsRefusal}
-use Rattle.guppy_command.specs.Cause.{Cause, library, bad_input, OrMemory}
+use Rattle.guppy_graph.specs.Accepted.{IsAccepted}
+use Rattle.guppy_graph.specs.Graph.{GraphData, Holds}
+use Rattle.guppy_graph.specs.Refused.{IsRefusal}
+use Rattle.guppy_process.specs.Cause.{Cause, library, bad_input, OrMemory}
 use Rattle.guppy_command.specs.Asked.{Asked}
 use Rattle.guppy_command.specs.Command.{Command, built, features, why_feature, publish_order, affected}
 use Rattle.guppy_command.specs.Options.{kept_links}
@@ -41,8 +43,8 @@ asks_for_targets (affected ignored also paths) = true
 asks_for_targets command = asks_for_builds command
 
 -- whether records are read with details: for build targets, which also say what runs on the host
-abbrev pub reads_details : Asked → Bool
-reads_details asked = are_named asked.question || asks_for_targets asked.command
+abbrev pub details_for : Asked → Details
+details_for asked = if are_named asked.question || asks_for_targets asked.command then With else Without
 
 -- the platforms on which links count: any where it is asked what Cargo builds, which looks at each itself
 abbrev pub counted_on : Asked → Question PlatformData
@@ -55,7 +57,7 @@ module _ {Fault : Type 0} (format : Format Fault) (asked : Asked) (input : List 
     pub packages : List PackageRecord
     pub links : List LinkRecord
     pub workspace : WorkspaceRecord
-    pub said : format.says (reads_details asked) input packages links workspace
+    pub said : format.says (details_for asked) input packages links workspace
     pub counting : List LinkRecord
     pub counted : AreKept (counted_on asked) asked.host packages links counting
     pub asked_links : List LinkRecord
@@ -73,7 +75,7 @@ module _ {Fault : Type 0} (format : Format Fault) (asked : Asked) (input : List 
 
   -- the input says no such records, and the fault tells why, or these records break a rule, or memory ran out
   abbrev pub IsLoadFault : Fault → Cause → Type 0
-  IsLoadFault fault bad_input = format.refuses (reads_details asked) input fault
+  IsLoadFault fault bad_input = format.refuses (details_for asked) input fault
   IsLoadFault fault (library error) = OrMemory (AreRefused error) error
   IsLoadFault fault _ = ⊥
 

@@ -10,11 +10,11 @@ use Rattle.guppy_data.specs.declared.texts.error.Error.TheVariants.{OutOfMemory}
 use Rattle.guppy_search.specs.declared.graph_core.link.Link.{Link}
 use Rattle.guppy_search.specs.declared.ix.direction.DependencyDirection.TheVariants.{Forward}
 use Rattle.guppy_search.specs.Links.{links_at}
-use Rattle.guppy.specs.DevOnly.{is_dev_only}
-use Rattle.guppy.specs.Graph.{GraphData}
-use Rattle.guppy.specs.Ids.{HasId}
-use Rattle.guppy.specs.Members.{member_path}
-use Rattle.guppy_command.specs.Cause.{Cause, library, unpublishable}
+use Rattle.guppy_graph.specs.DevOnly.{is_dev_only}
+use Rattle.guppy_graph.specs.Graph.{GraphData}
+use Rattle.guppy_graph.specs.Ids.{HasId}
+use Rattle.guppy_graph.specs.Members.{member_path}
+use Rattle.guppy_process.specs.Cause.{Cause, library, unpublishable}
 
 -- to some registry
 abbrev pub is_somewhere : Publish → Bool

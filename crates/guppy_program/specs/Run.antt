@@ -1,11 +1,11 @@
 -- What a run of a program does.
 use Rattle.std.specs.Prelude.{◌≡◌, ◌⊎◌, ℕ, Bool, List, ◌++◌, Option, Some, None, IfSome, Result, Err, OnOk}
 use Rattle.std.specs.Io.KnownBytes.{IsAtEnd, Appends}
-use Rattle.guppy.specs.Graph.{GraphData}
+use Rattle.guppy_graph.specs.Graph.{GraphData}
+use Rattle.guppy_process.specs.Cause.{Cause, library, bad_arguments, ambiguous, no_walk, unpublishable, build, bad_input, input_failed, output_failed, OrMemory, caused, is_input_fault, is_output_fault, bad_before}
 use Rattle.guppy_command.specs.Asked.{Asked}
-use Rattle.guppy_command.specs.Cause.{Cause, library, bad_arguments, ambiguous, no_walk, unpublishable, build, bad_input, input_failed, output_failed, OrMemory, caused, is_input_fault, is_output_fault, bad_before}
 use Rattle.guppy_print.specs.Format.{Format}
-use Rattle.guppy_program.specs.Loaded.{IsLoaded, AreRefused, reads_details, IsBadBefore, IsLoadedBefore}
+use Rattle.guppy_program.specs.Loaded.{IsLoaded, AreRefused, details_for, IsBadBefore, IsLoadedBefore}
 use Rattle.guppy_print.specs.Answer.{Answer}
 use Rattle.guppy_program.specs.Answer.{IsFaultOn, shown}
 use Rattle.guppy_program.specs.Builds.{places_of}
@@ -35,7 +35,7 @@ IsRefusedOf format asked input fault cause = (g : GraphData)
 
 -- the fault, with this cause, is one of the input, or of the command on this graph
 abbrev pub IsFaultOf : {Fault : Type 0} → Format Fault → Asked → List ℕ → Fault → Cause → Type 0
-IsFaultOf format asked input fault bad_input = format.refuses (reads_details asked) input fault
+IsFaultOf format asked input fault bad_input = format.refuses (details_for asked) input fault
 IsFaultOf format asked input fault (library error) =
     OrMemory (AreRefused format asked input error
     ⊎ IsRefusedOf format asked input fault (library error)) error

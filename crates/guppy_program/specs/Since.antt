@@ -1,7 +1,7 @@
 -- What is answered where there is a state before.
 use Rattle.std.specs.Prelude.{◌≡◌, ℕ, List, ◌∷◌, ◌++◌, Option, Some, codes}
 use Rattle.guppy_data.specs.Platform.{question_of}
-use Rattle.guppy.specs.Graph.{GraphData}
+use Rattle.guppy_graph.specs.Graph.{GraphData}
 use Rattle.guppy_features.specs.declared.options.StandardFeatures.{StandardFeatures}
 use Rattle.guppy_features.specs.declared.options.StandardFeatures.TheVariants.{Default, All}
 use Rattle.guppy_affected.specs.Affected.{AreAffectedIdsAfter}

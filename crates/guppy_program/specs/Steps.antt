@@ -2,9 +2,9 @@
 use Rattle.std.specs.Prelude.{◌≡◌, ℕ, false, not, List, ◌∷◌, length, slice_get, IsSomeAnd}
 use Rattle.std.specs.List.{AllZip}
 use Rattle.guppy_data.specs.declared.records.LinkRecord.{LinkRecord}
-use Rattle.guppy.specs.DevOnly.{is_absent}
-use Rattle.guppy.specs.Graph.{GraphData}
-use Rattle.guppy.specs.Ids.{HasId}
+use Rattle.guppy_graph.specs.DevOnly.{is_absent}
+use Rattle.guppy_graph.specs.Graph.{GraphData}
+use Rattle.guppy_graph.specs.Ids.{HasId}
 use Rattle.guppy_extras.specs.Walk.{IsWalk, NoneShorter, Between}
 use Rattle.guppy_command.specs.declared.options.Kinds.{Kinds}
 

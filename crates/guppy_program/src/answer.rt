@@ -1,13 +1,13 @@
 //! What a command answers of a package graph.
 ghost use Rattle.std.specs.Prelude.{◌≡◌, ◌↔◌, ◌∷◌, [], ℕ, List, map, option_map, codes, string_bytes, IfOk, IfErr, IsOkUnless, OnOk, All, length};
 ghost use Rattle.std.specs.List.{AllZip};
-ghost use Rattle.guppy.specs.Ids.{IsKnown, DistinctBelow};
+ghost use Rattle.guppy_graph.specs.Ids.{IsKnown, DistinctBelow};
+ghost use Rattle.guppy_graph.specs.Refused.{NamesId, IsFirstUnknown};
 ghost use Rattle.guppy.specs.ListedCycles.{cycle_left};
 ghost use Rattle.guppy.specs.Query.{IncludesId};
-ghost use Rattle.guppy.specs.Refused.{NamesId, IsFirstUnknown};
 ghost use Rattle.guppy.specs.Views.{link_data};
 ghost use Rattle.guppy_affected.specs.Folders.{given_in};
-ghost use Rattle.guppy_command.specs.Cause.{Cause, library};
+ghost use Rattle.guppy_process.specs.Cause.{Cause, library};
 ghost use Rattle.guppy_program.specs.Answer.{IsReached, AreReached, IsReachAnswer, TellsDependence, IsDependsAnswer, IsOrderAnswer, IsRootsAnswer, IsLinksAnswer, IsCyclesAnswer, IsDuplicatesAnswer, IsVerifyAnswer, IsDotAnswer, IsAffectedAnswer, AreGiven, TellsAffected, IsFaultOn, IsWordFault, IsVerifyTold, IsLinkTold};
 ghost use Rattle.guppy_program.specs.Meant.{Means};
 ghost use Rattle.guppy_print.specs.Printed.{called};
@@ -25,12 +25,13 @@ use guppy::graph::DependencyDirection;
 use guppy::{CycleIds, Error, PackageGraph, PackageId, PackageLink, PackageSet};
 use guppy_affected::{affected, affected_after};
 use guppy_changes::{BuildSetting, changed_packages};
-use guppy_command::fault::{passed_on, want_of_memory};
-use guppy_command::{Asked, Command, Kinds, Options, ProgramFault};
+use guppy_command::{Asked, Command, Kinds, Options};
 use guppy_dot::drawing_of;
 use guppy_extras::duplicates;
 use guppy_features::StandardFeatures;
 use guppy_print::{Answer, Format, LinkEnds};
+use guppy_process::ProgramFault;
+use guppy_process::fault::{passed_on, want_of_memory};
 use std::alloc::{AllocError, Global};
 
 /// The IDs of the packages that the words mean, where each means one.

@@ -1,11 +1,11 @@
 //! What is answered of what Cargo builds.
 ghost use Rattle.std.specs.Prelude.{◌≡◌, ◌⊎◌, ℕ, List, All, IfErr, IfOk, IsSomeAnd, slice_get};
 ghost use Rattle.std.specs.List.{AllZip};
-ghost use Rattle.guppy.specs.Graph.{GraphData};
-ghost use Rattle.guppy.specs.Ids.{IsKnown};
+ghost use Rattle.guppy_graph.specs.Graph.{GraphData};
+ghost use Rattle.guppy_graph.specs.Ids.{IsKnown};
 ghost use Rattle.guppy_built.specs.Asked.{Choice, choice_of};
 ghost use Rattle.guppy_built.specs.Refused.{IsBuiltFault};
-ghost use Rattle.guppy_command.specs.Cause.{library, build, no_member, unknown_feature};
+ghost use Rattle.guppy_process.specs.Cause.{library, build, no_member, unknown_feature};
 ghost use Rattle.guppy_command.specs.Command.{built, features, why_feature};
 ghost use Rattle.guppy_command.specs.Shown.{asked_shown, request_shown};
 ghost use Rattle.guppy_data.specs.declared.texts.error.Error.TheVariants.{OutOfMemory};
@@ -18,11 +18,11 @@ ghost use Rattle.guppy_print.specs.Shown.{answer_shown};
 use crate::answer::all_meant;
 use guppy::{PackageGraph, PackageId};
 use guppy_built::{BuildQuestion, BuiltFault, built_packages, features_of, why_feature};
-use guppy_command::fault::{
-    feature_off, lacks_feature, no_member, unknown_feature, unresolved, want_of_memory,
-};
 use guppy_command::{Asked, BuildRequest, Options};
 use guppy_print::{Answer, Format, text_of};
+use guppy_process::fault::{
+    feature_off, lacks_feature, no_member, unknown_feature, unresolved, want_of_memory,
+};
 use std::alloc::Global;
 
 // What is asked of Cargo, of these members on the platforms that are asked about.

@@ -1,7 +1,8 @@
 //! The programs `guppy-run` and `guppy-cargo`, over any source and sink.
 //!
-//! What the arguments ask, and what is read and written, is `guppy_command`'s, and what differs between programs and how
-//! answers are printed is `guppy_print`'s; their types are passed on. The modules above that, from the bottom up:
+//! What the arguments ask is `guppy_command`'s, what is read and written `guppy_process`'s, and what differs between
+//! programs and how answers are printed `guppy_print`'s; their types are passed on. The modules above that, from the
+//! bottom up:
 //!
 //! - `files`: the files of the system;
 //! - `answer`: what a command answers of a package graph; `publish`: of the order in which members can be
@@ -23,10 +24,10 @@ mod verify;
 mod why;
 
 pub use files::IoFiles;
-pub use guppy_command::{
-    Asked, Command, DeviceFault, Ending, Fault, FileFault, Files, IoSink, IoSource, Kinds, NoFiles,
-    Options, OutputFormat, ProgramFault, Sink, Source, arguments,
-};
+pub use guppy_command::{Asked, Command, FileFault, Files, Kinds, NoFiles, Options, OutputFormat};
 pub use guppy_print::{Answer, Format, LinkEnds, Step};
+pub use guppy_process::{
+    DeviceFault, Ending, Fault, IoSink, IoSource, ProgramFault, Sink, Source, arguments,
+};
 pub use process::run_process;
 pub use program::{answer_bytes, run_with};

@@ -1,12 +1,13 @@
 //! The program as a process runs it: its arguments, files, a source, a sink, and another sink for its fault.
 ghost use Rattle.std.specs.Prelude.{◌≡◌, Result, Err, map, string_bytes, IfOk, IfErr, false};
-ghost use Rattle.guppy_command.specs.Process.{EndsIn};
+ghost use Rattle.guppy_process.specs.Process.{EndsIn};
 ghost use Rattle.guppy_program.specs.Run.{IsRun};
 
 use crate::program::run_of;
-use guppy_command::process::report;
-use guppy_command::{Ending, Files, Sink, Source};
+use guppy_command::Files;
 use guppy_print::Format;
+use guppy_process::process::report;
+use guppy_process::{Ending, Sink, Source};
 use std::alloc::Global;
 
 // The outcome of a run, where there are arguments.

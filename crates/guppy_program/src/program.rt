@@ -1,10 +1,10 @@
 //! A program, over any source and sink.
-ghost use Rattle.std.specs.Prelude.{◌≡◌, ◌⊎◌, ◌++◌, ℕ, List, Some, option_map, false, length, map, string_bytes, Err, OnOk, IfOk, IfErr, Bool};
+ghost use Rattle.std.specs.Prelude.{◌≡◌, ◌⊎◌, ◌++◌, ℕ, List, Some, option_map, false, length, map, string_bytes, Err, OnOk, IfOk, IfErr};
 ghost use Rattle.std.specs.Io.KnownBytes.{Appends};
-ghost use Rattle.guppy.specs.Ids.{DistinctBelow};
+ghost use Rattle.guppy_graph.specs.Ids.{DistinctBelow};
 ghost use Rattle.guppy_data.specs.declared.texts.error.Error.TheVariants.{OutOfMemory};
-ghost use Rattle.guppy_command.specs.Cause.{Cause, library, bad_arguments, bad_before, output_failed, caused, is_input_fault, is_output_fault};
-ghost use Rattle.guppy_program.specs.Loaded.{AreAskedOf, IsBadBefore, IsLoaded, IsLoadedBefore, IsLoadFault, asks_for_builds, counted_on, reads_details};
+ghost use Rattle.guppy_process.specs.Cause.{Cause, library, bad_arguments, bad_before, output_failed, caused, is_input_fault, is_output_fault};
+ghost use Rattle.guppy_program.specs.Loaded.{AreAskedOf, IsBadBefore, IsLoaded, IsLoadedBefore, IsLoadFault, asks_for_builds, counted_on, details_for};
 ghost use Rattle.guppy_program.specs.Answer.{IsFaultOn};
 ghost use Rattle.guppy_print.specs.Printed.{IsPrinted, called};
 ghost use Rattle.guppy_command.specs.Shown.{asked_shown, command_shown};
@@ -15,13 +15,14 @@ ghost use Rattle.guppy_program.specs.Builds.{places_of};
 use crate::answer::answer_of;
 use crate::members::shown;
 use guppy::{IntoGraph, PackageGraph};
-use guppy_command::fault::{passed_on, want_of_memory};
 use guppy_command::options::keep_links;
-use guppy_command::transfer::{read_all, write_text};
-use guppy_command::{Asked, Command, Fault, Files, ProgramFault, Sink, Source};
-use guppy_data::{LinkRecord, PackageRecord, PlatformSpec};
+use guppy_command::{Asked, Command, Files};
+use guppy_data::{Details, LinkRecord, PackageRecord, PlatformSpec};
 use guppy_platforms::{are_named, keep_counting};
 use guppy_print::{Format, printed};
+use guppy_process::fault::{passed_on, want_of_memory};
+use guppy_process::transfer::{read_all, write_text};
+use guppy_process::{Fault, ProgramFault, Sink, Source};
 use guppy_publish::add_declared;
 use std::alloc::Global;
 use std::mem;
@@ -62,12 +63,17 @@ fn asks_for_builds(command: &Command<'_>) -> bool
 
 // Whether records are read with details: for build targets, which say where sources lie, what is built, and what runs on
 // the host.
-fn reads_details(asked: &Asked<'_>) -> bool
-    ensures { result ≡ reads_details (asked_shown asked.now) }
+fn details_for(asked: &Asked<'_>) -> Details
+    ensures { result ≡ details_for (asked_shown asked.now) }
 {
-    are_named(&asked.platforms)
+    let wanted = are_named(&asked.platforms)
         || matches!(asked.command, Command::Affected { .. })
-        || asks_for_builds(&asked.command)
+        || asks_for_builds(&asked.command);
+    if wanted {
+        Details::With
+    } else {
+        Details::Without
+    }
 }
 
 // Leaves out the links that count on none of the platforms that are asked about, but where it is asked what Cargo builds,
@@ -106,7 +112,7 @@ fn load<F: Format>(
     ensures err { IfErr result (λ fault. IsLoadFault F.format (asked_shown asked.now) input.now
         fault (F.Fault.cause fault)) }
 {
-    let mut records = F::records_of(alloc, input, reads_details(asked))?;
+    let mut records = F::records_of(alloc, input, details_for(asked))?;
     keep_counted::<F>(
         alloc,
         asked,

@@ -2,7 +2,7 @@
 ghost use Rattle.std.specs.Prelude.{◌≡◌, length, map, All, IfOk, IfErr, IfSome, MatchOption, OnOk};
 ghost use Rattle.std.specs.List.{filter};
 ghost use Rattle.std.specs.Option.{option_map};
-ghost use Rattle.guppy.specs.Ids.{DistinctBelow};
+ghost use Rattle.guppy_graph.specs.Ids.{DistinctBelow};
 ghost use Rattle.guppy.specs.Views.{OfPackage, graph_of, link_graph, link_number, package_position};
 ghost use Rattle.guppy_command.specs.Command.{publish_order};
 ghost use Rattle.guppy_program.specs.Answer.{IsPublishAnswer, IsCommandFault};
@@ -13,8 +13,8 @@ ghost use Rattle.guppy_print.specs.Shown.{answer_shown};
 use crate::verify::verified;
 use guppy::{PackageGraph, PackageId, PackageLink, PackageMetadata};
 use guppy_command::Options;
-use guppy_command::fault::unpublishable;
 use guppy_print::{Answer, Format, text_of};
+use guppy_process::fault::unpublishable;
 use guppy_publish::publish_order;
 use std::alloc::Global;
 

@@ -3,15 +3,16 @@ ghost use Rattle.std.specs.Prelude.{◌≡◌, List, map, string_bytes, Ok, IfOk
 ghost use Rattle.guppy_data.specs.Texts.{round_text};
 ghost use Rattle.guppy_data.specs.declared.records.PackageRecord.{PackageRecord};
 ghost use Rattle.guppy_data.specs.declared.texts.fault.VerifyFault.TheVariants.{Cycle};
-ghost use Rattle.guppy.specs.Verified.{TellsVerifyFault, IsVerifyFault as IsGraphFault};
+ghost use Rattle.guppy_graph.specs.Verified.{TellsVerifyFault, IsVerifyFault as IsGraphFault};
 ghost use Rattle.guppy_program.specs.Answer.{IsToldAs, IsVerifyTold};
 ghost use Rattle.guppy_print.specs.Printed.{called};
 
 use guppy::{Error, PackageGraph, PackageId};
-use guppy_command::fault::want_of_memory;
-use guppy_command::{Fault, Options, ProgramFault};
+use guppy_command::Options;
 use guppy_data::VerifyFault;
 use guppy_print::{Format, text_of};
+use guppy_process::fault::want_of_memory;
+use guppy_process::{Fault, ProgramFault};
 use std::alloc::{AllocError, Global};
 
 // What the packages with these IDs are called, with an arrow behind each, and the first one again.

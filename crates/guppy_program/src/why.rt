@@ -2,8 +2,8 @@
 ghost use Rattle.std.specs.Prelude.{◌≡◌, ◌⊎◌, ℕ, List, not, map, All, IfOk, IfErr, IfSome, IfNone, IsOkUnless};
 ghost use Rattle.guppy_data.specs.DependencyReq.{seen_req};
 ghost use Rattle.guppy_data.specs.declared.texts.error.Error.TheVariants.{OutOfMemory};
-ghost use Rattle.guppy.specs.DevOnly.{is_absent};
-ghost use Rattle.guppy.specs.Ids.{IsKnown};
+ghost use Rattle.guppy_graph.specs.DevOnly.{is_absent};
+ghost use Rattle.guppy_graph.specs.Ids.{IsKnown};
 ghost use Rattle.guppy.specs.Views.{OfLink, link_graph, link_number};
 ghost use Rattle.guppy_extras.specs.Walk.{NoWalk, Between};
 ghost use Rattle.guppy_program.specs.Answer.{IsWhyAnswer, IsCommandFault};
@@ -13,10 +13,10 @@ ghost use Rattle.guppy_program.specs.Steps.{section_kinds, LeadsTo, AreStepsAlon
 
 use guppy::{Error, PackageGraph, PackageId, PackageLink};
 use guppy_command::Kinds;
-use guppy_command::fault::{no_walk, passed_on};
 use guppy_data::DependencyReq;
 use guppy_extras::shortest_walk;
 use guppy_print::{Answer, Format, Step};
+use guppy_process::fault::{no_walk, passed_on};
 use std::alloc::{AllocError, Global};
 
 fn is_present(section: DependencyReq<'_>) -> bool

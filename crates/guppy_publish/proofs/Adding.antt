@@ -4,7 +4,7 @@ use Rattle.std.proofs.lemmas.List.{append_assoc, append-nil, map-append, map_pus
 use Rattle.std.proofs.lemmas.List.Elements.{All-push, Contains-append_left, Contains-append_right, Contains-get_or, Contains-push}
 use Rattle.std.proofs.lemmas.List.Quantifiers.{all_pairs_push}
 use Rattle.guppy_data.specs.declared.records.LinkRecord.{LinkRecord}
-use Rattle.guppy.proofs.CyclicComponents.{Contains-map, from_map}
+use Rattle.guppy_data.proofs.Mapped.{Contains-map, from_map}
 use Rattle.guppy_publish.specs.Needs.{Pair, ends, IsLinked, IsNeed, IsAddedFor, IsLinkedFor, AreAdded}
 
 -- what none of them is, is not there

@@ -7,7 +7,7 @@ use Rattle.guppy_data.specs.declared.records.LinkRecord.{LinkRecord}
 use Rattle.guppy_data.specs.Platform.{Always, recorded_status}
 use Rattle.guppy_data.specs.Records.{IsRequired}
 use Rattle.guppy_graph.specs.DevOnly.{is_absent, is_dev_only, is_never}
-use Rattle.guppy.proofs.CyclicComponents.{from_map}
+use Rattle.guppy_data.proofs.Mapped.{from_map}
 use Rattle.guppy_publish.specs.Needs.{Pair, ends, IsDeclaredDevOnly, IsFirmlyLinked, IsMadeFirm, IsNeed, IsNeedOf, AreAdded, AreNeeds}
 
 module _ {X Y : Type 0} (R : X → Y → Type 0) where

@@ -1,11 +1,11 @@
 -- The order in which the members of a workspace can be published.
 use Rattle.std.specs.Prelude.{◌≡◌, ◌≢◌, ◌↔◌, ℕ, List}
-use Rattle.guppy.specs.Graph.{GraphData}
+use Rattle.guppy_search.specs.Reach.{Walk}
+use Rattle.guppy_core.specs.Listing.{Stands, IsOnce, Precedes}
+use Rattle.guppy_graph.specs.Graph.{GraphData}
+use Rattle.guppy_graph.specs.Members.{IsMember}
+use Rattle.guppy_graph.specs.Ordered.{FirmStep}
 use Rattle.guppy.specs.Listed.{ids_at}
-use Rattle.guppy.specs.Listing.{Stands, IsOnce, Precedes}
-use Rattle.guppy.specs.Members.{IsMember}
-use Rattle.guppy.specs.Ordered.{FirmStep}
-use Rattle.guppy.specs.Reach.{Walk}
 
 -- each member of the workspace once, nothing else, and each after every other member to which a walk
 -- over links that aren't dev-only leads from it, through whatever packages

@@ -2,9 +2,9 @@
 #![tactic(auto)]
 
 ghost use Rattle.std.specs.Prelude.{◌≡◌, map, IfOk, IfErr, OnOk};
-ghost use Rattle.guppy.specs.FirmCycles.{HasNoFirmCycle};
+ghost use Rattle.guppy_graph.specs.FirmCycles.{HasNoFirmCycle};
+ghost use Rattle.guppy_graph.specs.Verified.{IsVerified, IsVerifyFault, TellsVerifyFault};
 ghost use Rattle.guppy.specs.Listed.{listed_ids_left};
-ghost use Rattle.guppy.specs.Verified.{IsVerified, IsVerifyFault, TellsVerifyFault};
 ghost use Rattle.guppy_publish.specs.Publishing.{ArePublishIds};
 
 pub mod laws;

@@ -3,6 +3,7 @@
 //! A node is a position from 0 up to the node count, a link goes from one position to another
 //! and has a number from 0 up to the link count. The modules, from the bottom up:
 //!
+//! - `hints`: hints at where things stand in a list;
 //! - `ix`: directions, index types and sets of positions;
 //! - `graph_core`: the graph itself;
 //! - `dfs`: searches that show each leaving link to a visitor;
@@ -14,6 +15,7 @@
 
 pub mod dfs;
 pub mod graph_core;
+pub mod hints;
 pub mod ix;
 pub mod walk;
 
@@ -23,5 +25,6 @@ pub use dfs::{
     reachable_with, reachable_with_fn,
 };
 pub use graph_core::{CountedGraph, Graph, GraphFault, LIMIT, Link};
+pub use hints::Hints;
 pub use ix::{DependencyDirection, GraphSpec, IndexType, IxOnes, IxSet, PackageIx};
 pub use walk::EdgeDfs;

@@ -2,7 +2,7 @@
 use Rattle.std.proofs.Common.{◌≡◌, ℕ, ◌-◌, ◌≤◌, Bool, true, false, cond, eqb, List, [], ◌∷◌, ◌++◌, length, Some, None, take, drop, inl, inr, refl, sym, ap, ap₂, ◌∙◌, subst, arith, length-append}
 use Rattle.std.specs.Prelude.{Option, ◌↔◌, ◌&&◌, IsTrue, codes, option_map, option_and_then}
 use Rattle.std.specs.List.{AllByRecursion, list_all}
-use Rattle.std.specs.Str.{bytes_eq}
+use Rattle.std.specs.Str.{byte, bytes_eq}
 use Rattle.std.proofs.lemmas.Bool.Decides.{Decides-eqb}
 use Rattle.std.proofs.lemmas.List.{take-append-drop, take_at}
 use Rattle.std.proofs.lemmas.Option.{cond_some}
@@ -50,8 +50,8 @@ last_some q p (c ∷ cs) e = absurd (cc)
 -- where nothing is behind the spaces, they are all
 pub are_spaces : (l : List ℕ) → after_spaces l ≡ [] → AreSpaces l
 are_spaces [] e = tt
-are_spaces (c ∷ cs) e = elim (chosen (eqb c 32) (after_spaces cs) (c ∷ cs) [] e) [
-  | inl h ↦ ((Decides-eqb c 32).0 h.0, are_spaces cs h.1)
+are_spaces (c ∷ cs) e = elim (chosen (eqb c (byte " ")) (after_spaces cs) (c ∷ cs) [] e) [
+  | inl h ↦ ((Decides-eqb c (byte " ")).0 h.0, are_spaces cs h.1)
   | inr h ↦ absurd (let no_list : (c ∷ cs) ≡ [] = h.1 in cc)
 ]
 
@@ -76,7 +76,7 @@ predicate_again : (text : List ℕ) (p : Predicate) (r : Reads text p) → predi
 unfolding predicate_of
 predicate_again text p r =
     ap (option_and_then (λ (x : Predicate × List ℕ). if_last x.0 (after_spaces x.1)))
-    (again p max_levels r.tokens r.inner r.spaces r.spells r.nests r.lies (mark_nothing 61 r.spaces r.are_spaces))
+    (again p max_levels r.tokens r.inner r.spaces r.spells r.nests r.lies (mark_nothing (byte "=") r.spaces r.are_spaces))
     ∙ ap (if_last p) (only_spaces r.spaces r.are_spaces)
 
 -- A text reads as one predicate.

@@ -2,6 +2,7 @@
 use Rattle.std.proofs.Common.{◌≡◌, ℕ, zero, suc, ◌<◌, List, [], ◌∷◌, ◌++◌, length, get_or, take, arith, Some, None, inr, refl, sym, ap, ◌∙◌, subst}
 use Rattle.std.specs.Prelude.{Option, option_and_then, IfSome, slice_get, is_some, true}
 use Rattle.std.specs.List.{list_all}
+use Rattle.std.specs.Str.{byte}
 use Rattle.guppy_target.specs.Cfg.{Setting, name, pair}
 use Rattle.guppy_target.specs.Grammar.{word, quoted, Begins}
 use Rattle.guppy_target.specs.Reading.{after_spaces, mark_at, word_at, quoted_at, if_ended, line_from, line_at}
@@ -17,14 +18,14 @@ ended_some : (r s : Setting) (l : List ℕ) → if_ended r l ≡ Some s → (l �
 ended_some r s [] e = (refl, cc)
 ended_some r s (c ∷ cs) e = absurd (cc)
 
-from_takes : (line w rest : List ℕ) → Begins (word w) line rest → (o : Option (List ℕ)) → mark_at 61 rest ≡ o → (s : Setting) → line_from w rest o ≡ Some s → IsLine line s
+from_takes : (line w rest : List ℕ) → Begins (word w) line rest → (o : Option (List ℕ)) → mark_at (byte "=") rest ≡ o → (s : Setting) → line_from w rest o ≡ Some s → IsLine line s
 from_takes line w rest begins None c s e =
     let l = ended_some (name w) s (after_spaces rest) e in
     subst (λ (r : Setting). IsLine line r) l.1 (record { spaces = rest; are_spaces = are_spaces rest l.0; lies = (rest, begins, refl) })
 from_takes line w rest begins (Some behind) c s e =
     let b = bind_some (λ (x : List ℕ × List ℕ). if_ended (pair w x.0) (after_spaces x.1)) (quoted_at behind) s e in
     let l = ended_some (pair w b.0.0) s (after_spaces b.0.1) b.2 in
-    let equals = begins_mark 61 rest behind (inr (inr (inr refl))) c in
+    let equals = begins_mark (byte "=") rest behind (inr (inr (inr refl))) c in
     subst (λ (r : Setting). IsLine line r) l.1 (record {
       spaces = b.0.1;
       are_spaces = are_spaces b.0.1 l.0;
@@ -34,20 +35,20 @@ from_takes line w rest begins (Some behind) c s e =
 pub line_takes : (line : List ℕ) (s : Setting) → line_at line ≡ Some s → IsLine line s
 unfolding line_at
 line_takes line s e =
-    let b = bind_some (λ (x : List ℕ × List ℕ). line_from x.0 x.1 (mark_at 61 x.1)) (word_at line) s e in
-    from_takes line b.0.0 b.0.1 (word_takes line b.0 b.1) (mark_at 61 b.0.1) refl s b.2
+    let b = bind_some (λ (x : List ℕ × List ℕ). line_from x.0 x.1 (mark_at (byte "=") x.1)) (word_at line) s e in
+    from_takes line b.0.0 b.0.1 (word_takes line b.0 b.1) (mark_at (byte "=") b.0.1) refl s b.2
 
 pub line_again : (line : List ℕ) (s : Setting) → IsLine line s → line_at line ≡ Some s
 unfolding line_at
 line_again line (name w) h =
     let begins : Begins (word w) line h.spaces = subst (λ (t : List ℕ). Begins (word w) line t) h.lies.2 h.lies.1 in
-    ap (option_and_then (λ (x : List ℕ × List ℕ). line_from x.0 x.1 (mark_at 61 x.1))) (word_again w line h.spaces begins)
-    ∙ ap (line_from w h.spaces) (mark_nothing 61 h.spaces h.are_spaces)
+    ap (option_and_then (λ (x : List ℕ × List ℕ). line_from x.0 x.1 (mark_at (byte "=") x.1))) (word_again w line h.spaces begins)
+    ∙ ap (line_from w h.spaces) (mark_nothing (byte "=") h.spaces h.are_spaces)
     ∙ ap (if_ended (name w)) (only_spaces h.spaces h.are_spaces)
 line_again line (pair k v) h =
     let q : Begins (quoted v) h.lies.2.0 h.spaces = subst (λ (t : List ℕ). Begins (quoted v) h.lies.2.0 t) h.lies.2.2.2 h.lies.2.2.1 in
-    ap (option_and_then (λ (x : List ℕ × List ℕ). line_from x.0 x.1 (mark_at 61 x.1))) (word_again k line h.lies.0 h.lies.1)
-    ∙ ap (line_from k h.lies.0) (mark_is 61 h.lies.0 h.lies.2.0 refl h.lies.2.1)
+    ap (option_and_then (λ (x : List ℕ × List ℕ). line_from x.0 x.1 (mark_at (byte "=") x.1))) (word_again k line h.lies.0 h.lies.1)
+    ∙ ap (line_from k h.lies.0) (mark_is (byte "=") h.lies.0 h.lies.2.0 refl h.lies.2.1)
     ∙ ap (option_and_then (λ (x : List ℕ × List ℕ). if_ended (pair k x.0) (after_spaces x.1))) (quoted_again v h.lies.2.0 h.spaces q)
     ∙ ap (if_ended (pair k v)) (only_spaces h.spaces h.are_spaces)
 

@@ -1,7 +1,7 @@
 -- What is read stands there: the tokens of a predicate lie where it was read.
 use Rattle.std.proofs.Common.{◌≡◌, ℕ, zero, suc, ◌+◌, ◌≤◌, Bool, true, false, cond, List, [], ◌∷◌, ◌++◌, length, Some, None, inl, inr, refl, sym, ap, subst, arith, length-append}
 use Rattle.std.specs.Prelude.{Option, Decides, codes, option_map, option_and_then}
-use Rattle.std.specs.Str.{bytes_eq}
+use Rattle.std.specs.Str.{byte, bytes_eq}
 use Rattle.std.proofs.lemmas.Slice.Eq.{bytes_eq-Decides}
 use Rattle.guppy_target.specs.Cfg.{Setting, name, pair, Predicate, Predicates, is_set, all_of, any_of, not_of, constant, no_more, also, levels, levels_of_each}
 use Rattle.guppy_target.specs.Grammar.{Token, word, quoted, mark, spelling, IsMark, IsOperator, Begins, Lies, applied, Spells, SpellsEach}
@@ -47,42 +47,42 @@ pub record TookEach (d : ℕ) (text : List ℕ) (x : Predicates × List ℕ) : T
   pub behind : List ℕ
   pub spells : SpellsEach x.0 tokens
   pub lies : Lies tokens text behind
-  pub closes : Begins (mark 41) behind x.1
+  pub closes : Begins (mark (byte ")")) behind x.1
   pub nests : levels_of_each x.0 ≤ d
 
-lies_applied : (operator : List ℕ) (inner : List Token) (text a b c behind : List ℕ) → Begins (word operator) text a → Begins (mark 40) a b → Lies inner b c → Begins (mark 41) c behind
+lies_applied : (operator : List ℕ) (inner : List Token) (text a b c behind : List ℕ) → Begins (word operator) text a → Begins (mark (byte "(")) a b → Lies inner b c → Begins (mark (byte ")")) c behind
     → Lies (applied operator inner) text behind
-lies_applied operator inner text a b c behind w o i e = (a, w, (b, o, Lies-append inner (mark 41 ∷ []) b c behind i (behind, e, refl)))
+lies_applied operator inner text a b c behind w o i e = (a, w, (b, o, Lies-append inner (mark (byte ")") ∷ []) b c behind i (behind, e, refl)))
 
 module _ (read : List ℕ → Option (Predicate × List ℕ)) (d : ℕ) (takes : (text : List ℕ) (x : Predicate × List ℕ) → read text ≡ Some x → Took d text x) where
   on_takes : (more : List ℕ → Option (Predicates × List ℕ)) → ((text : List ℕ) (x : Predicates × List ℕ) → more text ≡ Some x → TookEach d text x)
-      → (text : List ℕ) (p : Predicate × List ℕ) → Took d text p → (o : Option (List ℕ)) → mark_at 44 p.1 ≡ o
+      → (text : List ℕ) (p : Predicate × List ℕ) → Took d text p → (o : Option (List ℕ)) → mark_at (byte ",") p.1 ≡ o
       → (x : Predicates × List ℕ) → operands_on more p.0 p.1 o ≡ Some x → TookEach d text x
   on_takes more each text p took (Some next) c x e =
       let m = map_some (λ (y : Predicates × List ℕ). (also p.0 y.0, y.1)) (more next) x e in
       let rest = each next m.0 m.1 in
-      let comma = begins_mark 44 p.1 next (inr (inr (inl refl))) c in
+      let comma = begins_mark (byte ",") p.1 next (inr (inr (inl refl))) c in
       subst (λ (y : Predicates × List ℕ). TookEach d text y) m.2 (record {
-        tokens = took.tokens ++ (mark 44 ∷ rest.tokens);
+        tokens = took.tokens ++ (mark (byte ",") ∷ rest.tokens);
         behind = rest.behind;
         spells = (took.tokens, took.spells, inr (rest.tokens, rest.spells, refl));
-        lies = Lies-append took.tokens (mark 44 ∷ rest.tokens) text p.1 rest.behind took.lies (next, comma, rest.lies);
+        lies = Lies-append took.tokens (mark (byte ",") ∷ rest.tokens) text p.1 rest.behind took.lies (next, comma, rest.lies);
         closes = rest.closes;
         nests = (let a = took.nests in let b = rest.nests in omega arith);
       })
   on_takes more each text p took None c x e =
-      let m = map_some (λ (l : List ℕ). (also p.0 no_more, l)) (mark_at 41 p.1) x e in
+      let m = map_some (λ (l : List ℕ). (also p.0 no_more, l)) (mark_at (byte ")") p.1) x e in
       subst (λ (y : Predicates × List ℕ). TookEach d text y) m.2 (record {
         tokens = took.tokens;
         behind = p.1;
         spells = (took.tokens, took.spells, inl (refl, refl));
         lies = took.lies;
-        closes = begins_mark 41 p.1 m.0 (inr (inl refl)) m.1;
+        closes = begins_mark (byte ")") p.1 m.0 (inr (inl refl)) m.1;
         nests = (let a = took.nests in omega arith);
       })
 
   step_takes : (more : List ℕ → Option (Predicates × List ℕ)) → ((text : List ℕ) (x : Predicates × List ℕ) → more text ≡ Some x → TookEach d text x)
-      → (text : List ℕ) (o : Option (List ℕ)) → mark_at 41 text ≡ o
+      → (text : List ℕ) (o : Option (List ℕ)) → mark_at (byte ")") text ≡ o
       → (x : Predicates × List ℕ) → operands_step read more text o ≡ Some x → TookEach d text x
   step_takes more each text (Some rest) c x e =
       let is : (no_more, rest) ≡ x = cc in
@@ -91,17 +91,17 @@ module _ (read : List ℕ → Option (Predicate × List ℕ)) (d : ℕ) (takes :
         behind = text;
         spells = refl;
         lies = refl;
-        closes = begins_mark 41 text rest (inr (inl refl)) c;
+        closes = begins_mark (byte ")") text rest (inr (inl refl)) c;
         nests = omega arith;
       })
   step_takes more each text None c x e =
-      let b = bind_some (λ (y : Predicate × List ℕ). operands_on more y.0 y.1 (mark_at 44 y.1)) (read text) x e in
-      on_takes more each text b.0 (takes text b.0 b.1) (mark_at 44 b.0.1) refl x b.2
+      let b = bind_some (λ (y : Predicate × List ℕ). operands_on more y.0 y.1 (mark_at (byte ",") y.1)) (read text) x e in
+      on_takes more each text b.0 (takes text b.0 b.1) (mark_at (byte ",") b.0.1) refl x b.2
 
   operands_takes : (n : ℕ) (text : List ℕ) (x : Predicates × List ℕ) → operands_at read n text ≡ Some x → TookEach d text x
   unfolding operands_at
   operands_takes zero text x e = absurd (cc)
-  operands_takes (suc n) text x e = step_takes (operands_at read n) (operands_takes n) text (mark_at 41 text) refl x e
+  operands_takes (suc n) text x e = step_takes (operands_at read n) (operands_takes n) text (mark_at (byte ")") text) refl x e
 
   all_takes : (w text behind : List ℕ) → Begins (word w) text behind → (wrap : Predicates → Predicate) → ((ps : Predicates) → levels (wrap ps) ≡ levels_of_each ps + 1)
       → ((ps : Predicates) (inner : List Token) → SpellsEach ps inner → Spells (wrap ps) (applied w inner))
@@ -109,8 +109,8 @@ module _ (read : List ℕ → Option (Predicate × List ℕ)) (d : ℕ) (takes :
   unfolding all_operands_at
   all_takes w text behind begins wrap deeper spelled x e =
       let m = map_some (λ (y : Predicates × List ℕ). (wrap y.0, y.1)) (all_operands_at read behind) x e in
-      let b = bind_some (λ (t : List ℕ). operands_at read (length t) t) (mark_at 40 behind) m.0 m.1 in
-      let opens = begins_mark 40 behind b.0 (inl refl) b.1 in
+      let b = bind_some (λ (t : List ℕ). operands_at read (length t) t) (mark_at (byte "(") behind) m.0 m.1 in
+      let opens = begins_mark (byte "(") behind b.0 (inl refl) b.1 in
       let each = operands_takes (length b.0) b.0 m.0 b.2 in
       let one = deeper m.0.0 in
       subst (λ (y : Predicate × List ℕ). Took (suc d) text y) m.2 (record {
@@ -123,12 +123,12 @@ module _ (read : List ℕ → Option (Predicate × List ℕ)) (d : ℕ) (takes :
   negated_takes : (w text behind : List ℕ) → Begins (word w) text behind → w ≡ codes "not" → (x : Predicate × List ℕ) → negated_at read behind ≡ Some x → Took (suc d) text x
   unfolding negated_at
   negated_takes w text behind begins is x e =
-      let b = bind_some (λ (y : Predicate × List ℕ). closed y.0 y.1) (option_and_then read (mark_at 40 behind)) x e in
-      let r = bind_some read (mark_at 40 behind) b.0 b.1 in
-      let opens = begins_mark 40 behind r.0 (inl refl) r.1 in
+      let b = bind_some (λ (y : Predicate × List ℕ). closed y.0 y.1) (option_and_then read (mark_at (byte "(") behind)) x e in
+      let r = bind_some read (mark_at (byte "(") behind) b.0 b.1 in
+      let opens = begins_mark (byte "(") behind r.0 (inl refl) r.1 in
       let took = takes r.0 b.0 r.2 in
-      let m = map_some (λ (l : List ℕ). (not_of b.0.0, l)) (mark_at 41 b.0.1) x b.2 in
-      let close = begins_mark 41 b.0.1 m.0 (inr (inl refl)) m.1 in
+      let m = map_some (λ (l : List ℕ). (not_of b.0.0, l)) (mark_at (byte ")") b.0.1) x b.2 in
+      let close = begins_mark (byte ")") b.0.1 m.0 (inr (inl refl)) m.1 in
       subst (λ (y : Predicate × List ℕ). Took (suc d) text y) m.2 (record {
         tokens = applied w took.tokens;
         spells = (took.tokens, took.spells, ap (λ (v : List ℕ). applied v took.tokens) is);
@@ -148,7 +148,7 @@ bare_levels w true b = refl
 bare_levels w false true = refl
 bare_levels w false false = refl
 
-from_takes : (d : ℕ) (w text behind : List ℕ) → Begins (word w) text behind → (IsOperator w → ⊥) → (o : Option (List ℕ)) → mark_at 61 behind ≡ o
+from_takes : (d : ℕ) (w text behind : List ℕ) → Begins (word w) text behind → (IsOperator w → ⊥) → (o : Option (List ℕ)) → mark_at (byte "=") behind ≡ o
     → (x : Predicate × List ℕ) → setting_from w behind o ≡ Some x → Took (suc d) text x
 from_takes d w text behind begins op None c x e =
     let is : (bare w, behind) ≡ x = cc in
@@ -161,9 +161,9 @@ from_takes d w text behind begins op None c x e =
     })
 from_takes d w text behind begins op (Some next) c x e =
     let m = map_some (λ (y : List ℕ × List ℕ). (is_set (pair w y.0), y.1)) (quoted_at next) x e in
-    let equals = begins_mark 61 behind next (inr (inr (inr refl))) c in
+    let equals = begins_mark (byte "=") behind next (inr (inr (inr refl))) c in
     subst (λ (y : Predicate × List ℕ). Took (suc d) text y) m.2 (record {
-      tokens = word w ∷ mark 61 ∷ quoted m.0.0 ∷ [];
+      tokens = word w ∷ mark (byte "=") ∷ quoted m.0.0 ∷ [];
       spells = (op, refl);
       lies = (behind, begins, (next, equals, (m.0.1, quoted_takes next m.0 m.1, refl)));
       nests = omega arith;
@@ -171,7 +171,7 @@ from_takes d w text behind begins op (Some next) c x e =
 
 setting_takes : (d : ℕ) (w text behind : List ℕ) → Begins (word w) text behind → (IsOperator w → ⊥) → (x : Predicate × List ℕ) → setting_at w behind ≡ Some x → Took (suc d) text x
 unfolding setting_at
-setting_takes d w text behind begins op x e = from_takes d w text behind begins op (mark_at 61 behind) refl x e
+setting_takes d w text behind begins op x e = from_takes d w text behind begins op (mark_at (byte "=") behind) refl x e
 
 no_operator : (w : List ℕ) → bytes_eq w (codes "not") ≡ false → bytes_eq w (codes "all") ≡ false → bytes_eq w (codes "any") ≡ false → IsOperator w → ⊥
 no_operator w n a o (inl is) = let yes : bytes_eq w (codes "all") ≡ true = (bytes_eq-Decides w (codes "all")).1 is in absurd (cc)

@@ -3,6 +3,7 @@ use Rattle.std.proofs.Common.{◌≡◌, ◌≢◌, ℕ, suc, ◌+◌, ◌<◌, 
 use Rattle.std.specs.Prelude.{not, ◌||◌, option_map, option_and_then, position, IsTrue}
 use Rattle.std.specs.Int.{is_in_range}
 use Rattle.std.specs.List.{AllByRecursion, position_or_len}
+use Rattle.std.specs.Str.{byte}
 use Rattle.std.proofs.lemmas.Bool.Decides.{Decides-eqb, nat_tests}
 use Rattle.std.proofs.lemmas.List.{take-append-drop, take_at}
 use Rattle.std.proofs.lemmas.Option.{cond_some}
@@ -38,7 +39,7 @@ either_more false b d e h = h
 
 -- what begins a word may go on in it
 pub starts_is_of_word : (c : ℕ) → starts_word c ≡ true → is_of_word c ≡ true
-starts_is_of_word c h = either_more (is_in_range 48 57 c) (is_in_range 65 90 c) (is_in_range 97 122 c) (eqb c 95) h
+starts_is_of_word c h = either_more (is_in_range (byte "0") (byte "9") c) (is_in_range (byte "A") (byte "Z") c) (is_in_range (byte "a") (byte "z") c) (eqb c (byte "_")) h
 
 word_first_some : (text : List ℕ) (x : List ℕ × List ℕ) → word_first text ≡ Some x → (text ≡ x.0 ++ x.1) × IsWord x.0 × EndsWord x.1
 word_first_some [] x e = absurd (cc)
@@ -64,13 +65,13 @@ pub drop_at : (w rest : List ℕ) → drop (length w) (w ++ rest) ≡ rest
 drop_at [] rest = refl
 drop_at (c ∷ w) rest = drop_at w rest
 
-no_space : (c : ℕ) (b : Bool) → eqb c 32 ≡ b → starts_word c ≡ true → b ≡ false
-no_space c true is h = let no : false ≡ true = subst (λ (n : ℕ). starts_word n ≡ true) ((Decides-eqb c 32).0 is) h in absurd (cc)
+no_space : (c : ℕ) (b : Bool) → eqb c (byte " ") ≡ b → starts_word c ≡ true → b ≡ false
+no_space c true is h = let no : false ≡ true = subst (λ (n : ℕ). starts_word n ≡ true) ((Decides-eqb c (byte " ")).0 is) h in absurd (cc)
 no_space c false is h = refl
 
 -- no space begins a word
-pub word_start : (c : ℕ) → starts_word c ≡ true → eqb c 32 ≡ false
-word_start c h = no_space c (eqb c 32) refl h
+pub word_start : (c : ℕ) → starts_word c ≡ true → eqb c (byte " ") ≡ false
+word_start c h = no_space c (eqb c (byte " ")) refl h
 
 pub word_again : (w text behind : List ℕ) → Begins (word w) text behind → word_at text ≡ Some (w, behind)
 unfolding word_at
@@ -86,61 +87,61 @@ word_again (c ∷ cs) text behind h =
 
 -- where the first quote is
 abbrev quote : List ℕ → ℕ
-quote cs = position_or_len (λ c. eqb c 34) cs
+quote cs = position_or_len (λ c. eqb c (byte "\"")) cs
 
 abbrev Closed : List ℕ → ℕ → Type 0
-Closed cs n = (cs ≡ take n cs ++ (34 ∷ drop (n + 1) cs)) × AllByRecursion (λ c. c ≢ 34) (take n cs)
+Closed cs n = (cs ≡ take n cs ++ (byte "\"" ∷ drop (n + 1) cs)) × AllByRecursion (λ c. c ≢ byte "\"") (take n cs)
 
-closed_suc : (c : ℕ) (cs : List ℕ) (n : ℕ) → c ≢ 34 → Closed cs n → Closed (c ∷ cs) (suc n)
+closed_suc : (c : ℕ) (cs : List ℕ) (n : ℕ) → c ≢ byte "\"" → Closed cs n → Closed (c ∷ cs) (suc n)
 closed_suc c cs n other h = let e : suc n + 1 ≡ suc (n + 1) = omega arith in rw e (ap (λ (l : List ℕ). c ∷ l) h.0, (other, h.1))
 
-closed_more : (c : ℕ) (cs : List ℕ) (b : Bool) → eqb c 34 ≡ b → (quote cs < length cs → Closed cs (quote cs)) → cond (not b) (1 + quote cs) 0 < length (c ∷ cs)
+closed_more : (c : ℕ) (cs : List ℕ) (b : Bool) → eqb c (byte "\"") ≡ b → (quote cs < length cs → Closed cs (quote cs)) → cond (not b) (1 + quote cs) 0 < length (c ∷ cs)
     → Closed (c ∷ cs) (cond (not b) (1 + quote cs) 0)
-closed_more c cs true is h lt = (ap (λ (d : ℕ). d ∷ cs) ((Decides-eqb c 34).0 is), tt)
+closed_more c cs true is h lt = (ap (λ (d : ℕ). d ∷ cs) ((Decides-eqb c (byte "\"")).0 is), tt)
 closed_more c cs false is h lt =
     let e : 1 + quote cs ≡ suc (quote cs) = omega arith in
-    let other : c ≢ 34 = λ same. (let yes : eqb c 34 ≡ true = (Decides-eqb c 34).1 same in absurd (cc)) in
+    let other : c ≢ byte "\"" = λ same. (let yes : eqb c (byte "\"") ≡ true = (Decides-eqb c (byte "\"")).1 same in absurd (cc)) in
     rw e (closed_suc c cs (quote cs) other (h (omega arith)))
 
 closed : (cs : List ℕ) → quote cs < length cs → Closed cs (quote cs)
 closed [] lt = absurd (omega arith)
-closed (c ∷ cs) lt = closed_more c cs (eqb c 34) refl (closed cs) lt
+closed (c ∷ cs) lt = closed_more c cs (eqb c (byte "\"")) refl (closed cs) lt
 
 pub quoted_takes : (text : List ℕ) (x : List ℕ × List ℕ) → quoted_at text ≡ Some x → Begins (quoted x.0) text x.1
 unfolding quoted_at
 quoted_takes text x e =
-    let b = bind_some quoted_behind (mark_at 34 text) x e in
+    let b = bind_some quoted_behind (mark_at (byte "\"") text) x e in
     let cs : List ℕ = b.0 in
-    let s = mark_takes 34 text cs b.1 in
-    let m = map_some (λ (n : ℕ). (take n cs, drop (n + 1) cs)) (position (λ c. eqb c 34) cs) x b.2 in
+    let s = mark_takes (byte "\"") text cs b.1 in
+    let m = map_some (λ (n : ℕ). (take n cs, drop (n + 1) cs)) (position (λ c. eqb c (byte "\"")) cs) x b.2 in
     let p = cond_some (ltb (quote cs) (length cs)) (quote cs) m.0 m.1 in
     let test : ltb (quote cs) (length cs) ≡ true = p.0 in
     let lt : quote cs < length cs = grind (arith, nat_tests) in
     let c : Closed cs m.0 = subst (λ (n : ℕ). Closed cs n) p.1 (closed cs lt) in
-    let is : text ≡ s.0 ++ ((34 ∷ (take m.0 cs ++ 34 ∷ [])) ++ drop (m.0 + 1) cs) =
-    s.2 ∙ ap (λ (l : List ℕ). s.0 ++ (34 ∷ l)) (c.0 ∙ sym (append_assoc (take m.0 cs) (34 ∷ []) (drop (m.0 + 1) cs))) in
+    let is : text ≡ s.0 ++ ((byte "\"" ∷ (take m.0 cs ++ byte "\"" ∷ [])) ++ drop (m.0 + 1) cs) =
+    s.2 ∙ ap (λ (l : List ℕ). s.0 ++ (byte "\"" ∷ l)) (c.0 ∙ sym (append_assoc (take m.0 cs) (byte "\"" ∷ []) (drop (m.0 + 1) cs))) in
     subst (λ (y : List ℕ × List ℕ). Begins (quoted y.0) text y.1) m.2
     (record { spaces = s.0; are_spaces = s.1; text_is = is; is_token = c.1 })
 
-quote_of : (v rest : List ℕ) → AllByRecursion (λ c. c ≢ 34) v → quote (v ++ (34 ∷ rest)) ≡ length v
+quote_of : (v rest : List ℕ) → AllByRecursion (λ c. c ≢ byte "\"") v → quote (v ++ (byte "\"" ∷ rest)) ≡ length v
 quote_of [] rest all = refl
 quote_of (c ∷ v) rest all =
-    let no : eqb c 34 ≡ false = grind (arith, nat_tests, all.0) in
-    let e : 1 + quote (v ++ (34 ∷ rest)) ≡ suc (length v) = omega (arith, quote_of v rest all.1) in
-    ap (λ (b : Bool). cond (not b) (1 + quote (v ++ (34 ∷ rest))) 0) no ∙ e
+    let no : eqb c (byte "\"") ≡ false = grind (arith, nat_tests, all.0) in
+    let e : 1 + quote (v ++ (byte "\"" ∷ rest)) ≡ suc (length v) = omega (arith, quote_of v rest all.1) in
+    ap (λ (b : Bool). cond (not b) (1 + quote (v ++ (byte "\"" ∷ rest))) 0) no ∙ e
 
-drop_past : (v rest : List ℕ) → drop (length v + 1) (v ++ (34 ∷ rest)) ≡ rest
+drop_past : (v rest : List ℕ) → drop (length v + 1) (v ++ (byte "\"" ∷ rest)) ≡ rest
 drop_past [] rest = refl
 drop_past (c ∷ v) rest = let e : suc (length v) + 1 ≡ suc (length v + 1) = omega arith in rw e (drop_past v rest)
 
 pub quoted_again : (v text behind : List ℕ) → Begins (quoted v) text behind → quoted_at text ≡ Some (v, behind)
 unfolding quoted_at
 quoted_again v text behind h =
-    let l : List ℕ = v ++ (34 ∷ behind) in
-    let there : Spaced text (34 ∷ l) = (h.spaces, h.are_spaces, h.text_is ∙ ap (λ (t : List ℕ). h.spaces ++ (34 ∷ t)) (append_assoc v (34 ∷ []) behind)) in
+    let l : List ℕ = v ++ (byte "\"" ∷ behind) in
+    let there : Spaced text (byte "\"" ∷ l) = (h.spaces, h.are_spaces, h.text_is ∙ ap (λ (t : List ℕ). h.spaces ++ (byte "\"" ∷ t)) (append_assoc v (byte "\"" ∷ []) behind)) in
     let at : quote l ≡ length v = quote_of v behind h.is_token in
-    let lt : ltb (quote l) (length l) ≡ true = (let s = length-append v (34 ∷ behind) in grind (arith, nat_tests)) in
-    let place : position (λ c. eqb c 34) l ≡ Some (length v) = ap (λ (b : Bool). cond b (Some (quote l)) None) lt ∙ ap Some at in
-    ap (option_and_then quoted_behind) (mark_again 34 text l refl there)
+    let lt : ltb (quote l) (length l) ≡ true = (let s = length-append v (byte "\"" ∷ behind) in grind (arith, nat_tests)) in
+    let place : position (λ c. eqb c (byte "\"")) l ≡ Some (length v) = ap (λ (b : Bool). cond b (Some (quote l)) None) lt ∙ ap Some at in
+    ap (option_and_then quoted_behind) (mark_again (byte "\"") text l refl there)
     ∙ ap (option_map (λ (n : ℕ). (take n l, drop (n + 1) l))) place
-    ∙ ap Some (ap₂ (λ (a b : List ℕ). (a, b)) (take_at v (34 ∷ behind) (length v) refl) (drop_past v behind))
+    ∙ ap Some (ap₂ (λ (a b : List ℕ). (a, b)) (take_at v (byte "\"" ∷ behind) (length v) refl) (drop_past v behind))

@@ -2,6 +2,7 @@
 use Rattle.std.specs.Prelude.{◌≡◌, ◌≢◌, ◌⊎◌, ℕ, ◌≤◌, List, [], ◌∷◌, ◌++◌, Bool, true, false, IsTrue, ◌||◌, ◌==◌, codes}
 use Rattle.std.specs.List.{AllByRecursion}
 use Rattle.std.specs.Char.{is_ascii_alphabetic, is_ascii_alphanumeric}
+use Rattle.std.specs.Str.{byte}
 use Rattle.guppy_target.specs.Cfg.{Setting, name, pair, Predicate, Predicates, is_set, all_of, any_of, not_of, constant, no_more, also, levels}
 
 -- a word, a quoted text, or one of `(`, `)`, `,` and `=`
@@ -12,11 +13,11 @@ pub data Token : Type 0 where
 
 -- a letter or `_`
 abbrev pub starts_word : ℕ → Bool
-starts_word c = is_ascii_alphabetic c || (c == 95)
+starts_word c = is_ascii_alphabetic c || (c == byte "_")
 
 -- a letter, a digit or `_`
 abbrev pub is_of_word : ℕ → Bool
-is_of_word c = is_ascii_alphanumeric c || (c == 95)
+is_of_word c = is_ascii_alphanumeric c || (c == byte "_")
 
 -- an identifier
 abbrev pub IsWord : List ℕ → Type 0
@@ -30,22 +31,22 @@ EndsWord (c ∷ cs) = is_of_word c ≡ false
 
 abbrev pub spelling : Token → List ℕ
 spelling (word w) = w
-spelling (quoted v) = 34 ∷ v ++ 34 ∷ []
+spelling (quoted v) = byte "\"" ∷ v ++ byte "\"" ∷ []
 spelling (mark m) = m ∷ []
 
 -- `(`, `)`, `,` or `=`
 abbrev pub IsMark : ℕ → Type 0
-IsMark m = (m ≡ 40) ⊎ (m ≡ 41) ⊎ (m ≡ 44) ⊎ (m ≡ 61)
+IsMark m = (m ≡ byte "(") ⊎ (m ≡ byte ")") ⊎ (m ≡ byte ",") ⊎ (m ≡ byte "=")
 
 -- the token is one, and ends where behind begins
 abbrev pub IsToken : Token → List ℕ → Type 0
 IsToken (word w) behind = IsWord w × EndsWord behind
-IsToken (quoted v) behind = AllByRecursion (λ c. c ≢ 34) v
+IsToken (quoted v) behind = AllByRecursion (λ c. c ≢ byte "\"") v
 IsToken (mark m) behind = IsMark m
 
 -- some spaces, or none
 abbrev pub AreSpaces : List ℕ → Type 0
-AreSpaces cs = AllByRecursion (λ c. c ≡ 32) cs
+AreSpaces cs = AllByRecursion (λ c. c ≡ byte " ") cs
 
 -- the text is spaces, the token, and what is behind it
 pub record Begins (t : Token) (text behind : List ℕ) : Type 0 where
@@ -70,13 +71,13 @@ constant_word false = codes "false"
 
 -- the operator with its operands in parentheses
 abbrev pub applied : List ℕ → List Token → List Token
-applied operator inner = word operator ∷ mark 40 ∷ inner ++ mark 41 ∷ []
+applied operator inner = word operator ∷ mark (byte "(") ∷ inner ++ mark (byte ")") ∷ []
 
 -- a name by its word, unless that means something else, and a pair as `key = "value"`
 abbrev pub SpellsSetting : Setting → List Token → Type 0
 SpellsSetting (name w) ts =
     (IsOperator w → ⊥) × (w ≢ codes "true") × (w ≢ codes "false") × (ts ≡ word w ∷ [])
-SpellsSetting (pair k v) ts = (IsOperator k → ⊥) × (ts ≡ word k ∷ mark 61 ∷ quoted v ∷ [])
+SpellsSetting (pair k v) ts = (IsOperator k → ⊥) × (ts ≡ word k ∷ mark (byte "=") ∷ quoted v ∷ [])
 
 -- the tokens are the predicate's; behind each operand of `all` and `any` but the last stands a comma, and
 -- behind the last may stand one
@@ -91,7 +92,8 @@ abbrev mutual
   pub SpellsEach : Predicates → List Token → Type 0
   SpellsEach no_more ts = ts ≡ []
   SpellsEach (also p ps) ts = (front : List Token) × Spells p front
-      × (((ps ≡ no_more) × (ts ≡ front)) ⊎ ((rest : List Token) × SpellsEach ps rest × (ts ≡ front ++ (mark 44 ∷ rest))))
+      × (((ps ≡ no_more) × (ts ≡ front))
+      ⊎ ((rest : List Token) × SpellsEach ps rest × (ts ≡ front ++ (mark (byte ",") ∷ rest))))
 
 -- how deep predicates may be nested
 abbrev pub max_levels : ℕ
@@ -110,7 +112,7 @@ pub record Reads (text : List ℕ) (p : Predicate) : Type 0 where
 
 -- a letter, a digit, `_`, `-` or `.`
 abbrev pub is_of_triple : ℕ → Bool
-is_of_triple c = is_ascii_alphanumeric c || (c == 95) || (c == 45) || (c == 46)
+is_of_triple c = is_ascii_alphanumeric c || (c == byte "_") || (c == byte "-") || (c == byte ".")
 
 -- the text may be the name of a platform
 abbrev pub IsTriple : List ℕ → Type 0

@@ -1,5 +1,6 @@
 -- What a `Platform` is: its triple, and what is set for it, by the lines that a compiler prints.
 use Rattle.std.specs.Prelude.{ℕ, ◌<◌, List, [], ◌∷◌, length, take, slice_get, Option, Some, None, IfSome}
+use Rattle.std.specs.Str.{byte}
 use Rattle.guppy_target.specs.Cfg.{Setting, name, pair}
 use Rattle.guppy_target.specs.Grammar.{Token, word, quoted, mark, AreSpaces, Lies}
 use Rattle.guppy_target.specs.declared.platform.Cfg.{Cfg}
@@ -17,7 +18,7 @@ setting_of (Pair k v) = pair k.items v.items
 -- a name is a word, and a key with a value is `key="value"`
 abbrev pub tokens_of : Setting → List Token
 tokens_of (name w) = word w ∷ []
-tokens_of (pair k v) = word k ∷ mark 61 ∷ quoted v ∷ []
+tokens_of (pair k v) = word k ∷ mark (byte "=") ∷ quoted v ∷ []
 
 -- the line says that this is set
 pub record IsLine (line : List ℕ) (s : Setting) : Type 0 where

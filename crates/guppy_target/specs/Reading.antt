@@ -1,14 +1,14 @@
 -- How a text is read from its front. Each function answers what stands there, and what is behind it.
 use Rattle.std.specs.Prelude.{ℕ, zero, suc, ◌+◌, ◌-◌, List, [], ◌∷◌, length, take, drop, Bool, true, false, not, ◌==◌, Option, Some, None, is_some, option_map, option_and_then, position, codes, if◌then◌else◌}
 use Rattle.std.specs.List.{list_all, position_or_len}
-use Rattle.std.specs.Str.{bytes_eq}
+use Rattle.std.specs.Str.{byte, bytes_eq}
 use Rattle.std.specs.Str.Lines.{lines}
 use Rattle.guppy_target.specs.Cfg.{Setting, name, pair, Predicate, Predicates, is_set, all_of, any_of, not_of, constant, no_more, also, holds, all_hold, any_holds}
 use Rattle.guppy_target.specs.Grammar.{starts_word, is_of_word, max_levels}
 
 abbrev pub after_spaces : List ℕ → List ℕ
 after_spaces [] = []
-after_spaces (c ∷ cs) = if c == 32 then after_spaces cs else c ∷ cs
+after_spaces (c ∷ cs) = if c == byte " " then after_spaces cs else c ∷ cs
 
 -- behind the mark, where it is first
 abbrev pub behind_mark : ℕ → List ℕ → Option (List ℕ)
@@ -30,10 +30,10 @@ unfoldable pub word_at : List ℕ → Option (List ℕ × List ℕ)
 word_at text = word_first (after_spaces text)
 
 abbrev pub quoted_behind : List ℕ → Option (List ℕ × List ℕ)
-quoted_behind cs = option_map (λ n. (take n cs, drop (n + 1) cs)) (position (λ c. c == 34) cs)
+quoted_behind cs = option_map (λ n. (take n cs, drop (n + 1) cs)) (position (λ c. c == byte "\"") cs)
 
 unfoldable pub quoted_at : List ℕ → Option (List ℕ × List ℕ)
-quoted_at text = option_and_then quoted_behind (mark_at 34 text)
+quoted_at text = option_and_then quoted_behind (mark_at (byte "\"") text)
 
 -- what a word alone asks
 abbrev pub bare : List ℕ → Predicate
@@ -46,33 +46,33 @@ setting_from w rest (Some behind) = option_map (λ x. (is_set (pair w x.0), x.1)
 
 -- behind the word, which is no operator
 unfoldable pub setting_at : List ℕ → List ℕ → Option (Predicate × List ℕ)
-setting_at w rest = setting_from w rest (mark_at 61 rest)
+setting_at w rest = setting_from w rest (mark_at (byte "=") rest)
 
 abbrev pub closed : Predicate → List ℕ → Option (Predicate × List ℕ)
-closed p rest = option_map (λ behind. (not_of p, behind)) (mark_at 41 rest)
+closed p rest = option_map (λ behind. (not_of p, behind)) (mark_at (byte ")") rest)
 
 -- behind `not`
 unfoldable pub negated_at : (List ℕ → Option (Predicate × List ℕ)) → List ℕ → Option (Predicate × List ℕ)
-negated_at read rest = option_and_then (λ x. closed x.0 x.1) (option_and_then read (mark_at 40 rest))
+negated_at read rest = option_and_then (λ x. closed x.0 x.1) (option_and_then read (mark_at (byte "(") rest))
 
 -- behind an operand
 abbrev pub operands_on : (List ℕ → Option (Predicates × List ℕ)) → Predicate → List ℕ → Option (List ℕ) → Option (Predicates × List ℕ)
 operands_on more p rest (Some behind) = option_map (λ y. (also p y.0, y.1)) (more behind)
-operands_on more p rest None = option_map (λ behind. (also p no_more, behind)) (mark_at 41 rest)
+operands_on more p rest None = option_map (λ behind. (also p no_more, behind)) (mark_at (byte ")") rest)
 
 abbrev pub operands_step : (List ℕ → Option (Predicate × List ℕ)) → (List ℕ → Option (Predicates × List ℕ)) → List ℕ → Option (List ℕ) → Option (Predicates × List ℕ)
 operands_step read more text (Some rest) = Some (no_more, rest)
-operands_step read more text None = option_and_then (λ x. operands_on more x.0 x.1 (mark_at 44 x.1)) (read text)
+operands_step read more text None = option_and_then (λ x. operands_on more x.0 x.1 (mark_at (byte ",") x.1)) (read text)
 
 -- The operands of `all` and `any`, and the parenthesis behind them. The number bounds the turns; the length of
 -- the text is always enough.
 unfoldable pub operands_at : (List ℕ → Option (Predicate × List ℕ)) → ℕ → List ℕ → Option (Predicates × List ℕ)
 operands_at read zero text = None
-operands_at read (suc n) text = operands_step read (operands_at read n) text (mark_at 41 text)
+operands_at read (suc n) text = operands_step read (operands_at read n) text (mark_at (byte ")") text)
 
 -- behind `all` and `any`
 unfoldable pub all_operands_at : (List ℕ → Option (Predicate × List ℕ)) → List ℕ → Option (Predicates × List ℕ)
-all_operands_at read rest = option_and_then (λ text. operands_at read (length text) text) (mark_at 40 rest)
+all_operands_at read rest = option_and_then (λ text. operands_at read (length text) text) (mark_at (byte "(") rest)
 
 -- behind a word
 abbrev pub predicate_from : (List ℕ → Option (Predicate × List ℕ)) → List ℕ → List ℕ → Option (Predicate × List ℕ)
@@ -127,7 +127,7 @@ line_from w rest (Some behind) =
 
 -- what a line says is set
 unfoldable pub line_at : List ℕ → Option Setting
-line_at line = option_and_then (λ x. line_from x.0 x.1 (mark_at 61 x.1)) (word_at line)
+line_at line = option_and_then (λ x. line_from x.0 x.1 (mark_at (byte "=") x.1)) (word_at line)
 
 -- whether each line of a text says what is set
 abbrev pub are_settings : List ℕ → Bool

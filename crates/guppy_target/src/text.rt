@@ -1,6 +1,7 @@
 //! What stands at the front of a text: a word, a quoted text or a mark, behind spaces.
 ghost use Rattle.std.specs.Prelude.{◌≡◌, ◌<◌, ◌≤◌, ◌==◌, not, length, position, option_map, IfSome};
 ghost use Rattle.std.specs.List.{position_or_len};
+ghost use Rattle.std.specs.Str.{byte};
 ghost use Rattle.guppy_target.specs.Grammar.{starts_word, is_of_word};
 ghost use Rattle.guppy_target.specs.Reading.{after_spaces, mark_at, split_word, word_at, quoted_behind, quoted_at};
 
@@ -81,7 +82,7 @@ pub(crate) fn word_at(text: &[u8]) -> Option<(&[u8], &[u8])>
 
 // Where the first quote is.
 fn quote_at(text: &[u8]) -> Option<usize>
-    ensures place { result ≡ position (λ c. c == 34) text.now }
+    ensures place { result ≡ position (λ c. c == byte "\"") text.now }
     ensures bound { IfSome result (λ n. n < length text.now) }
 {
     text.iter().position(|byte| *byte == b'"')

@@ -5,7 +5,7 @@
 //! makes its set or its query. What is asked of it stands before an `of`: its
 //! letters and how many they are, where nothing does. `make` makes a set of the first two packages and the
 //! next two.
-ghost use Rattle.guppy.specs.Ids.{ids_of};
+ghost use Rattle.guppy_graph.specs.Ids.{ids_of};
 ghost use Rattle.std.specs.Iterator.{IsFinite};
 ghost use Rattle.std.specs.Prelude.{◌≡◌};
 

@@ -1,9 +1,9 @@
 //! Visitors, each with its meaning: what it answers at each state, and the state that it leaves.
 ghost use Rattle.std.specs.Prelude.{◌≡◌, ◌⊎◌, ◌==◌, ◌||◌, ℕ, ◌+◌, ◌-◌, ◌%◌, ◌^◌, Bool, true, false, not, max, nat_lt, List, length, slice_get, slice_index_or, IfOk, IsSomeAnd};
-ghost use Rattle.guppy.specs.DevOnly.{is_dev_only};
-ghost use Rattle.guppy.specs.IxSet.{IsIn};
-ghost use Rattle.guppy.specs.LinksByPosition.{far_end};
-ghost use Rattle.guppy.specs.Resolve.{JudgesResolve, LeavesOne};
+ghost use Rattle.guppy_search.specs.IxSet.{IsIn};
+ghost use Rattle.guppy_search.specs.Links.{far_end};
+ghost use Rattle.guppy_search.specs.Resolve.{JudgesResolve, LeavesOne};
+ghost use Rattle.guppy_graph.specs.DevOnly.{is_dev_only};
 ghost use Rattle.guppy.specs.Views.{link_data};
 
 use guppy::graph::Packages;

@@ -1,5 +1,5 @@
 -- The text of a link.
-use Rattle.std.specs.Prelude.{ℕ, List, [], ◌∷◌, ◌++◌, codes, Option, None, Some, String}
+use Rattle.std.specs.Prelude.{◌≡◌, ℕ, List, [], ◌∷◌, ◌++◌, length, codes, Option, None, Some, String, string_bytes}
 use Rattle.std.specs.declared.alloc.Global.{Global}
 use Rattle.std.specs.Fmt.{decimal}
 use Rattle.std.specs.List.{flat_map}
@@ -12,6 +12,7 @@ use Rattle.guppy_data.specs.declared.platform.status.PlatformStatusImpl.TheVaria
 use Rattle.guppy_data.specs.declared.records.DepRequiredOrOptional.{DepRequiredOrOptional}
 use Rattle.guppy_data.specs.declared.records.DependencyReqImpl.{DependencyReqImpl}
 use Rattle.guppy_data.specs.declared.records.LinkRecord.{LinkRecord}
+use Rattle.guppy_wire.specs.declared.links.LinkTexts.{LinkTexts}
 use Rattle.guppy_wire.specs.Parts.{field, string_field, optional, listed}
 
 -- `*` for all platforms, else their texts
@@ -78,3 +79,8 @@ abbrev pub link_text : LinkRecord → List ℕ
 link_text r = field r.from ++ field r.to ++ string_field r.dep_name ++ string_field r.resolved_name
     ++ section_text r.normal ++ section_text r.build ++ section_text r.dev
     ++ field (link_details r)
+
+-- these are the texts of the links, in their order, and so many they are
+pub record AreTexts (texts : LinkTexts) (links : List LinkRecord) : Type 0 where
+  pub count_is : texts.count ≡ length links
+  pub texts_are : string_bytes texts.texts ≡ flat_map link_text links

@@ -1,12 +1,12 @@
 use Rattle.std.proofs.Common.{◌∙◌, refl, ap, sym, subst, ℕ, List, Bor, map}
 use Rattle.std.proofs.lemmas.Iterator.{items_from_drains}
 use Rattle.std.proofs.lemmas.Iterator.Consumers.{YieldsList-from_first}
-use Rattle.guppy.specs.SearchTypes.ix.direction.DependencyDirection.TheVariants.{Reverse}
-use Rattle.guppy.specs.FirmCycles.{HasNoFirmCycle}
-use Rattle.guppy.specs.Graph.{GraphData}
+use Rattle.guppy_search.specs.declared.ix.direction.DependencyDirection.TheVariants.{Reverse}
+use Rattle.guppy_search.specs.Reach.{Walk}
+use Rattle.guppy_graph.specs.FirmCycles.{HasNoFirmCycle}
+use Rattle.guppy_graph.specs.Graph.{GraphData}
+use Rattle.guppy_graph.specs.Ordered.{FirmStep}
 use Rattle.guppy.specs.Listed.{listed_ids_left, positions_listed, ids_at}
-use Rattle.guppy.specs.Ordered.{FirmStep}
-use Rattle.guppy.specs.Reach.{Walk}
 use Rattle.guppy_affected.proofs.affected_after.Goals as goal
 
 pub returns-clause-answer : goal.returns-clause-answer

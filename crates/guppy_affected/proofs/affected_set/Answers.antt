@@ -1,6 +1,6 @@
 use Rattle.std.proofs.Common.{◌≡◌, ◌∙◌, map, string_bytes, sym, ap, length}
-use Rattle.guppy.specs.Graph.{GraphData}
-use Rattle.guppy.specs.Ids.{ids_of}
+use Rattle.guppy_graph.specs.Graph.{GraphData}
+use Rattle.guppy_graph.specs.Ids.{ids_of}
 use Rattle.guppy.specs.Query.{IsSetWhere, SetData}
 use Rattle.guppy_affected.specs.Affected.{IsAffectedAfter}
 use Rattle.guppy_affected.specs.Folders.{given_in}

@@ -1,6 +1,6 @@
 use Rattle.std.proofs.Common.{◌≡◌, ◌∙◌, ⊎_elim, inl, inr, ap, sym, map, string_bytes}
-use Rattle.guppy.specs.Graph.{GraphData}
-use Rattle.guppy.specs.Ids.{ids_of}
+use Rattle.guppy_graph.specs.Graph.{GraphData}
+use Rattle.guppy_graph.specs.Ids.{ids_of}
 use Rattle.guppy.specs.Query.{SetData}
 use Rattle.guppy_affected.specs.Tested.{AreTestedAfter}
 use Rattle.guppy_affected.specs.Folders.{given_in}

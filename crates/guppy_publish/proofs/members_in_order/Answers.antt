@@ -1,10 +1,10 @@
 use Rattle.std.proofs.Common.{◌∙◌, ap, sym, subst}
-use Rattle.guppy.specs.SearchTypes.ix.direction.DependencyDirection.TheVariants.{Reverse}
-use Rattle.guppy.specs.FirmCycles.{HasNoFirmCycle}
-use Rattle.guppy.specs.Graph.{GraphData}
+use Rattle.guppy_search.specs.declared.ix.direction.DependencyDirection.TheVariants.{Reverse}
+use Rattle.guppy_search.specs.Reach.{Walk}
+use Rattle.guppy_graph.specs.FirmCycles.{HasNoFirmCycle}
+use Rattle.guppy_graph.specs.Graph.{GraphData}
+use Rattle.guppy_graph.specs.Ordered.{FirmStep}
 use Rattle.guppy.specs.Listed.{positions_listed, ids_at}
-use Rattle.guppy.specs.Ordered.{FirmStep}
-use Rattle.guppy.specs.Reach.{Walk}
 use Rattle.guppy_publish.proofs.members_in_order.Goals as goal
 
 pub returns-clause-order : goal.returns-clause-order

@@ -1,12 +1,12 @@
 use Rattle.std.proofs.Common.{◌≡◌, ◌∙◌, ⊎_elim, refl, sym, ap, subst, true, List, [], ◌∷◌, ◌++◌, map, Contains, append_assoc, arith}
 use Rattle.std.proofs.lemmas.List.{append-nil}
 use Rattle.std.proofs.lemmas.List.Elements.{Contains-append_right}
-use Rattle.guppy.specs.Path.{Part}
-use Rattle.guppy.specs.BuildTarget.{seen_target}
-use Rattle.guppy.specs.Component.{part_shown}
-use Rattle.guppy.specs.DataTypes.records.BuildTargetRecord.{BuildTargetRecord}
+use Rattle.guppy_data.specs.Path.{Part}
+use Rattle.guppy_data.specs.BuildTarget.{seen_target}
+use Rattle.guppy_data.specs.Component.{part_shown}
+use Rattle.guppy_data.specs.declared.records.BuildTargetRecord.{BuildTargetRecord}
+use Rattle.guppy_data.specs.Utf8Path.{path_text}
 use Rattle.guppy.specs.TargetIterators.{targets_left}
-use Rattle.guppy.specs.Utf8Path.{path_text}
 use Rattle.guppy_folders.specs.Folders.{lists_in}
 use Rattle.guppy_folders.specs.Places.{MeetsOne}
 use Rattle.guppy_affected.specs.Folders.{LiesElsewhere, OneElsewhere}

@@ -1,8 +1,8 @@
 use Rattle.std.proofs.Common.{◌≡◌, ◌++◌, List, map}
-use Rattle.guppy.specs.Component.{part_shown}
-use Rattle.guppy.specs.DataTypes.records.BuildTargetRecord.{BuildTargetRecord}
+use Rattle.guppy_data.specs.Component.{part_shown}
+use Rattle.guppy_data.specs.declared.records.BuildTargetRecord.{BuildTargetRecord}
+use Rattle.guppy_data.specs.Utf8Path.{path_text}
 use Rattle.guppy.specs.TargetIterators.{targets_left}
-use Rattle.guppy.specs.Utf8Path.{path_text}
 use Rattle.guppy_folders.specs.Folders.{lists_in}
 use Rattle.guppy_folders.specs.Places.{MeetsOne}
 use Rattle.guppy_affected.specs.Folders.{OneElsewhere}

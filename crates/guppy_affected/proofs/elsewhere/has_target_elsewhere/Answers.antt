@@ -1,10 +1,10 @@
 use Rattle.std.proofs.Common.{◌∙◌, ap, Bool, List, Bor, map}
 use Rattle.std.specs.Prelude.{◌↔◌, IsTrue}
-use Rattle.guppy.specs.Component.{part_shown}
-use Rattle.guppy.specs.Graph.{GraphData}
-use Rattle.guppy.specs.Path.{Part}
+use Rattle.guppy_data.specs.Component.{part_shown}
+use Rattle.guppy_data.specs.Path.{Part}
+use Rattle.guppy_data.specs.Utf8Path.{path_text}
+use Rattle.guppy_graph.specs.Graph.{GraphData}
 use Rattle.guppy.specs.TargetIterators.{targets_left}
-use Rattle.guppy.specs.Utf8Path.{path_text}
 use Rattle.guppy.specs.Views.{graph_of, package_position}
 use Rattle.guppy_folders.specs.Folders.{lists_in}
 use Rattle.guppy_folders.specs.Places.{MeetsOne}

@@ -1,10 +1,9 @@
 use Rattle.std.proofs.Common.{◌≡◌, ◌∙◌, sym, ap, subst, true, List, map}
-use Rattle.guppy.specs.Component.{part_shown}
-use Rattle.guppy.specs.Path.{Part}
-use Rattle.guppy.specs.Utf8Path.{path_text}
-use Rattle.guppy_folders.specs.Folders.{lists_in}
+use Rattle.guppy_data.specs.Component.{part_shown}
+use Rattle.guppy_data.specs.Path.{Part}
+use Rattle.guppy_data.specs.Utf8Path.{path_text}
+use Rattle.guppy_folders.specs.Folders.{lists_in, IsInside}
 use Rattle.guppy_folders.specs.Places.{place_above, MeetsOne}
-use Rattle.guppy_affected.specs.Folders.{IsInside}
 use Rattle.guppy_affected.proofs.elsewhere.lies_elsewhere.Goals as goal
 
 pub returns-then-is_inside : goal.returns-then-is_inside

@@ -1,10 +1,10 @@
 use Rattle.std.proofs.Common.{sym, subst, List, [], ◌∷◌, ◌++◌, map, Contains, Bor, ℕ}
 use Rattle.std.specs.Prelude.{◌↔◌}
 use Rattle.std.proofs.lemmas.List.{map_push}
-use Rattle.guppy.specs.Path.{Part, components}
-use Rattle.guppy.specs.Graph.{GraphData}
+use Rattle.guppy_data.specs.Path.{Part, components}
+use Rattle.guppy_data.specs.Utf8Path.{path_text}
+use Rattle.guppy_graph.specs.Graph.{GraphData}
 use Rattle.guppy.specs.Iterators.{packages_left}
-use Rattle.guppy.specs.Utf8Path.{path_text}
 use Rattle.guppy.specs.Views.{package_seen}
 use Rattle.guppy_folders.specs.Folders.{lists_in}
 use Rattle.guppy_folders.proofs.Elements.{One}

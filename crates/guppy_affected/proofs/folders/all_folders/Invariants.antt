@@ -1,6 +1,6 @@
 use Rattle.std.proofs.Common.{List, map, Contains}
 use Rattle.std.specs.Prelude.{◌↔◌}
-use Rattle.guppy.specs.Path.{Part}
+use Rattle.guppy_data.specs.Path.{Part}
 use Rattle.guppy.specs.Views.{package_seen}
 use Rattle.guppy_folders.specs.Folders.{lists_in}
 use Rattle.guppy_folders.proofs.Elements.{One}

@@ -1,10 +1,11 @@
 use Rattle.std.proofs.Common.{◌≡◌, ⊎_elim, refl, subst, true, ℕ, List, Bor, map, take}
 use Rattle.std.proofs.lemmas.List.{take_all}
-use Rattle.guppy.specs.Path.{Part}
+use Rattle.guppy_data.specs.Path.{Part}
 use Rattle.guppy.specs.Views.{graph_of, package_position}
+use Rattle.guppy_data.proofs.Mapped.{there_mapped, one_more_mapped}
 use Rattle.guppy_folders.specs.Folders.{lists_in}
 use Rattle.guppy_folders.specs.Places.{MeetsOne}
-use Rattle.guppy_folders.proofs.Elements.{One-push, there_mapped, one_more_mapped}
+use Rattle.guppy_folders.proofs.Elements.{One-push}
 use Rattle.guppy_affected.specs.Folders.{Given, IsGivenTo, HasFolderGiven}
 use Rattle.guppy_affected.proofs.given.has_folder_given.Goals as goal
 

@@ -1,7 +1,7 @@
 use Rattle.std.proofs.Common.{◌≡◌, ◌∙◌, rules, ap, Bool, List, Bor}
 use Rattle.std.specs.Prelude.{◌↔◌, IsTrue}
-use Rattle.guppy.specs.Graph.{GraphData}
-use Rattle.guppy.specs.Path.{Part}
+use Rattle.guppy_data.specs.Path.{Part}
+use Rattle.guppy_graph.specs.Graph.{GraphData}
 use Rattle.guppy.specs.Views.{graph_of, package_position}
 use Rattle.guppy_folders.specs.Folders.{lists_in}
 use Rattle.guppy_folders.specs.Places.{MeetsOne}

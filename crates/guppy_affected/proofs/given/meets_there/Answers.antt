@@ -1,6 +1,6 @@
 use Rattle.std.proofs.Common.{◌∙◌, ap, map}
-use Rattle.guppy.specs.Component.{part_shown}
-use Rattle.guppy.specs.Utf8Path.{path_text}
+use Rattle.guppy_data.specs.Component.{part_shown}
+use Rattle.guppy_data.specs.Utf8Path.{path_text}
 use Rattle.guppy_folders.specs.Places.{place}
 use Rattle.guppy_affected.proofs.given.meets_there.Goals as goal
 

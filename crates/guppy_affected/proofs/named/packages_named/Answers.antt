@@ -1,6 +1,6 @@
 use Rattle.std.proofs.Common.{◌≡◌, Bor, List, Contains, rules, subst}
 use Rattle.std.specs.Prelude.{◌↔◌}
-use Rattle.guppy.specs.DataTypes.texts.package_id.PackageId.{PackageId}
+use Rattle.guppy_data.specs.declared.texts.package_id.PackageId.{PackageId}
 use Rattle.guppy.specs.Query.{IsSetWhere, SetData}
 use Rattle.guppy_affected.specs.Named.{HasOneOf}
 use Rattle.guppy_affected.proofs.IdSets.{named_alike, set_made, told}

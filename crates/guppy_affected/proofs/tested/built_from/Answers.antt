@@ -1,8 +1,8 @@
 use Rattle.std.proofs.Common.{◌≡◌, subst, ℕ, Bool, Some, rules}
 use Rattle.std.specs.Prelude.{slice_get}
-use Rattle.guppy.specs.SearchTypes.graph_core.link.Link.{Link}
-use Rattle.guppy.specs.DataTypes.records.LinkRecord.{LinkRecord}
-use Rattle.guppy.specs.Ordered.{is_firm}
+use Rattle.guppy_search.specs.declared.graph_core.link.Link.{Link}
+use Rattle.guppy_data.specs.declared.records.LinkRecord.{LinkRecord}
+use Rattle.guppy_graph.specs.Ordered.{is_firm}
 use Rattle.guppy.specs.Query.{SetData}
 use Rattle.guppy.specs.Views.{OfLink}
 use Rattle.guppy_affected.specs.Tested.{AreBuiltFrom}

@@ -1,7 +1,7 @@
 use Rattle.std.proofs.Common.{◌∙◌, ◌<◌, sym, ap, subst, true, false, List, length, length-set, slice_set}
 use Rattle.std.proofs.lemmas.List.{length-replicate}
-use Rattle.guppy.specs.SearchTypes.ix.direction.DependencyDirection.TheVariants.{Forward}
-use Rattle.guppy.specs.Graph.{GraphData}
+use Rattle.guppy_search.specs.declared.ix.direction.DependencyDirection.TheVariants.{Forward}
+use Rattle.guppy_graph.specs.Graph.{GraphData}
 use Rattle.guppy.specs.Listed.{listed_left, positions_listed}
 use Rattle.guppy.specs.Query.{initials_of}
 use Rattle.guppy.specs.Views.{PackageData, package_data, package_position}

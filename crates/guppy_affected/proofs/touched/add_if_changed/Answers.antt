@@ -1,5 +1,5 @@
 use Rattle.std.proofs.Common.{◌≡◌, ◌∙◌, inl, inr, refl, ap, true, length}
-use Rattle.guppy.specs.Graph.{GraphData}
+use Rattle.guppy_graph.specs.Graph.{GraphData}
 use Rattle.guppy.specs.Views.{graph_of, package_position}
 use Rattle.guppy_folders.specs.Folders.{lists_in}
 use Rattle.guppy_affected.specs.Changed.{IsChangedBy}

@@ -5,7 +5,6 @@ use Rattle.guppy_features.specs.Unresolved.{AreResolved}
 use Rattle.guppy_built.specs.Asked.{IsAsked, choice_of}
 use Rattle.guppy_built.specs.Features.{AreOnSides, feature_shown}
 use Rattle.std.proofs.lemmas.Result.{err_from_is_err_and}
-use Rattle.guppy_built.specs.Refused.{IsLackingFault}
 use Rattle.guppy_built.proofs.Refused.{lacking_refused}
 use Rattle.guppy_built.proofs.askers.features_of.Goals as goal
 
@@ -27,12 +26,8 @@ returns-clause-ok c =
 pub returns-in_err-all_resolved-clause-err : goal.returns-in_err-all_resolved-clause-err
 returns-in_err-all_resolved-clause-err c =
     let passed_on = err_from_is_err_and c.from_residual-in_err-all_resolved.result c.from_residual-in_err-all_resolved.ensures.1 in
-    let g = c.args.graph.now in
-    let choice = choice_of c.args.question.now in
-    let options = c.in_ok-options.options in
-    let asked = subst (IsAsked g choice options) c.as_slice.ensures.value c.in_ok-options.ensures.ok in
-    let fault = c.in_err-all_resolved.field-0.0 in
-    rw (passed_on.1, passed_on.2) ((lacking_refused g choice options c.in_ok-members.members.items asked fault (subst (λ (q : Question). IsLackingFault q fault) c.in_ok-set.ensures c.in_err-all_resolved.ensures.err)))
+    rw (passed_on.1, passed_on.2)
+    (lacking_refused c.args.graph.now (choice_of c.args.question.now) c.in_ok-options.options c.as_slice.result.now c.in_ok-options.ensures.ok _ c.in_ok-set.ensures c.in_err-all_resolved.field-0.0 c.in_err-all_resolved.ensures.err)
 
 pub features_on_sides-requires-clause-within : goal.features_on_sides-requires-clause-within
 features_on_sides-requires-clause-within c = within_of c.args.graph.now.packages c.args.id.now c.position_of-position.result c.position_of-position.ensures

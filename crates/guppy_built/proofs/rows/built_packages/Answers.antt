@@ -4,7 +4,7 @@ use Rattle.guppy_features.specs.Questions.{Question, question}
 use Rattle.guppy_features.specs.Unresolved.{AreResolved}
 use Rattle.guppy_builds.specs.Building.{Builds, builds}
 use Rattle.guppy_built.specs.Asked.{IsAsked, choice_of}
-use Rattle.guppy_built.specs.Refused.{IsBuiltFault, IsLackingFault}
+use Rattle.guppy_built.specs.Refused.{IsBuiltFault}
 use Rattle.guppy_built.specs.Rows.{AreRows, row_of}
 use Rattle.guppy_built.proofs.Refused.{lacking_refused}
 use Rattle.guppy_built.proofs.rows.built_packages.Goals as goal
@@ -31,12 +31,8 @@ returns-clause-err c =
 pub returns-in_err-all_resolved-clause-err : goal.returns-in_err-all_resolved-clause-err
 returns-in_err-all_resolved-clause-err c =
     let passed_on = err_from_is_err_and c.from_residual-in_err-all_resolved.result c.from_residual-in_err-all_resolved.ensures.1 in
-    let g = c.args.graph.now in
-    let choice = choice_of c.args.question.now in
-    let options = c.in_ok-options.options in
-    let asked = subst (IsAsked g choice options) c.as_slice.ensures.value c.in_ok-options.ensures.ok in
-    let fault = c.in_err-all_resolved.field-0.0 in
-    rw (passed_on.1, passed_on.2) ((lacking_refused g choice options c.in_ok-members.members.items asked fault (subst (λ (q : Question). IsLackingFault q fault) c.in_ok-set.ensures c.in_err-all_resolved.ensures.err)))
+    rw (passed_on.1, passed_on.2)
+    (lacking_refused c.args.graph.now (choice_of c.args.question.now) c.in_ok-options.options c.as_slice.result.now c.in_ok-options.ensures.ok _ c.in_ok-set.ensures c.in_err-all_resolved.field-0.0 c.in_err-all_resolved.ensures.err)
 
 pub rows_in-requires-clause-within : goal.rows_in-requires-clause-within
 rows_in-requires-clause-within c = subst (All (λ m. m < length c.args.graph.now.packages)) (sym c.as_slice-2.ensures.value) c.in_ok-members.ensures.within

@@ -8,7 +8,6 @@ use Rattle.guppy_built.specs.Rows.{IsFeatureOn}
 use Rattle.guppy_built.specs.Why.{IsWhyFeature}
 use Rattle.guppy_graph.proofs.PackageIds.{within_of}
 use Rattle.std.proofs.lemmas.Result.{err_from_is_err_and}
-use Rattle.guppy_built.specs.Refused.{IsLackingFault}
 use Rattle.guppy_built.proofs.Refused.{lacking_refused, why_refused}
 use Rattle.guppy_built.proofs.why.why_feature.Goals as goal
 
@@ -50,9 +49,6 @@ why_on_one-requires-clause-within c = within_of c.args.graph.now.packages c.args
 pub returns-in_err-all_resolved-clause-err : goal.returns-in_err-all_resolved-clause-err
 returns-in_err-all_resolved-clause-err c =
     let passed_on = err_from_is_err_and c.from_residual-in_err-all_resolved.result c.from_residual-in_err-all_resolved.ensures.1 in
-    let g = c.args.graph.now in
-    let choice = choice_of c.args.question.now in
-    let options = c.in_ok-options.options in
-    let asked = subst (IsAsked g choice options) c.as_slice.ensures.value c.in_ok-options.ensures.ok in
-    let fault = c.in_err-all_resolved.field-0.0 in
-    rw (passed_on.1, passed_on.2) (why_refused g choice c.args.id.now c.args.name.now fault (lacking_refused g choice options c.in_ok-members.members.items asked fault (subst (λ (q : Question). IsLackingFault q fault) c.in_ok-set.ensures c.in_err-all_resolved.ensures.err)))
+    rw (passed_on.1, passed_on.2)
+    (why_refused c.args.graph.now (choice_of c.args.question.now) c.args.id.now c.args.name.now c.in_err-all_resolved.field-0.0
+    (lacking_refused c.args.graph.now (choice_of c.args.question.now) c.in_ok-options.options c.as_slice.result.now c.in_ok-options.ensures.ok _ c.in_ok-set.ensures c.in_err-all_resolved.field-0.0 c.in_err-all_resolved.ensures.err))

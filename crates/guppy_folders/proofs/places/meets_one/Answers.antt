@@ -4,9 +4,10 @@ use Rattle.std.specs.declared.alloc.Global.{Global}
 use Rattle.std.proofs.lemmas.List.{take_all}
 use Rattle.guppy_data.specs.Component.{part_shown}
 use Rattle.guppy_data.specs.declared.texts.component.Component.{Component}
+use Rattle.guppy_data.proofs.Mapped.{one_more_mapped}
 use Rattle.guppy_folders.specs.Folders.{lists_in}
 use Rattle.guppy_folders.specs.Places.{Meets, MeetsOne}
-use Rattle.guppy_folders.proofs.Elements.{One-push, one_more_mapped}
+use Rattle.guppy_folders.proofs.Elements.{One-push}
 use Rattle.guppy_folders.proofs.places.meets_one.Goals as goal
 
 pub loop-place-preserved : goal.loop-place-preserved

@@ -1,5 +1,4 @@
-use Rattle.std.proofs.Common.{◌∷◌, [], refl, sym, map, codes}
-use Rattle.std.proofs.lemmas.Bool.{false≢true}
+use Rattle.std.proofs.Common.{◌∷◌, [], refl, map, codes}
 use Rattle.json.specs.Value.{value_view}
 use Rattle.guppy_metadata.specs.declared.declared.TheConstants.{PLAIN, DETAILED}
 use Rattle.guppy_metadata.proofs.AskedValues.{value_at, first_values, texts_told}
@@ -19,7 +18,7 @@ returns c = λ d are.
       target = plain.target;
       optional = plain.optional;
       default_features = plain.default_features;
-      features = record { told = λ _. texts; left_out = λ no_details. absurd (false≢true (sym no_details)) };
+      features = record { told = λ _. texts; left_out = λ no_details. cc };
       registry = plain.registry;
       path = plain.path;
     }

@@ -1,6 +1,5 @@
 use Rattle.std.proofs.Common.{refl, ap, map, codes}
 use Rattle.std.specs.Option.{option_copied}
-use Rattle.std.proofs.lemmas.Bool.{false≢true}
 use Rattle.json.specs.Value.{value_view}
 use Rattle.guppy_metadata.specs.declared.declared.TheConstants.{PLAIN}
 use Rattle.guppy_metadata.proofs.AskedValues.{value_at, text_told, optional_text_told, truth_told}
@@ -29,7 +28,7 @@ returns c = λ d are.
       target = optional_text_told d (codes "target") (value_view c.index-values-7.result) target (option_copied c.in_ok-target.target) c.in_ok-target.ensures;
       optional = truth_told d (codes "optional") (value_view c.index-values-5.result) optional _ c.in_ok-optional.optional c.in_ok-optional.ensures;
       default_features = truth_told d (codes "uses_default_features") (value_view c.index-values-6.result) default_features _ c.in_ok-default_features.default_features c.in_ok-default_features.ensures;
-      features = record { told = λ no_details. absurd (false≢true no_details); left_out = λ _. ap (map (λ text. text.now)) c.new.ensures.items };
+      features = record { told = λ no_details. cc; left_out = λ _. ap (map (λ text. text.now)) c.new.ensures.items };
       registry = optional_text_told d (codes "registry") (value_view c.index-values-8.result) registry (option_copied c.in_ok-registry.registry) c.in_ok-registry.ensures;
       path = optional_text_told d (codes "path") (value_view c.index-values-9.result) path (option_copied c.in_ok-path.path) c.in_ok-path.ensures;
     }

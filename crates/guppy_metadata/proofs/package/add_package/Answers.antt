@@ -1,6 +1,7 @@
-use Rattle.std.proofs.Common.{◌≡◌, ◌∙◌, true, Result, Ok, Err, refl, sym, ap, subst, codes}
+use Rattle.std.proofs.Common.{◌≡◌, ◌∙◌, Result, Ok, Err, refl, sym, ap, subst, codes}
 use Rattle.std.specs.Prelude.{OnOk, is_ok}
 use Rattle.std.proofs.lemmas.Result.{IfErr-weaker}
+use Rattle.guppy_data.specs.declared.records.Details.TheVariants.{With}
 use Rattle.guppy_metadata.specs.Dependency.{NamesOptional}
 use Rattle.guppy_metadata.specs.Members.{data_of}
 use Rattle.guppy_metadata.specs.Package.{HasIdentity, IsLibrary, HasPlainFields, HasNoDetails, IsParsedPackage}
@@ -51,7 +52,7 @@ returns-clause-added c =
         targets = targets_alike details own d same _ targets;
         library = subst (IsLibrary d) (sym c.in_ok-library.ensures) library;
         declared = declared;
-        optional = subst (λ xs. details ≡ true → NamesOptional xs final.optional_deps) declared_is optional;
+        optional = subst (λ xs. details ≡ With → NamesOptional xs final.optional_deps) declared_is optional;
       }),
     )) added.targets added.detailed added.optional
 

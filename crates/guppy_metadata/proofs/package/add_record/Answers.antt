@@ -1,8 +1,9 @@
-use Rattle.std.proofs.Common.{Bool, sym, ap, subst}
+use Rattle.std.proofs.Common.{sym, ap, subst}
 use Rattle.std.specs.Prelude.{is_ok}
 use Rattle.std.specs.Option.{option_copied}
 use Rattle.json.specs.Json.{Json}
 use Rattle.guppy_data.specs.Utf8Path.{path_text}
+use Rattle.guppy_data.specs.declared.records.Details.{Details}
 use Rattle.guppy_data.specs.declared.records.PackageRecord.{PackageRecord}
 use Rattle.guppy_data.specs.declared.records.PackageSourceRecord.{PackageSourceRecord}
 use Rattle.guppy_metadata.specs.Package.{HasDescription, HasDetails, HasCargoFields, HasPlainFields, HasNoDetails, IsFrom}
@@ -42,7 +43,7 @@ module _ (r : PackageRecord) (source : PackageSourceRecord) where
     optional_deps = is.optional_deps;
   }
 
-  detailed : (details : Bool) (d : Json) → HasDetails details d r → HasDetails details d with_source
+  detailed : (details : Details) (d : Json) → HasDetails details d r → HasDetails details d with_source
   detailed details d is = record { described = λ all. described d (is.described all); filled = λ all. filled d (is.filled all); plain = λ none. plain (is.plain none) }
 
 pub returns : goal.returns

@@ -13,7 +13,7 @@ use Rattle.guppy_metadata.proofs.Turns.{of_ok}
 use Rattle.guppy_metadata.proofs.told.read_member.Goals as goal
 
 pub returns-in_ok-ok : goal.returns-in_ok-ok
-returns-in_ok-ok c =
+returns-in_ok-ok g c =
     let name = c.args.name.now in
     let told = value_view c.in_ok-value.value in
     let others = c.args.so_far.now.others.items in
@@ -26,14 +26,14 @@ returns-in_ok-ok c =
       λ d e adds tells. record {
         packages_are = still_left (λ packages. packages.items) c.args.details d e (kept d e name told adds (codes "packages") no_packages) c.args.so_far.now.packages tells.packages_are;
         links_are = if_some c.args.so_far.now.links
-            (λ links. links_alike d e c.args.details links.items (kept d e name told adds (codes "packages") no_packages) (kept d e name told adds (codes "resolve") no_resolve)) tells.links_are;
+            (λ read are. (are.0, are.1, links_alike d e c.args.details are.0 (kept d e name told adds (codes "packages") no_packages) (kept d e name told adds (codes "resolve") no_resolve) are.2)) tells.links_are;
         others_are = λ wanted other. ap (λ rows. get_member wanted (members_view rows)) pushed
             ∙ (get_member-push wanted others (c.args.name, c.in_ok-value.value) ∙ (ap (cond (bytes_eq name wanted) (Some told)) (tells.others_are wanted other) ∙ sym (adds wanted)));
       },
     )
 
 pub returns-in_ok-read_packages : goal.returns-in_ok-read_packages
-returns-in_ok-read_packages c =
+returns-in_ok-read_packages g c =
     let name = c.args.name.now in
     let packages = c.in_ok-read_packages.field-0 in
     let more = c.in_ok-read_packages.ensures in
@@ -49,9 +49,8 @@ returns-in_ok-read_packages c =
     )
 
 pub returns-in_ok-read_links : goal.returns-in_ok-read_links
-returns-in_ok-read_links c =
+returns-in_ok-read_links g c =
     let name = c.args.name.now in
-    let links = c.in_ok-read_links.field-0 in
     let more = c.in_ok-read_links.ensures.links in
     let here : bytes_eq name (codes "resolve") ≡ true = sym c.if-eq-2.ensures in
     let no_packages : bytes_eq name (codes "packages") ≡ false = sym c.if-eq.ensures in
@@ -61,7 +60,7 @@ returns-in_ok-read_links c =
       λ d e adds tells.
           let same = kept d e name more.0 adds (codes "packages") no_packages in record {
             packages_are = left_further (λ packages. packages.items) c.args.details d e same c.args.so_far.now.packages _ tells.packages_are c.in_ok-read_links.ensures.left;
-            links_are = links_read (λ packages. packages.items) c.args.details d e same c.args.so_far.now.packages links.items more.0 (put d e name more.0 adds (codes "resolve") here) tells.packages_are more.2;
+            links_are = (more.2, more.3, links_read (λ packages. packages.items) c.args.details d e same c.args.so_far.now.packages more.2 more.0 (put d e name more.0 adds (codes "resolve") here) tells.packages_are more.4);
             others_are = λ wanted other. ap (λ rows. get_member wanted (members_view rows)) (ap (λ own. own.items) c.read_links.ensures.others)
                 ∙ (tells.others_are wanted other ∙ kept d e name more.0 adds wanted (subst (λ n. bytes_eq n wanted ≡ false) (sym is) other.1));
           },

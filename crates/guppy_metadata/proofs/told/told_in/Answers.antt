@@ -5,7 +5,7 @@ use Rattle.guppy_metadata.proofs.Turns.{key_found, member_takes, no_member_read,
 use Rattle.guppy_metadata.proofs.told.told_in.Goals as goal
 
 pub loop-told-init : goal.loop-told-init
-loop-told-init c = (
+loop-told-init g c = (
   [],
   no_member_read 127 _,
   record {
@@ -16,12 +16,12 @@ loop-told-init c = (
 )
 
 pub loop-told-smaller : goal.loop-told-smaller
-loop-told-smaller c =
+loop-told-smaller g c =
     let more = c.in_ok-read_member.ensures in
     member_takes 127 c.loop-told.reader _ _ (Some c.in-Some.name.now) more.0 (key_found _ _ _ _ (Some c.in-Some.name) c.in_ok-name.ensures.value c.next_key.ensures.value c.in-Some.is) more.1
 
 pub loop-told-preserved : goal.loop-told-preserved
-loop-told-preserved c =
+loop-told-preserved g c =
     let l = c.loop-told in
     let were = l.invariant in
     let k = c.in-Some.name.now in
@@ -35,7 +35,7 @@ loop-told-preserved c =
     )
 
 pub returns : goal.returns
-returns c =
+returns g c =
     let l = c.loop-told in
     let were = l.invariant in
     let r = c.next_key.new.self in

@@ -1,7 +1,7 @@
 use Rattle.std.proofs.Common.{◌≡◌, ◌∙◌, ap, subst, Bor, string_bytes, if◌then◌else◌}
 use Rattle.std.specs.Prelude.{slice_get, IsSomeAnd}
 use Rattle.std.proofs.lemmas.Result.{IfOk-weaker}
-use Rattle.guppy.specs.Graph.{GraphData}
+use Rattle.guppy_graph.specs.Graph.{GraphData}
 use Rattle.guppy.specs.Views.{package_position}
 use Rattle.guppy_command.specs.Ids.{full_name_of, is_only}
 use Rattle.guppy_print.specs.Flags.{spec_of}

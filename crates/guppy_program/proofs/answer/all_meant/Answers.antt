@@ -1,7 +1,7 @@
 use Rattle.std.proofs.Common.{refl, ℕ, List, Bor, take, drop, ◌+◌}
 use Rattle.std.proofs.lemmas.List.Elements.{All-push}
 use Rattle.std.proofs.lemmas.Result.{err_from_is_err_and}
-use Rattle.guppy.specs.Ids.{IsKnown}
+use Rattle.guppy_graph.specs.Ids.{IsKnown}
 use Rattle.guppy_command.specs.Shown.{texts}
 use Rattle.guppy_program.specs.Meant.{Means}
 use Rattle.guppy_program.proofs.Refusals.{all_clear, unclear_word}

@@ -1,6 +1,6 @@
 use Rattle.std.proofs.Common.{take, All}
 use Rattle.std.specs.List.{AllZip}
-use Rattle.guppy.specs.Ids.{IsKnown}
+use Rattle.guppy_graph.specs.Ids.{IsKnown}
 use Rattle.guppy_command.specs.Shown.{texts}
 use Rattle.guppy_program.specs.Meant.{Means}
 use Rattle.guppy_program.proofs.answer.all_meant.Given as goal

@@ -1,8 +1,8 @@
 use Rattle.std.proofs.Common.{◌≡◌, ◌∙◌, ◌↔◌, ap, subst, ℕ, List, Bor, map}
 use Rattle.std.specs.declared.alloc.Global.{Global}
 use Rattle.std.specs.Prelude.{Vec}
-use Rattle.guppy.specs.Cycles.{AreCyclic, AreOnOne}
-use Rattle.guppy.specs.Graph.{GraphData, IsInOrder}
+use Rattle.guppy_graph.specs.Cycles.{AreCyclic, AreOnOne}
+use Rattle.guppy_graph.specs.Graph.{GraphData, IsInOrder}
 use Rattle.guppy.specs.ListedCycles.{cycle_left, cycles_left, cycles_of}
 use Rattle.guppy_print.specs.Answer.{package_rows}
 use Rattle.guppy_dot.proofs.GivenIds.{all_given}

@@ -1,6 +1,6 @@
 use Rattle.std.proofs.Common.{◌∷◌, []}
 use Rattle.std.proofs.lemmas.Result.{err_from_is_err_and}
-use Rattle.guppy.specs.Ids.{IsKnown}
+use Rattle.guppy_graph.specs.Ids.{IsKnown}
 use Rattle.guppy_program.proofs.ReachedIds.{two_hold}
 use Rattle.guppy_dot.proofs.GivenIds.{none_unknown}
 use Rattle.guppy_program.proofs.answer.dependence.Goals as goal

@@ -1,7 +1,7 @@
 use Rattle.std.proofs.Common.{◌∙◌, refl, ap, subst, ℕ, List, Bor, map}
 use Rattle.std.proofs.lemmas.Iterator.{items_from_drains}
 use Rattle.std.proofs.lemmas.Iterator.Consumers.{YieldsList-from_first}
-use Rattle.guppy.specs.Graph.{IsInOrder}
+use Rattle.guppy_graph.specs.Graph.{IsInOrder}
 use Rattle.guppy.specs.Listed.{listed_ids_left}
 use Rattle.guppy_print.specs.Answer.{package_list}
 use Rattle.guppy_program.proofs.PackageLists.{all_listed}

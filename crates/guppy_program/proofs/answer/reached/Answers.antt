@@ -1,8 +1,8 @@
 use Rattle.std.proofs.Common.{◌≡◌, ◌∙◌, ◌↔◌, ℕ, List}
 use Rattle.std.proofs.lemmas.Result.{err_from_is_err_and}
 use Rattle.std.proofs.lemmas.Iterator.{YieldsList-from_slice}
-use Rattle.guppy_core.specs.IxSet.{IsIn}
-use Rattle.guppy_core.specs.Reach.{LinkStep, ReachedFrom}
+use Rattle.guppy_search.specs.IxSet.{IsIn}
+use Rattle.guppy_search.specs.Reach.{LinkStep, ReachedFrom}
 use Rattle.guppy.specs.Query.{IncludesId, SetData}
 use Rattle.guppy_program.specs.Answer.{IsReached}
 use Rattle.guppy_program.proofs.ReachedIds.{included_is_reached}

@@ -1,7 +1,7 @@
 use Rattle.std.proofs.Common.{refl, sym, subst, map}
 use Rattle.std.specs.Prelude.{All}
-use Rattle.guppy.specs.Graph.{GraphData}
-use Rattle.guppy.specs.Ids.{IsKnown}
+use Rattle.guppy_graph.specs.Graph.{GraphData}
+use Rattle.guppy_graph.specs.Ids.{IsKnown}
 use Rattle.guppy_built.specs.Asked.{choice_of}
 use Rattle.guppy_built.specs.Refused.{IsBuiltFault}
 use Rattle.guppy_built.specs.Rows.{AreBuilt, row_of}

@@ -1,6 +1,6 @@
 use Rattle.std.proofs.Common.{subst}
 use Rattle.std.specs.Prelude.{Result, Ok, Err, IfOk, IfErr}
-use Rattle.guppy_command.specs.Process.{EndsIn}
+use Rattle.guppy_process.specs.Process.{EndsIn}
 use Rattle.guppy_program.proofs.process.run_process.Goals as goal
 
 ok_along : {A B : Type 0} (r : Result A B) (P Q : A → Type 0) → ((a : A) → P a → Q a) → IfOk r P → IfOk r Q

@@ -1,7 +1,7 @@
 use Rattle.std.proofs.Common.{string_bytes, subst}
 use Rattle.std.specs.Prelude.{Option}
 use Rattle.std.proofs.lemmas.Result.{IfOk-weaker, IfErr-weaker, err_from_is_err_and}
-use Rattle.guppy.specs.Graph.{GraphData}
+use Rattle.guppy_graph.specs.Graph.{GraphData}
 use Rattle.guppy_command.specs.Shown.{asked_shown}
 use Rattle.guppy_program.specs.Run.{IsAnswerOf}
 use Rattle.guppy_program.proofs.Runs.{before_fault, command_fault, loaded_distinct}

@@ -3,9 +3,9 @@ use Rattle.guppy_data.specs.declared.records.LinkRecord.{LinkRecord}
 use Rattle.guppy_data.specs.declared.records.PackageRecord.{PackageRecord}
 use Rattle.std.specs.Prelude.{IfOk, IfErr, OnOk}
 use Rattle.std.proofs.lemmas.Result.{err_from_is_err_and}
-use Rattle.guppy.specs.Accepted.{IsAccepted}
-use Rattle.guppy.specs.Graph.{Holds}
-use Rattle.guppy.specs.Refused.{IsRefusal}
+use Rattle.guppy_graph.specs.Accepted.{IsAccepted}
+use Rattle.guppy_graph.specs.Graph.{Holds}
+use Rattle.guppy_graph.specs.Refused.{IsRefusal}
 use Rattle.guppy_program.specs.Loaded.{AreAskedOf, IsLoadFault, counted_on}
 use Rattle.guppy_command.specs.Shown.{asked_shown}
 use Rattle.guppy_platforms.specs.Kept.{AreKept}
@@ -23,7 +23,7 @@ returns-in_err-graph-clause-err g c =
       packages = r.packages.items;
       links = r.links.items;
       workspace = r.workspace;
-      said = subst (λ details. g.F.Format.format.says details c.args.input.now r.packages.items r.links.items r.workspace) c.reads_details.ensures c.in_ok-records.ensures.said;
+      said = subst (λ details. g.F.Format.format.says details c.args.input.now r.packages.items r.links.items r.workspace) c.details_for.ensures c.in_ok-records.ensures.said;
       counting = c.keep_counted.new.links.items;
       counted = subst (λ (packages : List PackageRecord). AreKept (counted_on (asked_shown c.args.asked.now)) (asked_shown c.args.asked.now).host packages r.links.items c.keep_counted.new.links.items) c.as_slice.ensures.value c.in_ok-keep_counted.ensures.ok;
       asked_links = kept;
@@ -45,7 +45,7 @@ returns-clause-ok g c =
       packages = r.packages.items;
       links = r.links.items;
       workspace = r.workspace;
-      said = subst (λ details. g.F.Format.format.says details c.args.input.now r.packages.items r.links.items r.workspace) c.reads_details.ensures c.in_ok-records.ensures.said;
+      said = subst (λ details. g.F.Format.format.says details c.args.input.now r.packages.items r.links.items r.workspace) c.details_for.ensures c.in_ok-records.ensures.said;
       counting = c.keep_counted.new.links.items;
       counted = subst (λ (packages : List PackageRecord). AreKept (counted_on (asked_shown c.args.asked.now)) (asked_shown c.args.asked.now).host packages r.links.items c.keep_counted.new.links.items) c.as_slice.ensures.value c.in_ok-keep_counted.ensures.ok;
       asked_links = kept;

@@ -2,8 +2,8 @@ use Rattle.std.proofs.Common.{◌≡◌, ◌∙◌, refl, sym, ap, subst, true, 
 use Rattle.std.specs.List.{find}
 use Rattle.guppy_search.specs.declared.ix.direction.DependencyDirection.TheVariants.{Forward}
 use Rattle.guppy_search.specs.Links.{links_at}
+use Rattle.guppy_graph.specs.Graph.{GraphData}
 use Rattle.guppy.specs.DirectLinks.{links_left}
-use Rattle.guppy.specs.Graph.{GraphData}
 use Rattle.guppy.specs.Views.{graph_of, link_number, package_position}
 use Rattle.guppy_extras.proofs.LeavingLinks.{next_of, none_left}
 use Rattle.guppy_program.specs.Publish.{is_hindrance_at}

@@ -1,6 +1,6 @@
 use Rattle.std.proofs.Common.{◌≡◌, subst, Bor}
 use Rattle.std.specs.Prelude.{◌&&◌, not, slice_get, IsSomeAnd}
-use Rattle.guppy.specs.Graph.{GraphData}
+use Rattle.guppy_graph.specs.Graph.{GraphData}
 use Rattle.guppy.specs.Views.{link_graph, link_number, package_position}
 use Rattle.guppy_program.specs.Publish.{is_held_back, is_hindrance_at}
 use Rattle.guppy_program.proofs.Hindrances.{hindering, not_hindering}

@@ -3,7 +3,7 @@ use Rattle.std.specs.Prelude.{Bool, slice_get, IsSomeAnd}
 use Rattle.std.proofs.lemmas.Bool.{false_from_ne_true}
 use Rattle.guppy_data.specs.PackagePublish.{seen_publish, recorded_publish}
 use Rattle.guppy_data.specs.declared.records.PackageRecord.{PackageRecord}
-use Rattle.guppy.specs.Graph.{GraphData}
+use Rattle.guppy_graph.specs.Graph.{GraphData}
 use Rattle.guppy.specs.Views.{package_position}
 use Rattle.guppy_program.specs.Publish.{is_somewhere, is_publishable}
 use Rattle.guppy_program.proofs.Membership.{passing-known}

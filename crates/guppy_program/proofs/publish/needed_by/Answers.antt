@@ -1,6 +1,6 @@
 use Rattle.std.proofs.Common.{◌≡◌, ◌∙◌, subst, Bor, Some, None}
 use Rattle.std.specs.Prelude.{slice_get, IsSomeAnd}
-use Rattle.guppy.specs.Graph.{GraphData}
+use Rattle.guppy_graph.specs.Graph.{GraphData}
 use Rattle.guppy.specs.Views.{link_number, package_position}
 use Rattle.guppy_program.specs.Publish.{hindrance_of}
 use Rattle.guppy_program.proofs.Hindrances.{free, leads_to}

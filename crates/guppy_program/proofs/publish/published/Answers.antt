@@ -1,8 +1,8 @@
 use Rattle.std.proofs.Common.{◌∙◌, refl, ap, subst, ℕ, List, Bor, map, All}
 use Rattle.std.specs.Prelude.{IfOk, OnOk}
 use Rattle.std.proofs.lemmas.Result.{err_from_is_err_and}
-use Rattle.guppy.specs.FirmCycles.{HasNoFirmCycle}
-use Rattle.guppy.specs.Verified.{IsVerified}
+use Rattle.guppy_graph.specs.FirmCycles.{HasNoFirmCycle}
+use Rattle.guppy_graph.specs.Verified.{IsVerified}
 use Rattle.guppy_publish.specs.Publishing.{ArePublishIds}
 use Rattle.guppy_command.specs.Command.{publish_order}
 use Rattle.guppy_print.specs.Answer.{package_list}

@@ -1,5 +1,5 @@
 use Rattle.std.proofs.Common.{subst}
-use Rattle.guppy.specs.Verified.{TellsVerifyFault, IsVerifyFault as IsGraphFault}
+use Rattle.guppy_graph.specs.Verified.{TellsVerifyFault, IsVerifyFault as IsGraphFault}
 use Rattle.guppy_print.specs.Printed.{called}
 use Rattle.guppy_program.proofs.Refusals.{verify_told, other_told}
 use Rattle.guppy_program.proofs.verify.told.Goals as goal

@@ -1,7 +1,7 @@
 use Rattle.std.proofs.Common.{◌∷◌, [], sym, subst, map}
 use Rattle.std.proofs.lemmas.List.{length-map}
 use Rattle.std.proofs.lemmas.Result.{err_from_is_err_and}
-use Rattle.guppy.specs.Ids.{IsKnown}
+use Rattle.guppy_graph.specs.Ids.{IsKnown}
 use Rattle.guppy.specs.Views.{link_number}
 use Rattle.guppy_extras.specs.Walk.{NoneShorter, Between}
 use Rattle.guppy_program.proofs.ReachedIds.{two_hold}

@@ -1,6 +1,6 @@
 use Rattle.std.proofs.Common.{◌≡◌, ◌∙◌, ap, subst, [], ◌∷◌, ◌++◌, Bor, map}
 use Rattle.std.proofs.lemmas.List.{map_push}
-use Rattle.guppy.specs.Graph.{GraphData}
+use Rattle.guppy_graph.specs.Graph.{GraphData}
 use Rattle.guppy.specs.Views.{link_graph, link_number}
 use Rattle.guppy_print.specs.Shown.{step_shown}
 use Rattle.guppy_program.specs.Steps.{LeadsTo}

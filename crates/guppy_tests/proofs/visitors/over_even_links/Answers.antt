@@ -3,12 +3,12 @@ use Rattle.std.proofs.Common.{◌≡◌, ◌⊎◌, ◌∙◌, ℕ, Bool, true, 
 use Rattle.std.proofs.Math.ListN.{length-replicate}
 use Rattle.std.proofs.lemmas.Fn.{chained_keeps}
 use Rattle.std.proofs.lemmas.List.Elements.{Contains-push_cases}
-use Rattle.guppy.specs.Graph.{GraphData}
-use Rattle.guppy.specs.IxSet.{IsIn}
-use Rattle.guppy.specs.SearchTypes.ix.direction.DependencyDirection.{DependencyDirection}
-use Rattle.guppy.specs.SearchTypes.graph_core.link.Link.{Link}
-use Rattle.guppy.specs.LinksByPosition.{near_end, far_end}
-use Rattle.guppy.specs.Resolve.{LeavesOne, IsIncluded}
+use Rattle.guppy_search.specs.IxSet.{IsIn}
+use Rattle.guppy_search.specs.declared.ix.direction.DependencyDirection.{DependencyDirection}
+use Rattle.guppy_search.specs.declared.graph_core.link.Link.{Link}
+use Rattle.guppy_search.specs.Links.{near_end, far_end}
+use Rattle.guppy_search.specs.Resolve.{LeavesOne, IsIncluded}
+use Rattle.guppy_graph.specs.Graph.{GraphData}
 use Rattle.guppy.specs.Views.{LinkData}
 use Rattle.guppy_tests.proofs.visitors.over_even_links.Goals as goal
 

@@ -1,5 +1,5 @@
 use Rattle.std.proofs.Common.{◌≡◌, ◌∙◌, ◌<◌, length, sym, subst, rules}
-use Rattle.guppy.specs.Ids.{IsKnown}
+use Rattle.guppy_graph.specs.Ids.{IsKnown}
 use Rattle.guppy_print.proofs.KnownIds.{has_id-known}
 use Rattle.guppy_cargo.proofs.KnownNames.{first_called}
 use Rattle.guppy_cargo.proofs.input.JsonFormat.find.Goals as goal

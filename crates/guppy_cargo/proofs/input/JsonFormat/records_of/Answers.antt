@@ -1,4 +1,5 @@
-use Rattle.std.proofs.Common.{◌≡◌, ℕ, Bool, List, sym, subst}
+use Rattle.std.proofs.Common.{◌≡◌, ℕ, List, sym, subst}
+use Rattle.guppy_data.specs.declared.records.Details.{Details}
 use Rattle.guppy_metadata.specs.declared.fault.MetadataFault.{MetadataFault}
 use Rattle.guppy_metadata.specs.declared.fault.MetadataFault.TheVariants.{NotJson, NotResolved, Missing, WrongKind, BadText, OutOfMemory}
 use Rattle.guppy_metadata.specs.Fault.{IsOutOfMemory}
@@ -9,7 +10,7 @@ use Rattle.guppy_arguments.specs.Fault.{cause_of, of_metadata}
 use Rattle.guppy_cargo.specs.Json.{json_format}
 use Rattle.guppy_cargo.proofs.input.JsonFormat.records_of.Goals as goal
 
-misread : (details : Bool) (input : List ℕ) (fault : MetadataFault) → (¬ IsOutOfMemory fault → IsMetadataFault details input fault)
+misread : (details : Details) (input : List ℕ) (fault : MetadataFault) → (¬ IsOutOfMemory fault → IsMetadataFault details input fault)
     → IsReadingFault json_format details input (of_metadata fault) (cause_of (of_metadata fault))
 misread details input (NotJson line column) is = is (λ no. no)
 misread details input NotResolved is = is (λ no. no)

@@ -1,6 +1,6 @@
 use Rattle.std.proofs.Common.{◌∙◌, sym, ap}
-use Rattle.guppy.specs.Graph.{GraphData}
-use Rattle.guppy.specs.Ids.{ids_of}
+use Rattle.guppy_graph.specs.Graph.{GraphData}
+use Rattle.guppy_graph.specs.Ids.{ids_of}
 use Rattle.guppy_metadata_tests.proofs.callers.graph.packages_to_vendor.Goals as goal
 
 pub difference-requires : goal.difference-requires

@@ -2,7 +2,7 @@ use Rattle.std.proofs.Common.{◌≡◌, ◌++◌, subst, Bor}
 use Rattle.std.proofs.lemmas.Result.{on_ok_weaker}
 use Rattle.std.specs.Prelude.{slice_get, IsSomeAnd}
 use Rattle.json.specs.Tree.{json_tokens}
-use Rattle.guppy.specs.Graph.{GraphData}
+use Rattle.guppy_graph.specs.Graph.{GraphData}
 use Rattle.guppy.specs.Views.{package_position}
 use Rattle.guppy_print.specs.Objects.{object_of}
 use Rattle.guppy_print.proofs.WrittenObjects.{known_written, unknown_written}

@@ -1,0 +1,4 @@
+pub mod Device
+pub mod Cause
+pub mod Fault
+pub mod Process
