@@ -1,14 +1,15 @@
 //! The records that the JSON says which `cargo metadata` prints, as one text.
-ghost use Rattle.std.specs.Prelude.{◌≡◌, ◌≢◌, ◌<◌, ◌≤◌, ◌⊎◌, ◌↔◌, ℕ, List, length, take, string_bytes, IsSomeAnd, IsUtf8, IfOk, IfErr};
+ghost use Rattle.std.specs.Prelude.{◌≡◌, ◌≢◌, ◌<◌, ◌≤◌, ◌⊎◌, ◌↔◌, ℕ, List, length, take, IsSomeAnd, IsUtf8, IfOk, IfErr};
 ghost use Rattle.json.specs.Json.{document};
 ghost use Rattle.guppy_metadata.specs.Fault.{IsOutOfMemory, fault_text};
 ghost use Rattle.guppy_metadata.specs.Records.{IsMetadataFault, IsUnresolved, SaysNoRecordsWith};
+ghost use Rattle.guppy_wire.specs.Wire.{text_in};
 ghost use Rattle.guppy_c.specs.Records.{AreRecords, AreRefused, IsNoJson, details_of, kind_of};
 
 use crate::answer::{Answer, put};
 use guppy_data::Details;
 use guppy_metadata::{MetadataFault, read_records};
-use guppy_wire::{LinkTexts, records_text};
+use guppy_wire::{LinkTexts, RecordsText, records_text};
 use simdutf8::basic::from_utf8;
 use std::alloc::Global;
 
@@ -24,8 +25,8 @@ fn details_of(wanted: bool) -> Details
 }
 
 // The records that the JSON says as one text, with details or without.
-fn text_of(alloc: Global, json: &str, details: Details) -> Result<String, MetadataFault>
-    ensures told { IfOk result (λ text. AreRecords details json.now (string_bytes text)) }
+fn text_of(alloc: Global, json: &str, details: Details) -> Result<RecordsText, MetadataFault>
+    ensures told { IfOk result (λ text. AreRecords details json.now (text_in text)) }
     ensures refused { IfErr result (λ fault. ¬ IsOutOfMemory fault → IsMetadataFault details json.now fault) }
 {
     let records = read_records::<LinkTexts>(alloc, json, details)?;
@@ -33,6 +34,26 @@ fn text_of(alloc: Global, json: &str, details: Details) -> Result<String, Metada
         Ok(text) => Ok(text),
         Err(_) => Err(MetadataFault::OutOfMemory),
     }
+}
+
+// Puts the text to the front of the bytes, where there is room.
+fn put_records(text: &RecordsText, out: &mut [u8]) -> Answer
+    ensures written { result.status ≡ 0 → take result.len out.new ≡ text_in text.now }
+    ensures room { result.status ≡ 0 → result.len ≤ length out.new }
+    ensures no_room { result.status ≡ 2 → length out.old < result.len }
+    ensures len { result.status ≡ 2 → result.len ≡ length (text_in text.now) }
+    ensures no_memory { result.status ≡ 3 → result.len ≡ 0 }
+    ensures status { (result.status ≡ 0) ⊎ (result.status ≡ 2) ⊎ (result.status ≡ 3) }
+    ensures unchanged { result.status ≢ 0 → out.new ≡ out.old }
+{
+    let Some(len) = text.len() else {
+        return Answer { status: 3, len: 0 };
+    };
+    if len > out.len() {
+        return Answer { status: 2, len };
+    }
+    text.write_to(out);
+    Answer { status: 0, len }
 }
 
 // The status that tells what kind of a fault it is.
@@ -125,7 +146,7 @@ pub extern "C" fn guppy_records(alloc: Global, json: &[u8], details: bool, out: 
         return put("the input is no UTF-8", 4, out);
     };
     match text_of(alloc, text, details_of(details)) {
-        Ok(text) => put(text.as_str(), 0, out),
+        Ok(text) => put_records(&text, out),
         Err(fault) => refuse(alloc, &fault, out),
     }
 }

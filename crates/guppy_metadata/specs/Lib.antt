@@ -1,4 +1,5 @@
 pub mod Asked
+pub mod Buffer
 pub mod Dependency
 pub mod Fault
 pub mod Feature

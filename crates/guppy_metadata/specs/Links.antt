@@ -1,14 +1,15 @@
 -- What the JSON says of links.
-use Rattle.std.specs.Prelude.{◌≡◌, ℕ, true, List, [], Option, Some, None, IsSomeAnd, option_and_then, filter, string_bytes, codes}
+use Rattle.std.specs.Prelude.{◌≡◌, ℕ, true, List, [], Option, Some, None, IsSomeAnd, option_and_then, filter, map, string_bytes, codes}
 use Rattle.std.specs.List.{AllZip, flat_map}
 use Rattle.std.specs.Option.{option_copied}
+use Rattle.semver.specs.Identifiers.{comparator_view}
+use Rattle.semver.specs.declared.VersionReq.{VersionReq}
 use Rattle.json.specs.Json.{Json, string, array}
 use Rattle.json.specs.Find.{get}
 use Rattle.json.specs.Value.{items_of}
 use Rattle.guppy_data.specs.declared.records.Details.{Details}
 use Rattle.guppy_data.specs.declared.records.Details.TheVariants.{With}
 use Rattle.guppy_data.specs.declared.records.LinkRecord.{LinkRecord}
-use Rattle.guppy_metadata.specs.declared.types.LinkTexts.{LinkTexts}
 use Rattle.guppy_metadata.specs.declared.types.Resolved.{Resolved}
 use Rattle.guppy_metadata.specs.declared.types.Usage.{Usage}
 use Rattle.guppy_metadata.specs.declared.types.Package.{Package}
@@ -23,13 +24,6 @@ pub record Joins (from to name : List ℕ) (r : LinkRecord) : Type 0 where
   pub from_is : r.from ≡ from
   pub to_is : r.to ≡ to
   pub name_is : string_bytes r.resolved_name ≡ name
-
--- these are the texts of a link from this ID that was resolved so, with this name in the manifest
-pub record HasTexts (from : List ℕ) (resolved : Resolved) (dep_name : List ℕ) (texts : LinkTexts) : Type 0 where
-  pub from_is : texts.from ≡ from
-  pub to_is : texts.to ≡ resolved.id.now
-  pub dep_name_is : string_bytes texts.dep_name ≡ dep_name
-  pub name_is : string_bytes texts.resolved_name ≡ resolved.name.now
 
 -- a section and the platforms that a dependency is used for
 pub record IsUsage (d : Json) (x : Usage) : Type 0 where
@@ -46,6 +40,13 @@ pub record IsResolved (d : Json) (x : Resolved) : Type 0 where
   pub id_is : get (codes "pkg") d ≡ Some (string x.id.now)
   pub name_is : get (codes "name") d ≡ Some (string x.name.now)
   pub usages_are : AreUsages d x.usages.items
+
+-- the link from this ID that was resolved so, with this name in the manifest and these versions, is asked for in no section
+pub record IsBareLink (from : List ℕ) (resolved : Resolved) (dep_name : List ℕ) (requirement : VersionReq) (r : LinkRecord) : Type 0 where
+  pub joins : Joins from resolved.id.now resolved.name.now r
+  pub dep_name_is : string_bytes r.dep_name ≡ dep_name
+  pub requirement_is : map comparator_view r.version_req.comparators.items ≡ map comparator_view requirement.comparators.items
+  pub gathered : IsGathered [] r
 
 -- the link is asked for by no dependency, with any version, and is named as in the code
 pub record IsUnasked (name : List ℕ) (r : LinkRecord) : Type 0 where

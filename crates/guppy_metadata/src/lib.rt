@@ -18,6 +18,7 @@
 //! - `parts`: a package, read member by member;
 //! - `resolved`: dependencies as they are resolved;
 //! - `fits`: which declared dependencies were resolved to one; `gathered`: what a link is gathered from;
+//! - `link_buffer`: links in memory that is used again;
 //! - `link`: links, of what is declared and what is resolved;
 //! - `node`: the links of a node, read member by member;
 //! - `sink`: what takes links while they are read;
@@ -38,6 +39,7 @@ mod gathered;
 mod key;
 pub mod laws;
 mod link;
+mod link_buffer;
 mod node;
 mod object;
 mod package;
@@ -56,5 +58,6 @@ mod workspace;
 
 pub use fault::{Kind, MetadataFault, TextFault};
 pub use guppy_data::Records;
+pub use link_buffer::LinkBuffer;
 pub use records::{plain_records_of, read_records, records_of, records_with};
 pub use sink::{LinkSink, NoSink, ReadLinks, ReadRecords};

@@ -1,32 +1,30 @@
 //! Links, of what packages declare and what is resolved.
-ghost use Rattle.std.specs.Prelude.{◌≡◌, ◌++◌, ◌∷◌, [], List, true, false, filter, map, string_bytes, slice_get, Some, IfOk, IfErr, OnOk, IfSome, OnSome, MatchResult};
+ghost use Rattle.std.specs.Prelude.{◌≡◌, ◌++◌, ◌∷◌, [], List, true, false, filter, map, IfErr, OnOk, OnSome, MatchResult};
 ghost use Rattle.std.specs.Option.{option_copied};
 ghost use Rattle.guppy_data.specs.declared.records.LinkRecord.{LinkRecord};
-ghost use Rattle.semver.specs.Identifiers.{comparator_view};
 ghost use Rattle.json.specs.Json.{Json, value};
 ghost use Rattle.json.specs.Value.{value_view};
-ghost use Rattle.guppy_metadata.specs.declared.types.Declared.{Declared};
+ghost use Rattle.guppy_metadata.specs.Buffer.{links_in};
 ghost use Rattle.guppy_metadata.specs.Fault.{LacksMemory, NoneIs};
 ghost use Rattle.guppy_metadata.specs.Fits.{fits, are_matched};
 ghost use Rattle.guppy_metadata.specs.Key.{name_key};
-ghost use Rattle.guppy_metadata.specs.Gathered.{IsGathered, IsLinkOf};
-ghost use Rattle.guppy_metadata.specs.Links.{HasTexts, Joins, IsResolved, IsUnasked, IsLink, AreLinksFrom, AreLinksOf, AreLinksOfAll};
+ghost use Rattle.guppy_metadata.specs.Gathered.{IsLinkOf};
+ghost use Rattle.guppy_metadata.specs.Links.{Joins, IsResolved, IsLink, AreLinksFrom, AreLinksOf, AreLinksOfAll};
 ghost use Rattle.guppy_metadata.specs.Members.{data_of, IsListOf};
 ghost use Rattle.guppy_metadata.specs.Package.{with_id, are_known, ArePositions};
 
 use crate::fault::{Misfit, TextFault};
 use crate::fits::{Wanted, are_matched, from_first_fitting};
-use crate::gathered::add_fitting;
 use crate::key::name_key;
+use crate::link_buffer::LinkBuffer;
 use crate::object::Object;
 use crate::package::positions_of;
 use crate::resolved::{read_resolved, resolved_of};
-use crate::types::{Declared, LinkTexts, Package, Resolved};
-use guppy_data::{LinkRecord, PackageId};
+use crate::types::{Package, Resolved};
+use guppy_data::LinkRecord;
 use indexmap::IndexMap;
 use json::{Reader, Token, Value};
-use semver::VersionReq;
-use std::alloc::{AllocError, Global};
+use std::alloc::Global;
 
 /// The packages, and the position of each behind its ID.
 #[derive(Clone, Copy)]
@@ -50,80 +48,16 @@ impl<'p, 'a> Packages<'p, 'a> {
     }
 }
 
-// Copies of the texts of a link of this name.
-fn link_texts(
-    alloc: Global,
-    from: &str,
-    resolved: &Resolved<'_>,
-    dep_name: &str,
-) -> Result<LinkTexts, AllocError>
-    ensures { IfOk result (HasTexts from.now resolved.now dep_name.now) }
-{
-    Ok(LinkTexts {
-        from: PackageId::new(String::from_str(alloc, from)?),
-        to: PackageId::new(String::from_str(alloc, resolved.id)?),
-        dep_name: String::from_str(alloc, dep_name)?,
-        resolved_name: String::from_str(alloc, resolved.name)?,
-    })
-}
-
-// The link of these texts and requirement that is asked for in no section. It can't fail, so that it is made in
-// its place.
-fn bare_link(alloc: Global, texts: LinkTexts, requirement: VersionReq) -> LinkRecord
-    ensures joins { Joins texts.from texts.to (string_bytes texts.resolved_name) result }
-    ensures dep_name { string_bytes result.dep_name ≡ string_bytes texts.dep_name }
-    ensures requirement { result.version_req ≡ requirement }
-    ensures gathered { IsGathered [] result }
-{
-    let LinkTexts {
-        from,
-        to,
-        dep_name,
-        resolved_name,
-    } = texts;
-    LinkRecord::new(alloc, from, to, dep_name, resolved_name, requirement)
-}
-
-fn copied_requirement(requirement: &VersionReq) -> Result<VersionReq, AllocError>
-    ensures { IfOk result (λ copy. map comparator_view copy.comparators.items
-        ≡ map comparator_view requirement.now.comparators.items) }
-{
-    Ok(requirement.clone()?)
-}
-
-// Adds the link that is named as the first of these declared dependencies, and gathered from those that were resolved to
-// the package, as the first one was.
-fn add_named_as(
-    links: &mut Vec<LinkRecord>,
-    alloc: Global,
-    first: &Declared<'_>,
-    declared: &[Declared<'_>],
-    wanted: &Wanted<'_, '_, '_>,
-) -> Result<(), AllocError>
-    requires first { slice_get declared.now 0 ≡ Some first.now }
-    requires fitting { IfSome (slice_get declared.now 0)
-        (λ first. fits wanted.now.asking.now wanted.now.resolved.now wanted.now.needed.now first ≡ true) }
-    ensures { OnOk result ((link : LinkRecord) × (links.new.items ≡ links.old.items ++ link ∷ [])
-        × Joins wanted.now.from.now wanted.now.resolved.now.id.now wanted.now.resolved.now.name.now link
-        × IsLinkOf (filter (fits wanted.now.asking.now wanted.now.resolved.now wanted.now.needed.now) declared.now)
-        link) }
-{
-    let requirement = copied_requirement(&first.requirement)?;
-    let texts = link_texts(alloc, wanted.from, wanted.resolved, first.dep_name())?;
-    let link = links.push_mut(bare_link(alloc, texts, requirement))?;
-    add_fitting(alloc, link, declared, wanted)
-}
-
 // Adds the link between two packages.
 fn add_link_between(
-    links: &mut Vec<LinkRecord>,
+    links: &mut LinkBuffer,
     alloc: Global,
     from: &str,
     resolved: &Resolved<'_>,
     asking: &Package<'_>,
     needed: &Package<'_>,
 ) -> Result<(), Misfit>
-    ensures added { OnOk result ((link : LinkRecord) × (links.new.items ≡ links.old.items ++ link ∷ [])
+    ensures added { OnOk result ((link : LinkRecord) × (links_in links.new ≡ links_in links.old ++ link ∷ [])
         × Joins from.now resolved.now.id.now resolved.now.name.now link
         × IsLinkOf (filter (fits asking.now resolved.now needed.now) asking.now.declared.items) link) }
     ensures matched { OnOk result (are_matched asking.now resolved.now needed.now
@@ -148,27 +82,13 @@ fn add_link_between(
     if !are_matched(usages, declared, &wanted) {
         return Err(Misfit::bad_text(alloc, "pkg", TextFault::NoDependency));
     }
-    Ok(add_named_as(links, alloc, first, declared, &wanted)?)
-}
-
-// The link that is asked for in no section.
-fn unasked_link(
-    alloc: Global,
-    from: &str,
-    resolved: &Resolved<'_>,
-) -> Result<LinkRecord, AllocError>
-    ensures joins { IfOk result (Joins from.now resolved.now.id.now resolved.now.name.now) }
-    ensures unasked { IfOk result (IsUnasked resolved.now.name.now) }
-{
-    let any = VersionReq::star(alloc);
-    let texts = link_texts(alloc, from, resolved, resolved.name)?;
-    Ok(bare_link(alloc, texts, any))
+    Ok(links.push_asked(first, declared, &wanted)?)
 }
 
 // Adds the link of a resolved dependency from the package with this ID, which is the one that asks. Where one of its ends
 // is no package, which the package graph refuses, it is asked for in no section.
 fn add_resolved(
-    links: &mut Vec<LinkRecord>,
+    links: &mut LinkBuffer,
     alloc: Global,
     packages: Packages<'_, '_>,
     from: &str,
@@ -177,7 +97,7 @@ fn add_resolved(
 ) -> Result<(), Misfit>
     requires positions { ArePositions packages.packages.now packages.positions.now }
     requires asking { option_copied asking ≡ with_id from.now packages.packages.now }
-    ensures added { OnOk result ((link : LinkRecord) × (links.new.items ≡ links.old.items ++ link ∷ [])
+    ensures added { OnOk result ((link : LinkRecord) × (links_in links.new ≡ links_in links.old ++ link ∷ [])
         × ((d : Json) → IsResolved d resolved.now → IsLink packages.entry.packages.now from.now d link)) }
     ensures refused { IfErr result (NoneIs (λ (link : LinkRecord). (d : Json) × IsResolved d resolved.now
         × IsLink packages.entry.packages.now from.now d link)) }
@@ -186,13 +106,13 @@ fn add_resolved(
         (Some(asking), Some(needed)) => {
             add_link_between(links, alloc, from, resolved, asking, needed)
         }
-        _ => Ok(links.push(unasked_link(alloc, from, resolved)?)?),
+        _ => Ok(links.push_unasked(from, resolved)?),
     }
 }
 
 // Adds the link from the package with this ID, which is the one that asks, that an object tells.
 fn add_link(
-    links: &mut Vec<LinkRecord>,
+    links: &mut LinkBuffer,
     packages: Packages<'_, '_>,
     from: &str,
     asking: Option<&Package<'_>>,
@@ -200,7 +120,7 @@ fn add_link(
 ) -> Result<(), Misfit>
     requires positions { ArePositions packages.packages.now packages.positions.now }
     requires asking { option_copied asking ≡ with_id from.now packages.packages.now }
-    ensures added { OnOk result ((link : LinkRecord) × (links.new.items ≡ links.old.items ++ link ∷ [])
+    ensures added { OnOk result ((link : LinkRecord) × (links_in links.new ≡ links_in links.old ++ link ∷ [])
         × IsLink packages.entry.packages.now from.now (data_of dependency.entry) link) }
     ensures refused { IfErr result
         (NoneIs (IsLink packages.entry.packages.now from.now (data_of dependency.entry))) }
@@ -211,13 +131,13 @@ fn add_link(
 
 // Adds the links of a node from the package with this ID: the items of the list `deps`.
 fn add_links(
-    links: &mut Vec<LinkRecord>,
+    links: &mut LinkBuffer,
     packages: Packages<'_, '_>,
     from: &str,
     node: Object<'_, '_>,
 ) -> Result<(), Misfit>
     requires { ArePositions packages.packages.now packages.positions.now }
-    ensures added { OnOk result ((row : List LinkRecord) × (links.new.items ≡ links.old.items ++ row)
+    ensures added { OnOk result ((row : List LinkRecord) × (links_in links.new ≡ links_in links.old ++ row)
         × AreLinksFrom packages.entry.packages.now from.now (data_of node.entry) row) }
     ensures refused { IfErr result (NoneIs (AreLinksFrom packages.entry.packages.now from.now (data_of node.entry))) }
 {
@@ -236,7 +156,7 @@ fn add_links(
 
 // Adds the link from the package with this ID, which is the one that asks, that the object that comes next tells.
 fn read_link(
-    links: &mut Vec<LinkRecord>,
+    links: &mut LinkBuffer,
     reader: &mut Reader<'_>,
     packages: Packages<'_, '_>,
     from: &str,
@@ -245,24 +165,24 @@ fn read_link(
     requires positions { ArePositions packages.packages.now packages.positions.now }
     requires asking { option_copied asking ≡ with_id from.now packages.packages.now }
     ensures { OnSome result ((told : Json) × (value 123 reader.old ≡ Some (told, reader.new))
-        × (link : LinkRecord) × (links.new.items ≡ links.old.items ++ link ∷ [])
+        × (link : LinkRecord) × (links_in links.new ≡ links_in links.old ++ link ∷ [])
         × IsLink packages.entry.packages.now from.now told link) }
 {
-    let alloc = *links.allocator();
+    let alloc = links.allocator();
     let resolved = read_resolved(alloc, reader)?;
     add_resolved(links, alloc, packages, from, asking, &resolved).ok()
 }
 
 /// Adds the links from the package with this ID that the list that comes next tells.
 pub(crate) fn read_links(
-    links: &mut Vec<LinkRecord>,
+    links: &mut LinkBuffer,
     reader: &mut Reader<'_>,
     packages: Packages<'_, '_>,
     from: &str,
 ) -> Option<()>
     requires { ArePositions packages.packages.now packages.positions.now }
     ensures { OnSome result ((told : Json) × (value 124 reader.old ≡ Some (told, reader.new))
-        × (row : List LinkRecord) × (links.new.items ≡ links.old.items ++ row)
+        × (row : List LinkRecord) × (links_in links.new ≡ links_in links.old ++ row)
         × IsListOf (IsLink packages.entry.packages.now from.now) told row) }
 {
     let Some(Token::BeginArray) = reader.next() else {
@@ -277,12 +197,12 @@ pub(crate) fn read_links(
 
 /// Adds the links that leave the package of a node.
 pub(crate) fn add_node(
-    links: &mut Vec<LinkRecord>,
+    links: &mut LinkBuffer,
     packages: Packages<'_, '_>,
     node: Object<'_, '_>,
 ) -> Result<(), Misfit>
     requires { ArePositions packages.packages.now packages.positions.now }
-    ensures added { OnOk result ((row : List LinkRecord) × (links.new.items ≡ links.old.items ++ row)
+    ensures added { OnOk result ((row : List LinkRecord) × (links_in links.new ≡ links_in links.old ++ row)
         × AreLinksOf packages.entry.packages.now (data_of node.entry) row) }
     ensures refused { IfErr result (NoneIs (AreLinksOf packages.entry.packages.now (data_of node.entry))) }
 {
@@ -292,14 +212,14 @@ pub(crate) fn add_node(
 
 /// Adds the links that leave the package of the node that the item of the list `nodes` at this index is.
 pub(crate) fn add_node_at(
-    links: &mut Vec<LinkRecord>,
+    links: &mut LinkBuffer,
     alloc: Global,
     packages: Packages<'_, '_>,
     index: usize,
     item: &Value<'_>,
 ) -> Result<(), Misfit>
     requires { ArePositions packages.packages.now packages.positions.now }
-    ensures added { OnOk result ((row : List LinkRecord) × (links.new.items ≡ links.old.items ++ row)
+    ensures added { OnOk result ((row : List LinkRecord) × (links_in links.new ≡ links_in links.old ++ row)
         × AreLinksOf packages.entry.packages.now (value_view item.now) row) }
     ensures refused { IfErr result (NoneIs (AreLinksOf packages.entry.packages.now (value_view item.now))) }
 {
@@ -321,11 +241,11 @@ pub(crate) fn links_of(
         (λ links. AreLinksOfAll packages.entry.packages.now (map value_view nodes.now) links.items)
         (NoneIs (AreLinksOfAll packages.entry.packages.now (map value_view nodes.now))) }
 {
-    let mut links = Vec::new(alloc);
+    let mut links = LinkBuffer::with_capacity(alloc, 0)?;
     for (index, item) in nodes.iter().enumerate() {
         add_node_at(&mut links, alloc, packages, index, item)?;
     }
-    Ok(links)
+    Ok(links.into_vec())
 }
 
 /// Asks that each of these IDs is that of one of the packages.

@@ -3,14 +3,15 @@ ghost use Rattle.std.specs.Prelude.{◌≡◌, ◌++◌, List, Some, IfSome, OnS
 ghost use Rattle.std.specs.List.{AllZip};
 ghost use Rattle.json.specs.Json.{Json, value};
 ghost use Rattle.guppy_data.specs.declared.records.LinkRecord.{LinkRecord};
+ghost use Rattle.guppy_metadata.specs.Buffer.{links_in};
 ghost use Rattle.guppy_metadata.specs.Links.{AreLinksOf};
 ghost use Rattle.guppy_metadata.specs.Node.{TellsNode};
 ghost use Rattle.guppy_metadata.specs.Package.{IsSlimPackage, ArePositions};
 ghost use Rattle.guppy_metadata.specs.Told.{IsWith};
 
 use crate::link::{Packages, read_links};
+use crate::link_buffer::LinkBuffer;
 use crate::types::{Node, Package};
-use guppy_data::LinkRecord;
 use indexmap::IndexMap;
 use json::{MAX_DEPTH, Reader, Token, Value};
 use std::alloc::Global;
@@ -18,7 +19,7 @@ use std::alloc::Global;
 // Reads the member of this name, whose value comes next. The ID is to come before the links, and neither twice.
 fn read_member<'a>(
     node: &mut Node<'a>,
-    links: &mut Vec<LinkRecord>,
+    links: &mut LinkBuffer,
     reader: &mut Reader<'a>,
     packages: Packages<'_, '_>,
     name: &str,
@@ -26,15 +27,15 @@ fn read_member<'a>(
     requires { ArePositions packages.packages.now packages.positions.now }
     ensures { OnSome result ((told : Json) × (value 124 reader.old ≡ Some (told, reader.new))
         × ((d e : Json) (front row : List LinkRecord) → IsWith name.now told d e
-        → links.old.items ≡ front ++ row → TellsNode packages.entry.packages.now d node.old row
-        → (rows : List LinkRecord) × (links.new.items ≡ front ++ rows)
+        → links_in links.old ≡ front ++ row → TellsNode packages.entry.packages.now d node.old row
+        → (rows : List LinkRecord) × (links_in links.new ≡ front ++ rows)
         × TellsNode packages.entry.packages.now e node.new rows)) }
 {
     if name == "id" {
         if node.has_links {
             return None;
         }
-        let Value::String(id) = Value::read(*links.allocator(), reader, MAX_DEPTH - 4).ok()? else {
+        let Value::String(id) = Value::read(links.allocator(), reader, MAX_DEPTH - 4).ok()? else {
             return None;
         };
         node.from = Some(id);
@@ -52,13 +53,13 @@ fn read_member<'a>(
 
 // Reads the node that comes next, and adds its links.
 fn read_members<'a>(
-    links: &mut Vec<LinkRecord>,
+    links: &mut LinkBuffer,
     reader: &mut Reader<'a>,
     packages: Packages<'_, '_>,
 ) -> Option<Node<'a>>
     requires { ArePositions packages.packages.now packages.positions.now }
     ensures { IfSome result (λ node. (told : Json) × (value 125 reader.old ≡ Some (told, reader.new))
-        × (row : List LinkRecord) × (links.new.items ≡ links.old.items ++ row)
+        × (row : List LinkRecord) × (links_in links.new ≡ links_in links.old ++ row)
         × TellsNode packages.entry.packages.now told node row) }
 {
     let Some(Token::BeginObject) = reader.next() else {
@@ -95,14 +96,14 @@ fn let_go(
 
 /// Adds the links of the node that comes next. Lets go what its package declares.
 pub(crate) fn read_node(
-    links: &mut Vec<LinkRecord>,
+    links: &mut LinkBuffer,
     reader: &mut Reader<'_>,
     packages: &mut [Package<'_>],
     positions: &IndexMap<String, usize>,
 ) -> Option<()>
     requires { ArePositions packages.old positions.now }
     ensures links { OnSome result ((told : Json) × (value 125 reader.old ≡ Some (told, reader.new))
-        × (row : List LinkRecord) × (links.new.items ≡ links.old.items ++ row)
+        × (row : List LinkRecord) × (links_in links.new ≡ links_in links.old ++ row)
         × AreLinksOf packages.old told row) }
     ensures left { OnSome result (AllZip IsSlimPackage packages.old packages.new) }
 {
@@ -114,6 +115,6 @@ pub(crate) fn read_node(
     if !node.has_links {
         return None;
     }
-    let_go(*links.allocator(), packages, positions, node.from?);
+    let_go(links.allocator(), packages, positions, node.from?);
     Some(())
 }

@@ -4,18 +4,20 @@ ghost use Rattle.std.specs.List.{AllZip};
 ghost use Rattle.json.specs.Json.{Json, max_depth, value};
 ghost use Rattle.guppy_data.specs.declared.records.LinkRecord.{LinkRecord};
 ghost use Rattle.json.specs.Find.{get};
+ghost use Rattle.guppy_metadata.specs.Buffer.{links_in};
 ghost use Rattle.guppy_metadata.specs.Links.{AreLinksOfList};
 ghost use Rattle.guppy_metadata.specs.Members.{IsListOf};
 ghost use Rattle.guppy_metadata.specs.Package.{IsParsedPackage, IsSlimPackage, ArePositions};
 ghost use Rattle.guppy_metadata.specs.Sink.{AreRead};
 ghost use Rattle.guppy_metadata.specs.Told.{Tells, IsWith};
 
+use crate::link_buffer::LinkBuffer;
 use crate::node::read_node;
 use crate::package::positions_of;
 use crate::parts::read_package;
 use crate::sink::{LinkSink, ReadLinks};
 use crate::types::{Package, Told};
-use guppy_data::{Details, LinkRecord};
+use guppy_data::Details;
 use indexmap::IndexMap;
 use json::{MAX_DEPTH, Reader, Token, Value};
 use std::alloc::Global;
@@ -50,10 +52,17 @@ fn declared_count(packages: &[Package<'_>]) -> usize {
 
 // No links, with the room that the sink asks for: one that leaves all has room for one of each dependency that the
 // packages declare, so that none is moved.
-fn room_for_links<S: LinkSink>(alloc: Global, packages: &[Package<'_>]) -> Option<Vec<LinkRecord>>
-    ensures { IfSome result (λ links. links.items ≡ []) }
+fn room_for_links<S: LinkSink>(alloc: Global, packages: &[Package<'_>]) -> Option<LinkBuffer>
+    ensures { IfSome result (λ links. links_in links ≡ []) }
 {
-    Vec::with_capacity(alloc, S::room(declared_count(packages))).ok()
+    LinkBuffer::with_capacity(alloc, S::room(declared_count(packages))).ok()
+}
+
+// A sink for the links between the packages.
+fn new_sink<S: LinkSink>(alloc: Global, packages: &[Package<'_>]) -> Option<S>
+    ensures { IfSome result (λ sink. S.took sink []) }
+{
+    S::new(alloc, declared_count(packages)).ok()
 }
 
 // The links of the nodes of the list that comes next. Lets go what the packages of these declare.
@@ -73,14 +82,16 @@ fn read_nodes<S: LinkSink>(
     let Some(Token::BeginArray) = reader.next() else {
         return None;
     };
-    let mut sink = S::new(alloc);
+    let mut sink = new_sink::<S>(alloc, packages)?;
     let mut left = room_for_links::<S>(alloc, packages)?;
     while !reader.take_end_array() {
         read_node(&mut left, reader, packages, positions)?;
         sink.take(&mut left).ok()?;
     }
-    left.shrink_to_fit();
-    Some(ReadLinks { sink, left })
+    Some(ReadLinks {
+        sink,
+        left: left.into_vec(),
+    })
 }
 
 // The links of the nodes of the object that comes next. Lets go what the packages of these declare.

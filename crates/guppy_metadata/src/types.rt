@@ -3,7 +3,7 @@ ghost use Rattle.std.specs.Prelude.{◌≡◌};
 ghost use Rattle.guppy_metadata.specs.Key.{name_key};
 
 use crate::sink::{LinkSink, ReadLinks};
-use guppy_data::{DependencyKind, PackageId, PackageRecord};
+use guppy_data::{DependencyKind, PackageRecord};
 use json::Value;
 use semver::{Version, VersionReq};
 
@@ -96,15 +96,6 @@ pub(crate) struct ResolvedParts<'a> {
     pub(crate) name: Option<&'a str>,
     pub(crate) id: Option<&'a str>,
     pub(crate) usages: Option<Vec<Usage<'a>>>,
-}
-
-/// The texts of a link.
-#[derive(Drop)]
-pub(crate) struct LinkTexts {
-    pub(crate) from: PackageId,
-    pub(crate) to: PackageId,
-    pub(crate) dep_name: String,
-    pub(crate) resolved_name: String,
 }
 
 /// What the members of a node's object tell that were read.

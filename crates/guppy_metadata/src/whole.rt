@@ -159,7 +159,7 @@ pub(crate) fn read_from<S: LinkSink>(
         return Ok(records);
     }
     match whole_records(alloc, json, &mut scratch, details) {
-        Ok(records) => Ok(ReadRecords::left(alloc, records)),
+        Ok(records) => Ok(ReadRecords::left(alloc, records)?),
         Err(fault) => Err(fault),
     }
 }

@@ -1,5 +1,5 @@
 -- Records as one text.
-use Rattle.std.specs.Prelude.{◌≡◌, ◌≤◌, ℕ, false, List, ◌++◌, Some}
+use Rattle.std.specs.Prelude.{◌≡◌, ◌≤◌, ℕ, false, List, ◌++◌, Some, string_bytes}
 use Rattle.std.specs.List.{AllZip}
 use Rattle.json.specs.Lex.{tokens}
 use Rattle.json.specs.Print.{print}
@@ -10,6 +10,7 @@ use Rattle.serde_json.specs.Written.{IsInOrder, compact_text, has_float}
 use Rattle.guppy_data.specs.declared.records.LinkRecord.{LinkRecord}
 use Rattle.guppy_data.specs.declared.records.PackageRecord.{PackageRecord}
 use Rattle.guppy_data.specs.declared.records.WorkspaceRecord.{WorkspaceRecord}
+use Rattle.guppy_wire.specs.declared.text.RecordsText.{RecordsText}
 use Rattle.guppy_wire.specs.Parts.{field, optional, listed}
 use Rattle.guppy_wire.specs.Package.{package_text}
 use Rattle.guppy_wire.specs.Link.{link_text}
@@ -42,3 +43,7 @@ pub record AreTold (packages : List PackageRecord) (links : List LinkRecord) (wo
   pub table_is : IsTableText table (view workspace.metadata_table)
   pub tables_are : AllZip HasTable packages tables
   pub text_is : text ≡ records_text packages links workspace table tables
+
+-- the text of the three parts
+abbrev pub text_in : RecordsText → List ℕ
+text_in text = string_bytes text.front ++ string_bytes text.links ++ string_bytes text.back

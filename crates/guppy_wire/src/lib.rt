@@ -3,7 +3,8 @@
 //!
 //! - `parts`: fields, options and lists;
 //! - `package`, `link`: the text of a package and of a link;
-//! - `links`: the texts of links, written while they are read.
+//! - `links`: the texts of links, written while they are read;
+//! - `text`: the text of records, in parts.
 #![tactic(auto)]
 
 ghost use Rattle.std.specs.Prelude.{◌≡◌, ◌++◌, ℕ, List, OnOk, IfOk, string_bytes};
@@ -12,12 +13,13 @@ ghost use Rattle.guppy_data.specs.declared.records.LinkRecord.{LinkRecord};
 ghost use Rattle.guppy_metadata.specs.Sink.{AreRead};
 ghost use Rattle.guppy_wire.specs.Link.{AreTexts};
 ghost use Rattle.guppy_wire.specs.Parts.{field, listed};
-ghost use Rattle.guppy_wire.specs.Wire.{AreTold, HasTable, workspace_text};
+ghost use Rattle.guppy_wire.specs.Wire.{AreTold, HasTable, text_in, workspace_text};
 
 mod link;
 mod links;
 mod package;
 mod parts;
+mod text;
 
 use crate::links::push_links;
 use crate::parts::{Tell, push_count, push_field, push_list, push_optional};
@@ -25,6 +27,7 @@ use guppy_data::{PackageRecord, WorkspaceRecord};
 use guppy_metadata::{ReadLinks, ReadRecords};
 pub use links::LinkTexts;
 use std::alloc::{AllocError, Global};
+pub use text::RecordsText;
 
 impl Tell for WorkspaceRecord {
     ghost told = { workspace_text };
@@ -55,22 +58,22 @@ fn push_tables(
     Ok(())
 }
 
-// How long the text is at most where IDs and paths are as long as in most workspaces.
-fn likely_len(packages: &[PackageRecord], links: &LinkTexts) -> usize {
-    packages
-        .len()
-        .saturating_mul(3 << 10)
-        .saturating_add(links.len())
+// How long the text of so many packages is at most where IDs and paths are as long as in most workspaces.
+fn likely_len(packages: usize) -> usize {
+    packages.saturating_mul(1 << 13)
 }
 
 /// The records as one text: all that they tell of the workspace, its packages and links, as `AreTold` has it. What of a
 /// package or link isn't among the first that a reader asks for is one field, which can be read later.
 ///
-/// Takes memory for the text, three kilobytes a package and the texts of the links at first, and fails only where there
-/// is none. Time grows with the text, and stack with how deep the tables nest.
-pub fn records_text(alloc: Global, records: ReadRecords<LinkTexts>) -> Result<String, AllocError>
+/// Takes memory for the text, at first eight kilobytes a package, and fails only where there is none. Time grows with the
+/// text, and stack with how deep the tables nest.
+pub fn records_text(
+    alloc: Global,
+    records: ReadRecords<LinkTexts>,
+) -> Result<RecordsText, AllocError>
     ensures { IfOk result (λ text. (links : List LinkRecord) → AreRead AreTexts records.links links
-        → AreTold records.packages.items links records.workspace (string_bytes text)) }
+        → AreTold records.packages.items links records.workspace (text_in text)) }
 {
     let ReadRecords {
         packages,
@@ -81,12 +84,13 @@ pub fn records_text(alloc: Global, records: ReadRecords<LinkTexts>) -> Result<St
     let mut links = sink;
     links.push(left.as_slice())?;
     let packages = packages.as_slice();
-    let mut text = String::with_capacity(alloc, likely_len(packages, &links))?;
-    workspace.tell(alloc, &mut text)?;
-    push_list(alloc, &mut text, packages)?;
-    push_links(&mut text, links)?;
+    let mut front = String::with_capacity(alloc, likely_len(packages.len()))?;
+    workspace.tell(alloc, &mut front)?;
+    push_list(alloc, &mut front, packages)?;
+    let links = push_links(&mut front, links)?;
+    let mut back = String::new(alloc);
     let table = workspace.metadata_table.to_string(alloc)?;
-    push_field(&mut text, table.as_str())?;
-    push_tables(alloc, &mut text, packages)?;
-    Ok(text)
+    push_field(&mut back, table.as_str())?;
+    push_tables(alloc, &mut back, packages)?;
+    Ok(RecordsText { front, links, back })
 }

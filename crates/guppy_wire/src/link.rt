@@ -1,5 +1,5 @@
 //! The text of a link.
-ghost use Rattle.std.specs.Prelude.{◌≡◌, ◌++◌, OnOk, string_bytes, option_map};
+ghost use Rattle.std.specs.Prelude.{◌≡◌, ◌++◌, IsTrue, OnOk, string_bytes, codes};
 ghost use Rattle.semver.specs.Identifiers.{pre_text};
 ghost use Rattle.guppy_wire.specs.Parts.{listed};
 ghost use Rattle.guppy_wire.specs.Link.{comparator_text, feature_status_text, features_text, link_details, link_text, numbers_text, op_text, open_text, requirement_text, section_details_text, section_text, status_text};
@@ -51,10 +51,24 @@ fn push_feature_statuses(
     Ok(())
 }
 
+// Whether no features are asked for anywhere.
+#[tactic(auto, using(crate::proofs::NoFeatures::no_features))]
+fn asks_for_nothing(side: &DepRequiredOrOptional) -> bool
+    ensures { IsTrue result → features_text side.now ≡ codes "0;0;0;" }
+{
+    side.default_features_if.is_never()
+        && side.no_default_features_if.is_never()
+        && side.feature_targets.is_empty()
+}
+
 impl Tell for DepRequiredOrOptional {
     ghost told = { features_text };
 
     fn tell(&self, alloc: Global, text: &mut String) -> Result<(), AllocError> {
+        // A link is asked for in one section, mostly, and there either required or optional.
+        if asks_for_nothing(self) {
+            return text.push_str("0;0;0;");
+        }
         self.default_features_if.tell(alloc, text)?;
         self.no_default_features_if.tell(alloc, text)?;
         push_feature_statuses(alloc, text, &self.feature_targets)
@@ -163,19 +177,23 @@ fn push_details(alloc: Global, text: &mut String, link: &LinkRecord) -> Result<(
     push_requirement(alloc, text, link.version_req.comparators.as_slice())
 }
 
-impl Tell for LinkRecord {
-    ghost told = { link_text };
-
-    fn tell(&self, alloc: Global, text: &mut String) -> Result<(), AllocError> {
-        let mut details = String::with_capacity(alloc, 1 << 7)?;
-        push_details(alloc, &mut details, self)?;
-        self.from.tell(alloc, text)?;
-        self.to.tell(alloc, text)?;
-        self.dep_name.tell(alloc, text)?;
-        self.resolved_name.tell(alloc, text)?;
-        push_section(alloc, text, &self.normal)?;
-        push_section(alloc, text, &self.build)?;
-        push_section(alloc, text, &self.dev)?;
-        push_field(text, details.as_str())
-    }
+/// Adds the text of a link. Its details are put together in memory that is used again.
+pub(crate) fn push_link(
+    alloc: Global,
+    text: &mut String,
+    details: &mut String,
+    link: &LinkRecord,
+) -> Result<(), AllocError>
+    ensures { OnOk result (string_bytes text.new ≡ string_bytes text.old ++ link_text link.now) }
+{
+    details.clear();
+    push_details(alloc, details, link)?;
+    link.from.tell(alloc, text)?;
+    link.to.tell(alloc, text)?;
+    link.dep_name.tell(alloc, text)?;
+    link.resolved_name.tell(alloc, text)?;
+    push_section(alloc, text, &link.normal)?;
+    push_section(alloc, text, &link.build)?;
+    push_section(alloc, text, &link.dev)?;
+    push_field(text, details.as_str())
 }

@@ -1,19 +1,28 @@
 //! The texts of links, written while they are read, so that not all links need stand in memory.
-ghost use Rattle.std.specs.Prelude.{◌≡◌, ◌++◌, List, OnOk, string_bytes};
+ghost use Rattle.std.specs.Prelude.{◌≡◌, ◌++◌, List, IfOk, string_bytes};
 ghost use Rattle.guppy_data.specs.declared.records.LinkRecord.{LinkRecord};
 ghost use Rattle.guppy_wire.specs.Link.{AreTexts, link_text};
 ghost use Rattle.guppy_wire.specs.Parts.{listed};
 
-use crate::parts::{Tell, push_count};
+use crate::link::push_link;
+use crate::parts::push_count;
 use guppy_data::LinkRecord;
-use guppy_metadata::LinkSink;
+use guppy_metadata::{LinkBuffer, LinkSink};
 use std::alloc::{AllocError, Global};
+
+// How long the texts are at most where so many dependencies are declared, and IDs and paths are as long as in most
+// workspaces. They are most of all that is written, and would else be moved as they grow.
+fn likely_len(declared: usize) -> usize {
+    declared.saturating_mul(1 << 9)
+}
 
 /// The texts of links, one behind the other, and how many they are.
 #[derive(Drop)]
 pub struct LinkTexts {
     count: usize,
     texts: String,
+    // those of the last link
+    details: String,
 }
 
 impl LinkTexts {
@@ -29,14 +38,9 @@ impl LinkTexts {
         self.count = self.count.checked_add(links.len()).ok_or(AllocError)?;
         let alloc = *self.texts.allocator();
         for link in links {
-            link.tell(alloc, &mut self.texts)?;
+            push_link(alloc, &mut self.texts, &mut self.details, link)?;
         }
         Ok(())
-    }
-
-    /// How many bytes the texts have.
-    pub(crate) fn len(&self) -> usize {
-        self.texts.len()
     }
 }
 
@@ -45,29 +49,30 @@ impl LinkSink for LinkTexts {
 
     ghost took = { AreTexts };
 
-    fn new(alloc: Global) -> Self {
-        LinkTexts {
+    fn new(alloc: Global, declared: usize) -> Result<Self, AllocError> {
+        Ok(LinkTexts {
             count: 0,
-            texts: String::new(alloc),
-        }
+            texts: String::with_capacity(alloc, likely_len(declared))?,
+            details: String::new(alloc),
+        })
     }
 
     fn room(_declared: usize) -> usize {
         0
     }
 
-    fn take(&mut self, links: &mut Vec<LinkRecord>) -> Result<(), AllocError> {
+    fn take(&mut self, links: &mut LinkBuffer) -> Result<(), AllocError> {
         self.push(links.as_slice())?;
         links.clear();
         Ok(())
     }
 }
 
-/// Adds the texts behind their number, and lets them go.
-pub(crate) fn push_links(text: &mut String, links: LinkTexts) -> Result<(), AllocError>
-    ensures { OnOk result ((all : List LinkRecord) → AreTexts links all
-        → string_bytes text.new ≡ string_bytes text.old ++ listed link_text all) }
+/// Adds the number of the links, and gives their texts, which stand behind it.
+pub(crate) fn push_links(text: &mut String, links: LinkTexts) -> Result<String, AllocError>
+    ensures { IfOk result (λ texts. (all : List LinkRecord) → AreTexts links all
+        → string_bytes text.new ++ string_bytes texts ≡ string_bytes text.old ++ listed link_text all) }
 {
     push_count(text, links.count)?;
-    text.push_str(links.texts.as_str())
+    Ok(links.texts)
 }

@@ -91,6 +91,10 @@ impl Parts<'_> {
     }
 
     fn section(&mut self) -> Section {
+        // Most have no dependency.
+        if self.takes("0;0;") {
+            return Section::NEVER;
+        }
         Section {
             required: self.platforms(),
             optional: self.platforms(),
@@ -133,14 +137,14 @@ impl Parts<'_> {
     fn links(&mut self, positions: &Positions) -> Result<(Vec<Ends>, Vec<Link>), Error> {
         let count = self.number(b';');
         let (mut ends, mut links) = (Vec::with_capacity(count), Vec::with_capacity(count));
-        let mut last = None;
+        // The position that the last link leaves, and the field with its ID. No field reads as the first here.
+        let (mut from, mut field) = (0, "none");
         for _ in 0..count {
-            let id = self.text();
-            let from = match last {
-                Some((last, from)) if last == id => from,
-                _ => position(positions, id, "link")?,
-            };
-            last = Some((id, from));
+            if !self.takes(field) {
+                let start = self.place();
+                from = position(positions, self.text(), "link")?;
+                field = self.between(start, self.place());
+            }
             let to = position(positions, self.text(), "link")?;
             ends.push(Ends { from, to });
             links.push(self.link());

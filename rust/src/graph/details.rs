@@ -251,7 +251,7 @@ impl Parts<'_> {
     }
 
     fn registries(&mut self) -> Option<Vec<String>> {
-        (!self.takes(b'*')).then(|| self.texts())
+        (!self.takes("*")).then(|| self.texts())
     }
 
     // The library writes a version that it has read as one.
@@ -367,6 +367,9 @@ pub(super) struct Features {
     pub(super) named: Vec<(Span, Platforms)>,
 }
 
+// What the text has where none are asked for.
+const NO_FEATURES: &str = "0;0;0;";
+
 static NEVER: Platforms = Platforms::Specs(Vec::new());
 
 static NONE: Features = Features {
@@ -376,12 +379,6 @@ static NONE: Features = Features {
 };
 
 impl Features {
-    // Whether any are asked for, or a dependency that has none.
-    fn is_any(&self) -> bool {
-        let is_there = !self.default_features.is_never() || !self.no_default_features.is_never();
-        is_there || !self.named.is_empty()
-    }
-
     /// Where the feature is asked for. The text has the names.
     pub(super) fn status(&self, text: &str, feature: &str) -> &Platforms {
         let place = self
@@ -412,19 +409,26 @@ pub(super) fn version_req_of(text: &str, part: Span) -> VersionReq {
     // The registry and the path.
     (0..2).for_each(|_| parts.pass_optional());
     // Those that are required, and those that are optional, in each section.
-    (0..6).for_each(|_| parts.pass_features());
+    for _ in 0..6 {
+        if !parts.takes(NO_FEATURES) {
+            parts.pass_features();
+        }
+    }
     // The library writes a requirement that it has read as one.
-    VersionReq::parse(parts.up_to(part.end())).expect("a requirement")
+    VersionReq::parse(parts.between(parts.place(), part.end())).expect("a requirement")
 }
 
 impl Parts<'_> {
-    fn asked(&mut self) -> Asked {
-        let features = Features {
+    fn features(&mut self) -> Features {
+        Features {
             default_features: self.platforms(),
             no_default_features: self.platforms(),
             named: self.list(|parts| (parts.field(), parts.platforms())),
-        };
-        Asked(features.is_any().then(|| Box::new(features)))
+        }
+    }
+
+    fn asked(&mut self) -> Asked {
+        Asked((!self.takes(NO_FEATURES)).then(|| Box::new(self.features())))
     }
 
     fn pass_features(&mut self) {

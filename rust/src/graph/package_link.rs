@@ -40,6 +40,12 @@ pub(super) struct Section {
 }
 
 impl Section {
+    /// That of no dependency.
+    pub(super) const NEVER: Self = Section {
+        required: Platforms::Specs(Vec::new()),
+        optional: Platforms::Specs(Vec::new()),
+    };
+
     fn is_never(&self) -> bool {
         self.required.is_never() && self.optional.is_never()
     }

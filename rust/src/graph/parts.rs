@@ -39,23 +39,18 @@ impl<'t> Parts<'t> {
         self.place
     }
 
-    // The byte that stands next.
-    fn next(&self) -> u8 {
-        self.text.as_bytes()[self.place]
-    }
-
     /// The byte that stands next, which is passed.
     pub(super) fn take(&mut self) -> u8 {
-        let byte = self.next();
+        let byte = self.text.as_bytes()[self.place];
         self.place += 1;
         byte
     }
 
-    /// Whether the byte stands next, which then is passed.
-    pub(super) fn takes(&mut self, byte: u8) -> bool {
-        let stands = self.next() == byte;
+    /// Whether the text stands next, which then is passed.
+    pub(super) fn takes(&mut self, text: &str) -> bool {
+        let stands = self.text.as_bytes()[self.place..].starts_with(text.as_bytes());
         if stands {
-            self.place += 1;
+            self.place += text.len();
         }
         stands
     }
@@ -91,26 +86,29 @@ impl<'t> Parts<'t> {
         part.of(self.text)
     }
 
-    /// What stands up to the place, which is passed.
-    pub(super) fn up_to(&mut self, end: usize) -> &'t str {
-        let start = std::mem::replace(&mut self.place, end);
+    /// What stands from one place to the other.
+    pub(super) fn between(&self, start: usize, end: usize) -> &'t str {
         &self.text[start..end]
     }
 
     /// A list of what the function reads.
     pub(super) fn list<T>(&mut self, mut read: impl FnMut(&mut Self) -> T) -> Vec<T> {
+        // Most are empty.
+        if self.takes("0;") {
+            return Vec::new();
+        }
         let count = self.number(b';');
         (0..count).map(|_| read(self)).collect()
     }
 
     /// A text, or none.
     pub(super) fn optional(&mut self) -> Option<Span> {
-        (!self.takes(b'-')).then(|| self.field())
+        (!self.takes("-")).then(|| self.field())
     }
 
     /// Some platforms.
     pub(super) fn platforms(&mut self) -> Platforms {
-        if self.takes(b'*') {
+        if self.takes("*") {
             return Platforms::Always;
         }
         Platforms::Specs(self.list(|parts| TargetSpec::as_written(parts.text())))
@@ -129,14 +127,14 @@ impl<'t> Parts<'t> {
 
     /// Passes over a text, or none.
     pub(super) fn pass_optional(&mut self) {
-        if !self.takes(b'-') {
+        if !self.takes("-") {
             self.pass();
         }
     }
 
     /// Passes over some platforms.
     pub(super) fn pass_platforms(&mut self) {
-        if !self.takes(b'*') {
+        if !self.takes("*") {
             self.pass_list(Self::pass);
         }
     }

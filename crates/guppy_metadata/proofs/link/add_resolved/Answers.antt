@@ -34,23 +34,23 @@ returns-in-Some-Some-clause-refused c =
     (λ e none other link holds. none other link (rw (some, sym c.in-Some-Some.ensures) at (asked_once packages c.args.from.now holds.0 link holds.2 c.args.resolved.now holds.1)))
     c.add_link_between.ensures.refused
 
-pub returns-in_ok-push-in_default-clause-added : goal.returns-in_ok-push-in_default-clause-added
-returns-in_ok-push-in_default-clause-added c =
+pub returns-in_ok-push_unasked-in_default-clause-added : goal.returns-in_ok-push_unasked-in_default-clause-added
+returns-in_ok-push_unasked-in_default-clause-added c =
     let packages = c.args.packages.packages.now in
-    let unasked = c.in_ok-unasked_link-in_default.ensures.unasked in (
-      c.in_ok-unasked_link-in_default.field-0,
-      c.in_ok-push-in_default.ensures.items,
+    let added = c.in_ok-push_unasked-in_default.ensures in (
+      added.0,
+      added.1,
       λ d is. record {
         resolved = c.args.resolved.now;
         resolved_is = is;
-        joins = c.in_ok-unasked_link-in_default.ensures.joins;
+        joins = added.2;
         asked = elim c.in_default.branch [
           | in_default-via-in-Some+in_default w ↦
               let some : with_id c.args.from.now packages ≡ Some w.in_default.field-0-0.now = sym c.requires.asking ∙ ap option_copied w.in_default.is-0 in
-              rw (some, sym w.in_default.ensures) unasked
+              rw (some, sym w.in_default.ensures) added.3
           | in_default-via-in_default w ↦
               let none : with_id c.args.from.now packages ≡ None = sym c.requires.asking ∙ ap option_copied w.in_default.is-0 in
-              rw none unasked
+              rw none added.3
         ];
       },
     )

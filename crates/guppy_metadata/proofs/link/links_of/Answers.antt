@@ -2,6 +2,7 @@ use Rattle.std.proofs.Common.{◌∙◌, ◌∷◌, ◌++◌, [], Some, map, ref
 use Rattle.std.proofs.lemmas.List.{flat_map_more, take_all}
 use Rattle.json.specs.Json.{array}
 use Rattle.json.specs.Value.{items_of, value_view}
+use Rattle.guppy_metadata.specs.Buffer.{links_in}
 use Rattle.guppy_metadata.specs.Fault.{LacksMemory}
 use Rattle.guppy_metadata.specs.Links.{AreLinksOf, AreLinksOfAll}
 use Rattle.guppy_metadata.proofs.FittingLists.{next_fits}
@@ -24,12 +25,14 @@ pub returns-in_err-add_node_at : goal.returns-in_err-add_node_at
 returns-in_err-add_node_at c =
     let packages = c.args.packages.packages.now in
     let nodes = c.args.nodes.now in
-    failed _ _ _ _ c.from_residual.ensures (λ e is.
+    failed _ _ _ _ c.from_residual-in_err-add_node_at.ensures (λ e is.
     part (AreLinksOfAll packages (map value_view nodes)) _ e e (λ lacks. lacks) (λ links holds. (holds.rows, (map value_view nodes, refl, holds.rows_are)))
     (item_refused (Some (array (items_of (map value_view nodes)))) nodes nodes refl refl c.loop-index.index c.index-nodes-index.result _ c.loop-index-test.true c.index-nodes-index.is e
     (AreLinksOf packages) _ _ refl (λ lacks. subst LacksMemory (sym is) lacks) c.in_err-add_node_at.ensures.refused))
 
 pub returns : goal.returns
 returns c =
-    subst (λ nodes. AreLinksOfAll c.args.packages.packages.now (map value_view nodes) c.loop-index.links.items)
-    (take_all c.loop-index.index c.args.nodes.now (let past = c.loop-index-test.false in omega arith)) c.loop-index.invariant
+    let links = links_in c.loop-index.links in
+    subst (λ links. AreLinksOfAll c.args.packages.packages.now (map value_view c.args.nodes.now) links) (sym c.into_vec.ensures)
+    (subst (λ nodes. AreLinksOfAll c.args.packages.packages.now (map value_view nodes) links)
+    (take_all c.loop-index.index c.args.nodes.now (let past = c.loop-index-test.false in omega arith)) c.loop-index.invariant)

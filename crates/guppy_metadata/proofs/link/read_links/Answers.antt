@@ -3,12 +3,13 @@ use Rattle.std.proofs.lemmas.List.{append_assoc, append-nil}
 use Rattle.indexmap.proofs.SetLemmas.{AllZip-push}
 use Rattle.json.specs.Json.{array}
 use Rattle.json.specs.Value.{items_of}
+use Rattle.guppy_metadata.specs.Buffer.{links_in}
 use Rattle.guppy_metadata.specs.Links.{IsLink}
 use Rattle.guppy_metadata.proofs.Turns.{no_item_read, next_read, item_takes, list_told}
 use Rattle.guppy_metadata.proofs.link.read_links.Goals as goal
 
 pub loop-asking-init : goal.loop-asking-init
-loop-asking-init c = ([], no_item_read 123 _, [], sym (append-nil c.args.links.now.items), tt)
+loop-asking-init c = ([], no_item_read 123 _, [], sym (append-nil (links_in c.args.links.now)), tt)
 
 pub loop-asking-preserved : goal.loop-asking-preserved
 loop-asking-preserved c =
@@ -19,7 +20,7 @@ loop-asking-preserved c =
       were.0 ++ more.0 ∷ [],
       next_read 123 _ were.0 l.reader _ _ more.0 were.1 c.loop-asking-test.ensures more.1,
       were.2 ++ link ∷ [],
-      more.3 ∙ (ap (λ front. front ++ link ∷ []) were.3 ∙ append_assoc c.args.links.now.items were.2 (link ∷ [])),
+      more.3 ∙ (ap (λ front. front ++ link ∷ []) were.3 ∙ append_assoc (links_in c.args.links.now) were.2 (link ∷ [])),
       AllZip-push (IsLink c.args.packages.packages.now c.args.from.now) _ _ _ _ were.4 more.4,
     )
 

@@ -1,5 +1,6 @@
 use Rattle.std.proofs.Common.{[], ◌∷◌, ◌++◌, Some, None, refl, sym, arith}
 use Rattle.std.proofs.lemmas.List.{append-nil}
+use Rattle.guppy_metadata.specs.Buffer.{links_in}
 use Rattle.guppy_metadata.proofs.Turns.{key_found, member_takes, no_member_read, member_read, object_of, object_told, object_with}
 use Rattle.guppy_metadata.proofs.node.read_members.Goals as goal
 
@@ -8,7 +9,7 @@ loop-name-init c = (
   [],
   no_member_read 124 _,
   [],
-  sym (append-nil c.args.links.now.items),
+  sym (append-nil (links_in c.args.links.now)),
   record {
     from_is = tt;
     links_are = refl;
@@ -29,7 +30,7 @@ loop-name-preserved c =
     let key = key_found _ _ _ _ (Some c.in-Some.name) c.in_ok-name.ensures.value c.next_key.ensures.value c.in-Some.is in
     let more = c.in_ok-read_member.ensures in
     let rows = were.0 ++ (k, more.0) ∷ [] in
-    let added = more.2 (object_of were.0) (object_of rows) c.args.links.now.items were.2 (object_with were.0 k more.0) were.3 were.4 in (
+    let added = more.2 (object_of were.0) (object_of rows) (links_in c.args.links.now) were.2 (object_with were.0 k more.0) were.3 were.4 in (
       rows,
       member_read 124 _ were.0 l.reader s _ k more.0 were.1 key more.1,
       added.0,

@@ -3,6 +3,7 @@ use Rattle.std.proofs.lemmas.List.{flat_map_more}
 use Rattle.indexmap.proofs.SetLemmas.{AllZip-push}
 use Rattle.json.specs.Json.{array}
 use Rattle.json.specs.Value.{items_of}
+use Rattle.guppy_metadata.specs.Buffer.{links_in}
 use Rattle.guppy_metadata.specs.Links.{AreLinksOf}
 use Rattle.guppy_metadata.proofs.LetGo.{none_let, all_further, positions_kept, links_of_whole}
 use Rattle.guppy_metadata.proofs.Turns.{no_item_read, next_read, item_takes, list_told, of_ok}
@@ -14,7 +15,7 @@ loop-left-init g c = (
   no_item_read 125 _,
   none_let c.args.packages.now,
   [],
-  c.new-sink.ensures,
+  c.in_ok-sink.ensures,
   record {
     rows = [];
     rows_are = tt;
@@ -43,9 +44,9 @@ loop-left-preserved g c =
       record {
         rows = all.rows ++ row ∷ [];
         rows_are = AllZip-push (AreLinksOf c.args.packages.now) _ _ _ _ all.rows_are (links_of_whole c.args.packages.now l.packages were.2 node.0 row node.4);
-        all = append_assoc before more c.take.new.links.items
+        all = append_assoc before more (links_in c.take.new.links)
             ∙ (ap (λ links. before ++ links) (sym took.2 ∙ node.3)
-            ∙ (sym (append_assoc before l.left.items row)
+            ∙ (sym (append_assoc before (links_in l.left) row)
             ∙ (ap (λ front. front ++ row) all.all ∙ flat_map_more (λ row. row) [] all.rows row)));
       },
     )
@@ -60,7 +61,7 @@ returns-clause-links g c =
     let were = c.loop-left.invariant in (
       array (items_of were.0),
       list_told 126 _ c.next.new.self _ were.0 c.loop-left.reader _ (omega arith) c.in-Some-BeginArray.ensures.value c.in-Some-BeginArray.field-0-is were.1 c.loop-left-test.ensures,
-      were.3 ++ c.loop-left.left.items,
-      (were.3, were.4, ap (λ left. were.3 ++ left) (sym c.shrink_to_fit.ensures.items)),
+      were.3 ++ links_in c.loop-left.left,
+      (were.3, were.4, ap (λ left. were.3 ++ left) (sym c.into_vec.ensures)),
       (were.0, refl, were.5),
     )
