@@ -137,14 +137,18 @@ impl Parts<'_> {
     fn links(&mut self, positions: &Positions) -> Result<(Vec<Ends>, Vec<Link>), Error> {
         let count = self.number(b';');
         let (mut ends, mut links) = (Vec::with_capacity(count), Vec::with_capacity(count));
-        // The position that the last link leaves, and the field with its ID. No field reads as the first here.
-        let (mut from, mut field) = (0, "none");
+        // The position that the last link leaves, and the field with its ID.
+        let mut last = None;
         for _ in 0..count {
-            if !self.takes(field) {
-                let start = self.place();
-                from = position(positions, self.text(), "link")?;
-                field = self.between(start, self.place());
-            }
+            let from = match last {
+                Some((from, field)) if self.takes(field) => from,
+                _ => {
+                    let start = self.place();
+                    let from = position(positions, self.text(), "link")?;
+                    last = Some((from, self.between(start, self.place())));
+                    from
+                }
+            };
             let to = position(positions, self.text(), "link")?;
             ends.push(Ends { from, to });
             links.push(self.link());
