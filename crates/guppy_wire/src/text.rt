@@ -20,12 +20,13 @@ fn write_at(out: &mut [u8], at: usize, text: &str)
 }
 
 impl RecordsText {
-    ghost use Rattle.std.specs.Prelude.{◌≡◌, ◌≤◌, length, take, IfSome};
+    ghost use Rattle.std.specs.Prelude.{◌≡◌, ◌≤◌, ◌^◌, None, length, take, IfSome};
     ghost use Rattle.guppy_wire.specs.Wire.{text_in};
 
     /// How many bytes the text has, where memory has so many. Constant time.
     pub fn len(&self) -> Option<usize>
-        ensures { IfSome result (λ len. len ≡ length (text_in self.now)) }
+        ensures len { IfSome result (λ len. len ≡ length (text_in self.now)) }
+        ensures none { result ≡ None → 2 ^ 64 ≤ length (text_in self.now) }
     {
         let first = self.front.len().checked_add(self.links.len())?;
         first.checked_add(self.back.len())
