@@ -1,6 +1,7 @@
 pub mod AskedValues
 pub mod AlikePackages
 pub mod TextLists
+pub mod ListedTexts
 pub mod CodeNames
 pub mod Dependencies
 pub mod Features

@@ -1,11 +1,11 @@
 -- Lists with an item that is read as nothing, so that the list is neither.
-use Rattle.std.proofs.Common.{◌≡◌, ◌∙◌, ℕ, zero, suc, ◌<◌, List, [], ◌∷◌, map, length, get_or, Option, Some, IsSomeAnd, refl, sym, ap, subst, arith}
+use Rattle.std.proofs.Common.{◌≡◌, ◌∙◌, ℕ, zero, suc, ◌<◌, List, [], ◌∷◌, map, length, get_or, Option, Some, IsSomeAnd, sym, ap, subst, arith}
 use Rattle.std.specs.List.{AllZip}
-use Rattle.json.specs.Json.{Json, string, array}
+use Rattle.json.specs.Json.{Json, array}
 use Rattle.json.specs.Value.{items_of, value_view}
 use Rattle.json.specs.declared.value.Value.{Value}
 use Rattle.guppy_metadata.specs.Fault.{LacksMemory, NoneIs}
-use Rattle.guppy_metadata.specs.Members.{IsListOf, list_of}
+use Rattle.guppy_metadata.specs.Members.{IsListOf}
 use Rattle.guppy_metadata.specs.declared.fault.Misfit.{Misfit}
 use Rattle.guppy_metadata.proofs.OnceTold.{items_once}
 
@@ -18,16 +18,11 @@ fits_at R seen (a ∷ items) zero other (x ∷ xs) low all = (x, all.0)
 fits_at R seen (a ∷ items) (suc k) other (x ∷ xs) low all = fits_at R seen items k other xs (omega arith) all.1
 
 -- where an item is read as nothing, the list is neither
-no_list : {A X : Type 0} (R : Json → X → Type 0) (seen : A → Json) (items : List A) (k : ℕ) (this other : A) → k < length items → this ≡ get_or items k other → ((x : X) → R (seen this) x → ⊥)
+pub no_list : {A X : Type 0} (R : Json → X → Type 0) (seen : A → Json) (items : List A) (k : ℕ) (this other : A) → k < length items → this ≡ get_or items k other → ((x : X) → R (seen this) x → ⊥)
     → (xs : List X) → IsListOf R (array (items_of (map seen items))) xs → ⊥
 no_list {X} R seen items k this other low is none xs all =
     let at = fits_at R seen items k other xs low (subst (λ js. AllZip R js xs) (sym (items_once (map seen items) all.0 all.1)) all.2) in
     none at.0 (subst (λ a. R (seen a) at.0) (sym is) at.1)
-
--- a list of texts is one of values that are texts
-texts_fit : (texts : List (List ℕ)) → AllZip (λ j text. j ≡ string text) (map string texts) texts
-texts_fit [] = tt
-texts_fit (text ∷ texts) = (refl, texts_fit texts)
 
 -- a list that is told, with an item at a place
 module _ {A : Type 0} (told : Option Json) (all items : List (Value A)) (list_is : told ≡ Some (array (items_of (map value_view all)))) (are : items ≡ all)
@@ -41,9 +36,3 @@ module _ {A : Type 0} (told : Option Json) (all items : List (Value A)) (list_is
   item_refused {X} R d f same kept none other_fault xs all =
       let none_here : (x : X) → R (value_view this) x → ⊥ = λ x is. none (λ lacks. other_fault (kept lacks)) x (subst (λ d. R d x) (sym same) is) in
       no_list R value_view items k this other low at none_here xs (subst (λ o. IsSomeAnd o (λ list. IsListOf R list xs)) told_is all)
-
-  -- where it is no text, the list is none of texts
-  pub text_refused : (f : Misfit) → (LacksMemory f → LacksMemory e) → NoneIs (λ text. value_view this ≡ string text) f → NoneIs (λ texts. told ≡ Some (list_of texts)) e
-  text_refused f kept none other_fault texts same =
-      no_list (λ j text. j ≡ string text) value_view items k this other low at (none (λ lacks. other_fault (kept lacks))) texts
-      (subst (λ o. IsSomeAnd o (λ list. IsListOf (λ j text. j ≡ string text) list texts)) (sym same ∙ told_is) (map string texts, refl, texts_fit texts))

@@ -72,13 +72,18 @@ pub(crate) fn texts_of<'a>(
     Ok(texts)
 }
 
-/// Copies of texts.
-pub(crate) fn copies_of(alloc: Global, texts: &[&str]) -> Result<Vec<String>, AllocError>
-    ensures { IfOk result
-        (λ copies. map string_bytes copies.items ≡ map (λ text. text.now) texts.now) }
+// Copies of the texts of the list that the member of this name has.
+fn copied_texts_of(alloc: Global, name: &str, value: &Value<'_>) -> Result<Vec<String>, Misfit>
+    ensures { MatchResult result
+        (λ copies. value_view value.now ≡ list_of (map string_bytes copies.items))
+        (NoneIs (λ texts. value_view value.now ≡ list_of texts)) }
 {
-    let mut copies = Vec::with_capacity(alloc, texts.len())?;
-    for text in texts {
+    let Value::Array(items) = value else {
+        return Err(Misfit::wrong_kind(alloc, name, Kind::List));
+    };
+    let mut copies = Vec::with_capacity(alloc, items.len())?;
+    for (index, item) in items.iter().enumerate() {
+        let text = item_text(alloc, name, index, item)?;
         copies.push(String::from_str(alloc, text)?)?;
     }
     Ok(copies)
@@ -267,8 +272,10 @@ impl<'v, 'a> Object<'v, 'a> {
             (λ texts. AreTexts name.now (data_of self.entry) (map string_bytes texts.items))
             (NoneIs (AreTexts name.now (data_of self.entry))) }
     {
-        let texts = self.texts(name)?;
-        Ok(copies_of(self.alloc, texts.as_slice())?)
+        match self.optional(name) {
+            Some(value) => copied_texts_of(self.alloc, name, value),
+            None => Ok(Vec::new(self.alloc)),
+        }
     }
 
     /// The object in the member of this name.

@@ -1,0 +1,35 @@
+-- Lists in memory whose items are texts, looked at one after the other.
+use Rattle.std.proofs.Common.{◌≡◌, ◌∙◌, ℕ, ◌<◌, ◌≤◌, List, [], ◌∷◌, Vec, map, take, length, get_or, refl, sym, ap, subst}
+use Rattle.std.specs.List.{AllZip}
+use Rattle.std.proofs.lemmas.List.{take_all}
+use Rattle.json.specs.Json.{Json, string, array}
+use Rattle.json.specs.Value.{items_of, value_view}
+use Rattle.json.specs.declared.value.Value.{Value}
+use Rattle.json.specs.declared.value.Value.TheVariants.{Array}
+use Rattle.json.proofs.Trees.{view-Array}
+use Rattle.guppy_metadata.specs.Fault.{LacksMemory, NoneIs}
+use Rattle.guppy_metadata.specs.Members.{IsListOf, list_of}
+use Rattle.guppy_metadata.specs.declared.fault.Misfit.{Misfit}
+use Rattle.guppy_metadata.proofs.WrongItems.{no_list}
+
+abbrev IsTextItem : Json → List ℕ → Type 0
+IsTextItem j text = j ≡ string text
+
+texts_fit : (texts : List (List ℕ)) → AllZip IsTextItem (map string texts) texts
+texts_fit [] = tt
+texts_fit (text ∷ texts) = (refl, texts_fit texts)
+
+module _ {A : Type 0} (value : Value A) (v : Vec (Value A) A) (items : List (Value A)) (is_list : value ≡ Array v) (are : items ≡ v.items) where
+  list_is : value_view value ≡ array (items_of (map value_view items))
+  list_is = ap value_view is_list ∙ (view-Array v ∙ ap (λ vs. array (items_of (map value_view vs))) (sym are))
+
+  -- where each item was seen to be a text, it is the list of these
+  pub are_texts : (k : ℕ) (texts : List (List ℕ)) → length items ≤ k → map value_view (take k items) ≡ map string texts → value_view value ≡ list_of texts
+  are_texts k texts past same = list_is ∙ ap (λ js. array (items_of js)) (ap (map value_view) (sym (take_all k items past)) ∙ same)
+
+  -- where an item is no text, it is no list of texts
+  pub no_texts : (k : ℕ) (this other : Value A) → k < length items → this ≡ get_or items k other → (f e : Misfit) → e ≡ f
+      → NoneIs (λ text. value_view this ≡ string text) f → NoneIs (λ texts. value_view value ≡ list_of texts) e
+  no_texts k this other low at f e is none other_fault texts same =
+      no_list IsTextItem value_view items k this other low at (none (λ lacks. other_fault (subst LacksMemory (sym is) lacks))) texts
+      (subst (λ list. IsListOf IsTextItem list texts) (sym same ∙ list_is) (map string texts, refl, texts_fit texts))
