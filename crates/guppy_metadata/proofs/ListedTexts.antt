@@ -1,7 +1,7 @@
 -- Lists in memory whose items are texts, looked at one after the other.
-use Rattle.std.proofs.Common.{◌≡◌, ◌∙◌, ℕ, ◌<◌, ◌≤◌, List, [], ◌∷◌, Vec, map, take, length, get_or, refl, sym, ap, subst}
+use Rattle.std.proofs.Common.{◌≡◌, ◌∙◌, ℕ, ◌+◌, ◌<◌, ◌≤◌, List, [], ◌∷◌, ◌++◌, Vec, map, take, length, get_or, refl, sym, ap, subst}
 use Rattle.std.specs.List.{AllZip}
-use Rattle.std.proofs.lemmas.List.{take_all}
+use Rattle.std.proofs.lemmas.List.{map_push, take_all}
 use Rattle.json.specs.Json.{Json, string, array}
 use Rattle.json.specs.Value.{items_of, value_view}
 use Rattle.json.specs.declared.value.Value.{Value}
@@ -10,6 +10,7 @@ use Rattle.json.proofs.Trees.{view-Array}
 use Rattle.guppy_metadata.specs.Fault.{LacksMemory, NoneIs}
 use Rattle.guppy_metadata.specs.Members.{IsListOf, list_of}
 use Rattle.guppy_metadata.specs.declared.fault.Misfit.{Misfit}
+use Rattle.guppy_metadata.proofs.FittingLists.{taken_more}
 use Rattle.guppy_metadata.proofs.WrongItems.{no_list}
 
 abbrev IsTextItem : Json → List ℕ → Type 0
@@ -18,6 +19,12 @@ IsTextItem j text = j ≡ string text
 texts_fit : (texts : List (List ℕ)) → AllZip IsTextItem (map string texts) texts
 texts_fit [] = tt
 texts_fit (text ∷ texts) = (refl, texts_fit texts)
+
+-- the first items are texts, and so is the next
+pub next_text : {A : Type 0} (items : List (Value A)) (k : ℕ) (item other : Value A) (texts : List (List ℕ)) (text : List ℕ) → k < length items → item ≡ get_or items k other
+    → map value_view (take k items) ≡ map string texts → value_view item ≡ string text → map value_view (take (k + 1) items) ≡ map string (texts ++ text ∷ [])
+next_text items k item other texts text low at same is =
+    taken_more value_view items k item other low at ∙ (ap (λ js. js ++ value_view item ∷ []) same ∙ (ap (λ j. map string texts ++ j ∷ []) is ∙ sym (map_push string texts text)))
 
 module _ {A : Type 0} (value : Value A) (v : Vec (Value A) A) (items : List (Value A)) (is_list : value ≡ Array v) (are : items ≡ v.items) where
   list_is : value_view value ≡ array (items_of (map value_view items))

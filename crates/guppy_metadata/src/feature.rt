@@ -1,5 +1,5 @@
 //! Named features.
-ghost use Rattle.std.specs.Prelude.{◌≡◌, ℕ, List, map, IfOk, MatchResult};
+ghost use Rattle.std.specs.Prelude.{◌≡◌, ℕ, List, MatchResult};
 ghost use Rattle.std.specs.List.{AllZip};
 ghost use Rattle.json.specs.Value.{value_view};
 ghost use Rattle.guppy_data.specs.NamedFeature.{IsFeature};
@@ -8,23 +8,11 @@ ghost use Rattle.guppy_metadata.specs.Feature.{AreFeatures};
 ghost use Rattle.guppy_metadata.specs.Members.{list_of};
 
 use crate::fault::{Kind, Misfit};
-use crate::object::texts_of;
+use crate::object::item_text;
 use guppy_data::NamedFeatureDep;
 use indexmap::IndexMap;
 use json::Value;
-use std::alloc::{AllocError, Global};
-
-// What each of these texts switches on.
-fn features_of(alloc: Global, texts: &[&str]) -> Result<Vec<NamedFeatureDep>, AllocError>
-    ensures { IfOk result
-        (λ features. AllZip IsFeature (map (λ text. text.now) texts.now) features.items) }
-{
-    let mut features = Vec::with_capacity(alloc, texts.len())?;
-    for text in texts {
-        features.push(NamedFeatureDep::from_text(alloc, text)?)?;
-    }
-    Ok(features)
-}
+use std::alloc::Global;
 
 // What the texts of the list in the member of this name switch on.
 fn switched_on(alloc: Global, name: &str, value: &Value<'_>) -> Result<Vec<NamedFeatureDep>, Misfit>
@@ -33,8 +21,15 @@ fn switched_on(alloc: Global, name: &str, value: &Value<'_>) -> Result<Vec<Named
         × AllZip IsFeature texts features.items)
         (NoneIs (λ texts. value_view value.now ≡ list_of texts)) }
 {
-    let texts = texts_of(alloc, name, value)?;
-    Ok(features_of(alloc, texts.as_slice())?)
+    let Value::Array(items) = value else {
+        return Err(Misfit::wrong_kind(alloc, name, Kind::List));
+    };
+    let mut features = Vec::with_capacity(alloc, items.len())?;
+    for (index, item) in items.iter().enumerate() {
+        let text = item_text(alloc, name, index, item)?;
+        features.push(NamedFeatureDep::from_text(alloc, text)?)?;
+    }
+    Ok(features)
 }
 
 /// The named features that the members of the object `features` are.

@@ -32,8 +32,8 @@ fn text_of<'a>(alloc: Global, name: &str, value: &Value<'a>) -> Result<&'a str, 
     }
 }
 
-// The text that an item of the list in the member of this name is.
-fn item_text<'a>(
+/// The text that an item of the list in the member of this name is.
+pub(crate) fn item_text<'a>(
     alloc: Global,
     name: &str,
     index: usize,
