@@ -1,7 +1,10 @@
 -- Lists in memory whose items are texts, looked at one after the other.
-use Rattle.std.proofs.Common.{◌≡◌, ◌∙◌, ℕ, ◌+◌, ◌<◌, ◌≤◌, List, [], ◌∷◌, ◌++◌, Vec, map, take, length, get_or, refl, sym, ap, subst}
+use Rattle.std.proofs.Common.{◌≡◌, ◌∙◌, ℕ, ◌+◌, ◌<◌, ◌≤◌, List, [], ◌∷◌, ◌++◌, Vec, map, take, length, get_or, slice_get, Option, None, Some, refl, sym, ap, subst}
+use Rattle.std.specs.Borrow.{Bor}
 use Rattle.std.specs.List.{AllZip}
+use Rattle.std.specs.Option.{option_copied, option_or}
 use Rattle.std.proofs.lemmas.List.{map_push, take_all}
+use Rattle.std.proofs.lemmas.Option.{none-some}
 use Rattle.json.specs.Json.{Json, string, array}
 use Rattle.json.specs.Value.{items_of, value_view}
 use Rattle.json.specs.declared.value.Value.{Value}
@@ -25,6 +28,19 @@ pub next_text : {A : Type 0} (items : List (Value A)) (k : ℕ) (item other : Va
     → map value_view (take k items) ≡ map string texts → value_view item ≡ string text → map value_view (take (k + 1) items) ≡ map string (texts ++ text ∷ [])
 next_text items k item other texts text low at same is =
     taken_more value_view items k item other low at ∙ (ap (λ js. js ++ value_view item ∷ []) same ∙ (ap (λ j. map string texts ++ j ∷ []) is ∙ sym (map_push string texts text)))
+
+-- the first text stays the first where one more comes, and is that one where there was none
+pub still_first : (texts : List (List ℕ)) (first : Option (Bor (List ℕ))) (text : Bor (List ℕ)) → slice_get texts 0 ≡ option_copied first
+    → slice_get (texts ++ text.now ∷ []) 0 ≡ option_copied (option_or first (Some text))
+still_first [] None text is = refl
+still_first [] (Some t) text is = absurd (none-some t.now is)
+still_first (t ∷ texts) None text is = absurd (none-some t (sym is))
+still_first (t ∷ texts) (Some first) text is = is
+
+-- the first of texts, and the others
+pub first_and_others : (texts : List (List ℕ)) (first : List ℕ) → slice_get texts 0 ≡ Some first → (others : List (List ℕ)) × (texts ≡ first ∷ others)
+first_and_others [] first is = absurd (none-some first is)
+first_and_others (t ∷ texts) first is = (texts, cc)
 
 module _ {A : Type 0} (value : Value A) (v : Vec (Value A) A) (items : List (Value A)) (is_list : value ≡ Array v) (are : items ≡ v.items) where
   list_is : value_view value ≡ array (items_of (map value_view items))

@@ -1,5 +1,5 @@
 //! The members of a JSON object. A fault's place is the one that it has from the object.
-ghost use Rattle.std.specs.Prelude.{◌≡◌, ◌≢◌, IfOk, MatchResult, Ok, map, option_map, string_bytes};
+ghost use Rattle.std.specs.Prelude.{◌≡◌, ◌≢◌, ℕ, List, IfOk, MatchResult, Ok, map, option_map, slice_get, string_bytes};
 ghost use Rattle.std.specs.Option.{option_copied};
 ghost use Rattle.semver.specs.Identifiers.{parts_of, comparator_view};
 ghost use Rattle.semver.specs.Parse.{memory_error, version_parts, req_of};
@@ -89,6 +89,28 @@ fn copied_texts_of(alloc: Global, name: &str, value: &Value<'_>) -> Result<Vec<S
     Ok(copies)
 }
 
+// The first text of the list that the member of this name has, where it has any.
+fn first_text_of<'a>(
+    alloc: Global,
+    name: &str,
+    value: &Value<'a>,
+) -> Result<Option<&'a str>, Misfit>
+    ensures { MatchResult result
+        (λ first. (texts : List (List ℕ)) × (value_view value.now ≡ list_of texts)
+        × (slice_get texts 0 ≡ option_copied first))
+        (NoneIs (λ texts. value_view value.now ≡ list_of texts)) }
+{
+    let Value::Array(items) = value else {
+        return Err(Misfit::wrong_kind(alloc, name, Kind::List));
+    };
+    let mut first = None;
+    for (index, item) in items.iter().enumerate() {
+        let text = item_text(alloc, name, index, item)?;
+        first = first.or(Some(text));
+    }
+    Ok(first)
+}
+
 /// A copy of a text, where there is one.
 pub(crate) fn optional_copy(alloc: Global, text: Option<&str>) -> Result<Option<String>, AllocError>
     ensures { IfOk result (λ copy. option_map string_bytes copy ≡ option_copied text.entry) }
@@ -139,7 +161,7 @@ pub(crate) fn requirement_of(alloc: Global, name: &str, text: &str) -> Result<Ve
 }
 
 impl<'v, 'a> Object<'v, 'a> {
-    ghost use Rattle.std.specs.Prelude.{◌≡◌, MatchResult, Some, None, map, option_map, unwrap_or, string_bytes};
+    ghost use Rattle.std.specs.Prelude.{◌≡◌, ℕ, List, MatchResult, Some, None, map, option_map, slice_get, unwrap_or, string_bytes};
     ghost use Rattle.std.specs.Option.{option_copied};
     ghost use Rattle.json.specs.Json.{Json, null, string, array};
     ghost use Rattle.json.specs.Find.{get};
@@ -263,6 +285,19 @@ impl<'v, 'a> Object<'v, 'a> {
         match self.optional(name) {
             Some(value) => texts_of(self.alloc, name, value),
             None => Ok(Vec::new(self.alloc)),
+        }
+    }
+
+    /// The first text of the list in the member of this name; none where there is no list, or it has none.
+    pub(crate) fn first_text(self, name: &str) -> Result<Option<&'a str>, Misfit>
+        ensures { MatchResult result
+            (λ first. (texts : List (List ℕ)) × AreTexts name.now (data_of self.entry) texts
+            × (slice_get texts 0 ≡ option_copied first))
+            (NoneIs (AreTexts name.now (data_of self.entry))) }
+    {
+        match self.optional(name) {
+            Some(value) => first_text_of(self.alloc, name, value),
+            None => Ok(None),
         }
     }
 

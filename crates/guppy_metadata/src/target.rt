@@ -73,9 +73,8 @@ fn first_kind<'a>(target: Object<'_, 'a>) -> Result<&'a str, Misfit>
         × AreTexts (codes "kind") (data_of target.entry) (kind.now ∷ others))
         (NoneIs (λ (kinds : List ℕ × List (List ℕ)). AreTexts (codes "kind") (data_of target.entry) (kinds.0 ∷ kinds.1))) }
 {
-    let kinds = target.texts("kind")?;
-    match kinds.first() {
-        Some(kind) => Ok(*kind),
+    match target.first_text("kind")? {
+        Some(kind) => Ok(kind),
         None => Err(Misfit::missing(target.alloc, "kind[0]")),
     }
 }
