@@ -20,7 +20,7 @@ extern "C" {
 #endif
 
 // The number of this interface; `guppy_version` answers that of the archive.
-#define GUPPY_C_VERSION 3
+#define GUPPY_C_VERSION 4
 
 // Three functions that the program which links the archive defines, over one allocator. A call uses them on its own
 // thread, so they must be fit for as many threads as call at once. They return: nothing is thrown or jumped out of them.
@@ -142,22 +142,22 @@ struct guppy_outcome guppy_order(const struct guppy_ends *links, size_t links_le
 struct guppy_outcome guppy_reach(const struct guppy_ends *links, size_t links_len, const bool *flags, size_t flags_len, const bool *starts, size_t starts_len, bool forward, bool *marks, size_t marks_len);
 
 // Writes the packages, links and workspace that the JSON describes as one text, in which each part tells how long
-// it is. The JSON is what `cargo metadata --format-version 1` prints. Without `details` it takes about half the
-// time and two thirds of the memory; the details and free tables of packages and the named features of links are then
-// empty.
+// it is. The JSON is what `cargo metadata --format-version 1` prints. Without `details` it takes about two
+// thirds of the time; the details and free tables of packages and the named features of links are then empty.
 //
 // A field is its length in bytes, a colon and the text. A list is how many there are, a semicolon, and each. An
 // option is `-` where there is none. A flag is `y` or `n`. A status is `*` for all platforms, else the list of
 // their texts, a field each. A text, an ID or a path is a field, where nothing else is said. One after another
 // come:
 //
-// - the workspace: root, target directory, optionally the build directory, and the list of the default members;
-// - the list of packages, each as ID, name, version, source, manifest, edition, optionally description, license
-// and repository, and a field with the details; a source is `w`, `p` or `x` for a member at the path, a package
-// at the path or one from elsewhere, and the text;
+// - the workspace: root, target directory, optionally the build directory, the list of the default members, and the
+// free table as JSON, a field;
+// - the list of packages, each as ID, name, version, source, manifest, edition, and optionally description, license
+// and repository; a source is `w`, `p` or `x` for a member at the path, a package at the path or one from elsewhere,
+// and the text;
 // - the list of links, each as two IDs, the names in the manifest and in code, for the normal, the build and the
 // dev section the status of where it is required and of where it is optional, and a field with the details;
-// - the free tables as JSON, a field each: the workspace's, and the list of those of the packages.
+// - of each package, in the order of the list, a field with the details, and one with the free table as JSON.
 //
 // The details of a package: the list of authors; optionally the license file; the lists of categories and
 // keywords; optionally readme, homepage, documentation and linked library; `*` where it may be published
@@ -182,7 +182,7 @@ struct guppy_answer guppy_records(const uint8_t *json, size_t json_len, bool det
 struct guppy_outcome guppy_roots(const struct guppy_ends *links, size_t links_len, const bool *set, size_t set_len, bool forward, bool *marks, size_t marks_len);
 
 // The number of the archive's interface. A program that was built with another `GUPPY_C_VERSION` must make no
-// other call: the number changes with each export, parameter, struct and status.
+// other call: the number changes with each export, parameter, struct and status, and with the layout of a text.
 uint32_t guppy_version(void);
 
 #ifdef __cplusplus

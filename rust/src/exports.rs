@@ -9,7 +9,7 @@
 // that has threads.
 
 /// The number of this interface.
-pub(crate) const VERSION: u32 = 3;
+pub(crate) const VERSION: u32 = 4;
 
 /// How a call ended that writes a text.
 #[repr(C)]
@@ -183,22 +183,22 @@ extern "C" {
         marks_len: usize,
     ) -> Outcome;
     /// Writes the packages, links and workspace that the JSON describes as one text, in which each part tells how long
-    /// it is. The JSON is what `cargo metadata --format-version 1` prints. Without `details` it takes about half the
-    /// time and two thirds of the memory; the details and free tables of packages and the named features of links are then
-    /// empty.
+    /// it is. The JSON is what `cargo metadata --format-version 1` prints. Without `details` it takes about two
+    /// thirds of the time; the details and free tables of packages and the named features of links are then empty.
     ///
     /// A field is its length in bytes, a colon and the text. A list is how many there are, a semicolon, and each. An
     /// option is `-` where there is none. A flag is `y` or `n`. A status is `*` for all platforms, else the list of
     /// their texts, a field each. A text, an ID or a path is a field, where nothing else is said. One after another
     /// come:
     ///
-    /// - the workspace: root, target directory, optionally the build directory, and the list of the default members;
-    /// - the list of packages, each as ID, name, version, source, manifest, edition, optionally description, license
-    /// and repository, and a field with the details; a source is `w`, `p` or `x` for a member at the path, a package
-    /// at the path or one from elsewhere, and the text;
+    /// - the workspace: root, target directory, optionally the build directory, the list of the default members, and the
+    /// free table as JSON, a field;
+    /// - the list of packages, each as ID, name, version, source, manifest, edition, and optionally description, license
+    /// and repository; a source is `w`, `p` or `x` for a member at the path, a package at the path or one from elsewhere,
+    /// and the text;
     /// - the list of links, each as two IDs, the names in the manifest and in code, for the normal, the build and the
     /// dev section the status of where it is required and of where it is optional, and a field with the details;
-    /// - the free tables as JSON, a field each: the workspace's, and the list of those of the packages.
+    /// - of each package, in the order of the list, a field with the details, and one with the free table as JSON.
     ///
     /// The details of a package: the list of authors; optionally the license file; the lists of categories and
     /// keywords; optionally readme, homepage, documentation and linked library; `*` where it may be published
@@ -235,6 +235,6 @@ extern "C" {
         marks_len: usize,
     ) -> Outcome;
     /// The number of the archive's interface. A program that was built with another `GUPPY_C_VERSION` must make no
-    /// other call: the number changes with each export, parameter, struct and status.
+    /// other call: the number changes with each export, parameter, struct and status, and with the layout of a text.
     fn guppy_version() -> u32;
 }

@@ -9,7 +9,7 @@ ghost use Rattle.guppy_c.specs.Records.{AreRecords, AreRefused, IsNoJson, detail
 use crate::answer::{Answer, put};
 use guppy_data::Details;
 use guppy_metadata::{MetadataFault, read_records};
-use guppy_wire::{LinkTexts, RecordsText, records_text};
+use guppy_wire::{DetailTexts, LinkTexts, RecordsText, records_text};
 use simdutf8::basic::from_utf8;
 use std::alloc::Global;
 
@@ -29,7 +29,7 @@ fn text_of(alloc: Global, json: &str, details: Details) -> Result<RecordsText, M
     ensures told { IfOk result (λ text. AreRecords details json.now (text_in text)) }
     ensures refused { IfErr result (λ fault. ¬ IsOutOfMemory fault → IsMetadataFault details json.now fault) }
 {
-    let records = read_records::<LinkTexts>(alloc, json, details)?;
+    let records = read_records::<DetailTexts, LinkTexts>(alloc, json, details)?;
     match records_text(alloc, records) {
         Ok(text) => Ok(text),
         Err(_) => Err(MetadataFault::OutOfMemory),
@@ -92,22 +92,22 @@ fn refuse(alloc: Global, fault: &MetadataFault, out: &mut [u8]) -> Answer
 }
 
 /// Writes the packages, links and workspace that the JSON describes as one text, in which each part tells how long
-/// it is. The JSON is what `cargo metadata --format-version 1` prints. Without `details` it takes about half the
-/// time and two thirds of the memory; the details and free tables of packages and the named features of links are then
-/// empty.
+/// it is. The JSON is what `cargo metadata --format-version 1` prints. Without `details` it takes about two
+/// thirds of the time; the details and free tables of packages and the named features of links are then empty.
 ///
 /// A field is its length in bytes, a colon and the text. A list is how many there are, a semicolon, and each. An
 /// option is `-` where there is none. A flag is `y` or `n`. A status is `*` for all platforms, else the list of
 /// their texts, a field each. A text, an ID or a path is a field, where nothing else is said. One after another
 /// come:
 ///
-/// - the workspace: root, target directory, optionally the build directory, and the list of the default members;
-/// - the list of packages, each as ID, name, version, source, manifest, edition, optionally description, license
-///   and repository, and a field with the details; a source is `w`, `p` or `x` for a member at the path, a package
-///   at the path or one from elsewhere, and the text;
+/// - the workspace: root, target directory, optionally the build directory, the list of the default members, and the
+///   free table as JSON, a field;
+/// - the list of packages, each as ID, name, version, source, manifest, edition, and optionally description, license
+///   and repository; a source is `w`, `p` or `x` for a member at the path, a package at the path or one from elsewhere,
+///   and the text;
 /// - the list of links, each as two IDs, the names in the manifest and in code, for the normal, the build and the
 ///   dev section the status of where it is required and of where it is optional, and a field with the details;
-/// - the free tables as JSON, a field each: the workspace's, and the list of those of the packages.
+/// - of each package, in the order of the list, a field with the details, and one with the free table as JSON.
 ///
 /// The details of a package: the list of authors; optionally the license file; the lists of categories and
 /// keywords; optionally readme, homepage, documentation and linked library; `*` where it may be published

@@ -29,6 +29,13 @@ fits_too P Q implies [] (y ∷ ys) all = absurd all
 fits_too P Q implies (x ∷ xs) [] all = absurd all
 fits_too P Q implies (x ∷ xs) (y ∷ ys) all = (implies x y all.0, fits_too P Q implies xs ys all.1)
 
+-- what fits fits the other way round
+pub turned : {A B : Type 0} (P : A → B → Type 0) (Q : B → A → Type 0) → ((x : A) (y : B) → P x y → Q y x) → (xs : List A) (ys : List B) → AllZip P xs ys → AllZip Q ys xs
+turned P Q implies [] [] all = tt
+turned P Q implies [] (y ∷ ys) all = absurd all
+turned P Q implies (x ∷ xs) [] all = absurd all
+turned P Q implies (x ∷ xs) (y ∷ ys) all = (implies x y all.0, turned P Q implies xs ys all.1)
+
 -- what is alike to itself
 pub each_itself : {A : Type 0} (R : A → A → Type 0) → ((x : A) → R x x) → (xs : List A) → AllZip R xs xs
 each_itself R itself [] = tt

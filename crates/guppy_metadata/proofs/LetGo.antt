@@ -1,25 +1,18 @@
 -- Packages whose dependencies may have been let go: what is said of them is said of the whole ones.
-use Rattle.std.proofs.Common.{◌≡◌, ◌∙◌, ◌⊎◌, inl, inr, ℕ, zero, suc, Bool, List, [], ◌∷◌, map, Option, None, Some, IfSome, IsSomeAnd, slice_get, option_map, option_and_then, refl, sym, ap, subst, string_bytes, codes}
+use Rattle.std.proofs.Common.{◌≡◌, ◌∙◌, ◌⊎◌, inl, inr, ℕ, zero, suc, List, [], ◌∷◌, map, Some, IfSome, slice_get, option_map, refl, sym, ap, subst, string_bytes}
 use Rattle.std.proofs.Math.ListN.{set}
 use Rattle.std.specs.Prelude.{String}
 use Rattle.std.specs.declared.alloc.Global.{Global}
 use Rattle.std.specs.List.{AllZip}
-use Rattle.std.specs.Option.{option_copied}
 use Rattle.json.specs.Json.{Json}
-use Rattle.json.specs.Find.{get}
 use Rattle.indexmap.specs.IndexMap.{IndexMap}
 use Rattle.semver.specs.Identifiers.{parts_of}
-use Rattle.guppy_data.specs.declared.records.Details.{Details}
 use Rattle.guppy_data.specs.declared.records.LinkRecord.{LinkRecord}
-use Rattle.guppy_data.specs.declared.records.PackageRecord.{PackageRecord}
 use Rattle.guppy_metadata.specs.declared.types.Package.{Package}
-use Rattle.guppy_metadata.specs.Links.{AreLinksOf, AreLinksOfList, AreLinksWith}
-use Rattle.guppy_metadata.specs.Members.{IsListOf}
-use Rattle.guppy_metadata.specs.Package.{IsFrom, HasPlainFields, HasDetails, IsParsedPackage, IsRecordOf, IsSlimPackage, AreSlimPackages, ArePositions, last_position}
+use Rattle.guppy_metadata.specs.Links.{AreLinksOf, AreLinksOfList}
+use Rattle.guppy_metadata.specs.Package.{IsSlimPackage, ArePositions, last_position}
 use Rattle.guppy_metadata.proofs.AlikeDependencies.{IsSame, same_itself}
-use Rattle.guppy_metadata.proofs.AlikeLists.{each_itself, made_alike}
-use Rattle.guppy_metadata.proofs.ObjectMembers.{told_alike}
-use Rattle.guppy_metadata.proofs.Options.{some_and}
+use Rattle.guppy_metadata.proofs.AlikeLists.{each_itself, made_alike, turned}
 use Rattle.guppy_metadata.proofs.SamePackages.{IsAlike, links_of_between, links_of_list_between}
 
 let_itself : (p : Package) → IsSlimPackage p p
@@ -71,64 +64,9 @@ alike_let p q is = record {
     by (inl same) = inl (subst (λ xs. AllZip IsSame xs p.declared.items) same (each_itself IsSame same_itself p.declared.items))
     by (inr none) = inr none
 
-all_alike : (ps qs : List Package) → AllZip IsSlimPackage ps qs → AllZip IsAlike qs ps
-all_alike [] [] all = tt
-all_alike [] (q ∷ qs) all = absurd all
-all_alike (p ∷ ps) [] all = absurd all
-all_alike (p ∷ ps) (q ∷ qs) all = (alike_let p q all.0, all_alike ps qs all.1)
-
 module _ (whole packages : List Package) (all : AllZip IsSlimPackage whole packages) where
   pub links_of_whole : (d : Json) (links : List LinkRecord) → AreLinksOf packages d links → AreLinksOf whole d links
-  links_of_whole d links are = links_of_between packages whole (all_alike whole packages all) d links are
+  links_of_whole d links are = links_of_between packages whole (turned IsSlimPackage IsAlike alike_let whole packages all) d links are
 
   pub links_of_list_whole : (nodes : Json) (links : List LinkRecord) → AreLinksOfList packages nodes links → AreLinksOfList whole nodes links
-  links_of_list_whole nodes links are = links_of_list_between packages whole (all_alike whole packages all) nodes links are
-
--- their records are those of the whole ones
-module _ (root : List ℕ) (is_member : List ℕ → Bool) where
-  record_of_whole : (p q : Package) (r : PackageRecord) → IsSlimPackage p q → IsRecordOf root is_member q r → IsRecordOf root is_member p r
-  record_of_whole p q r let_go is = record {
-    source = subst (λ source. IsFrom root r.manifest_path (is_member p.id.now) (option_copied source) r.source) (sym let_go.source)
-        (subst (λ id. IsFrom root r.manifest_path (is_member id.now) (option_copied q.source) r.source) (sym let_go.id) is.source);
-    named = λ d named. is.named d (subst (HasPlainFields d) let_go.record_is named);
-    detailed = λ details d has. is.detailed details d (subst (HasDetails details d) let_go.record_is has);
-    targets = is.targets ∙ ap (λ own. own.build_targets) (sym let_go.record_is);
-    optional = is.optional ∙ ap (λ own. own.optional_deps) (sym let_go.record_is);
-  }
-
-  pub records_of_whole : (ps qs : List Package) (rs : List PackageRecord) → AllZip IsSlimPackage ps qs → AllZip (IsRecordOf root is_member) qs rs → AllZip (IsRecordOf root is_member) ps rs
-  records_of_whole [] [] rs all are = are
-  records_of_whole [] (q ∷ qs) rs all are = absurd all
-  records_of_whole (p ∷ ps) [] rs all are = absurd all
-  records_of_whole (p ∷ ps) (q ∷ qs) [] all are = absurd are
-  records_of_whole (p ∷ ps) (q ∷ qs) (r ∷ rs) all are = (record_of_whole p q r all.0 are.0, records_of_whole ps qs rs all.1 are.1)
-
--- packages that are read are whole
-pub whole_left : (details : Details) (d : Json) (packages : List Package) → IsSomeAnd (get (codes "packages") d) (λ told. IsListOf (IsParsedPackage details) told packages) → AreSlimPackages details d packages
-whole_left details d packages told = record { whole = packages; told = told; left = none_let packages }
-
--- packages that are held, where some are let go while links are read
-module _ {A : Type 0} (items : A → List Package) (details : Details) (d e : Json) (same : get (codes "packages") d ≡ get (codes "packages") e) where
-  pub still_left : (old : Option A) → IfSome old (λ a. AreSlimPackages details d (items a)) → IfSome old (λ a. AreSlimPackages details e (items a))
-  still_left None left = tt
-  still_left (Some a) left = record { whole = left.whole; told = told_alike d e details left.whole same left.told; left = left.left }
-
-  pub left_further : (old new : Option A) → IfSome old (λ a. AreSlimPackages details d (items a)) → IsSomeAnd old (λ a. IsSomeAnd new (λ b. AllZip IsSlimPackage (items a) (items b))) → IfSome new (λ b. AreSlimPackages details e (items b))
-  left_further None new left more = absurd more
-  left_further (Some a) None left more = absurd more
-  left_further (Some a) (Some b) left more = record {
-    whole = left.whole;
-    told = told_alike d e details left.whole same left.told;
-    left = all_further left.whole (items a) (items b) left.left more;
-  }
-
-  -- the links that were read of what is resolved
-  pub links_read : (old : Option A) (links : List LinkRecord) (told : Json) → Some told ≡ get (codes "resolve") e → IfSome old (λ a. AreSlimPackages details d (items a))
-      → IsSomeAnd old (λ a. IsSomeAnd (get (codes "nodes") told) (λ nodes. AreLinksOfList (items a) nodes links)) → AreLinksWith details e links
-  links_read None links told is left are = absurd are
-  links_read (Some a) links told is left are = record {
-    packages = left.whole;
-    packages_are = told_alike d e details left.whole same left.told;
-    links_are = subst (λ o. IsSomeAnd (option_and_then (get (codes "nodes")) o) (λ nodes. AreLinksOfList left.whole nodes links)) is
-        (some_and (get (codes "nodes") told) (λ nodes all. links_of_list_whole left.whole (items a) left.left nodes links all) are);
-  }
+  links_of_list_whole nodes links are = links_of_list_between packages whole (turned IsSlimPackage IsAlike alike_let whole packages all) nodes links are

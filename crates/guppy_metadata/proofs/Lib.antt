@@ -16,6 +16,7 @@ pub mod Objects
 pub mod Options
 pub mod Packages
 pub mod Paths
+pub mod Placed
 pub mod Positions
 pub mod Refused
 pub mod Requirements
@@ -31,3 +32,4 @@ pub mod AlikeDependencies
 pub mod Libraries
 pub mod SamePackages
 pub mod SectionNames
+pub mod ShownPackages

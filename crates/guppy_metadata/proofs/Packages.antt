@@ -14,6 +14,7 @@ use Rattle.guppy_metadata.specs.Package.{IsFrom, IsParsedPackage, AreParsedPacka
 use Rattle.guppy_metadata.proofs.AlikeLists.{lists_fit, made_alike}
 use Rattle.guppy_metadata.proofs.OnceTold.{text_once}
 use Rattle.guppy_metadata.proofs.Options.{some_and}
+use Rattle.guppy_metadata.proofs.Placed.{placed_named, placed_detailed, placed_targets, placed_optional}
 
 -- packages and records of one list have the same IDs
 pub same_ids : (details : Details) (d : Json) (root : List ℕ) (is_member : List ℕ → Bool) (packages : List Package) (records : List PackageRecord) → AreParsedPackages details d packages
@@ -26,24 +27,21 @@ same_ids details d root is_member packages records tells are =
 pub record_alike : (root : List ℕ) (known told : List ℕ → Bool) → ((id : List ℕ) → known id ≡ told id) → (p : Package) (r : PackageRecord) → IsRecordOf root known p r → IsRecordOf root told p r
 record_alike root known told same p r is = record {
   source = subst (λ is_member. IsFrom root r.manifest_path is_member (option_copied p.source) r.source) (same p.id.now) is.source;
-  named = is.named;
-  detailed = is.detailed;
-  targets = is.targets;
-  optional = is.optional;
+  record_is = is.record_is;
 }
 
 -- a package's record, in a workspace with these members
 module _ (details : Details) (root : List ℕ) (is_member : List ℕ → Bool) where
   record_is : (d : Json) (p : Package) (r : PackageRecord) → IsParsedPackage details d p → IsRecordOf root is_member p r → IsPackage details root is_member d r
   record_is d p r tells is =
-      let named = is.named d tells.named in
+      let named = placed_named p.record r is.record_is d tells.named in
       let id : p.id.now ≡ r.id = text_once d (codes "id") p.id.now r.id tells.id named.known.id in
       record {
         named = named;
-        detailed = is.detailed details d tells.detailed;
-        targets = subst (λ targets. AreAskedTargets details d targets.items) (sym is.targets) tells.targets;
+        detailed = placed_detailed p.record r is.record_is details d tells.detailed;
+        targets = subst (λ targets. AreAskedTargets details d targets.items) (sym (placed_targets p.record r is.record_is)) tells.targets;
         optional = λ all. some_and (get (codes "dependencies") d)
-            (λ list are. (p.declared.items, subst (λ details. IsListOf (IsDeclared details) list p.declared.items) all are, subst (NamesOptional p.declared.items) (sym is.optional) (tells.optional all))) tells.declared;
+            (λ list are. (p.declared.items, subst (λ details. IsListOf (IsDeclared details) list p.declared.items) all are, subst (NamesOptional p.declared.items) (sym (placed_optional p.record r is.record_is)) (tells.optional all))) tells.declared;
         source = option_copied p.source;
         source_is = tells.source;
         comes_from = subst (λ is_member. IsFrom root r.manifest_path is_member (option_copied p.source) r.source) (ap is_member id) is.source;

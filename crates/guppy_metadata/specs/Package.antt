@@ -1,7 +1,7 @@
 -- What the JSON of a package says.
 use Rattle.std.specs.Prelude.{◌≡◌, ◌==◌, ◌⊎◌, ℕ, zero, suc, Bool, true, false, List, [], ◌∷◌, ◌++◌, Option, Some, None, IsSomeAnd, Ok, length, cond, String, Vec, filter, map, option_map, unwrap_or, string_bytes, codes}
 use Rattle.std.specs.declared.alloc.Global.{Global}
-use Rattle.std.specs.List.{AllZip, last_or}
+use Rattle.std.specs.List.{last_or}
 use Rattle.std.specs.Option.{option_copied, option_or}
 use Rattle.std.specs.Str.{bytes_eq}
 use Rattle.indexmap.specs.IndexMap.{IndexMap, get_by_text}
@@ -184,19 +184,14 @@ pub record IsSlimPackage (p q : Package) : Type 0 where
   pub record_is : p.record ≡ q.record
   pub declared : (p.declared.items ≡ q.declared.items) ⊎ (q.declared.items ≡ [])
 
--- the packages that the JSON tells, whose dependencies may have been let go
-pub record AreSlimPackages (details : Details) (d : Json) (packages : List Package) : Type 0 where
-  pub whole : List Package
-  pub told : AreParsedPackages details d whole
-  pub left : AllZip IsSlimPackage whole packages
+-- the second is the first record, but for where the package comes from
+abbrev pub IsPlaced : PackageRecord → PackageRecord → Type 0
+IsPlaced r placed = placed ≡ record r { source = placed.source }
 
 -- the record of the package, in a workspace at the root of which these IDs are the members
 pub record IsRecordOf (root : List ℕ) (is_member : List ℕ → Bool) (p : Package) (r : PackageRecord) : Type 0 where
   pub source : IsFrom root r.manifest_path (is_member p.id.now) (option_copied p.source) r.source
-  pub named : (d : Json) → HasPlainFields d p.record → HasPlainFields d r
-  pub detailed : (details : Details) (d : Json) → HasDetails details d p.record → HasDetails details d r
-  pub targets : r.build_targets ≡ p.record.build_targets
-  pub optional : r.optional_deps ≡ p.record.optional_deps
+  pub record_is : IsPlaced p.record r
 
 -- a package's record, in a workspace at the root of which these IDs are the members
 pub record IsPackage (details : Details) (root : List ℕ) (is_member : List ℕ → Bool) (d : Json) (r : PackageRecord) : Type 0 where

@@ -21,7 +21,7 @@
 //! - `link_buffer`: links in memory that is used again;
 //! - `link`: links, of what is declared and what is resolved;
 //! - `node`: the links of a node, read member by member;
-//! - `sink`: what takes links while they are read;
+//! - `sink`: what takes links, and details of packages, while they are read;
 //! - `told`: the packages and the links, read item by item;
 //! - `by_item`: all records, of JSON that is read item by item;
 //! - `whole`: all records, so or of JSON that is read as a whole;
@@ -60,4 +60,4 @@ pub use fault::{Kind, MetadataFault, TextFault};
 pub use guppy_data::Records;
 pub use link_buffer::LinkBuffer;
 pub use records::{plain_records_of, read_records, records_of, records_with};
-pub use sink::{LinkSink, NoSink, ReadLinks, ReadRecords};
+pub use sink::{LinkSink, NoSink, PackageSink, ReadLinks, ReadPackages, ReadRecords};

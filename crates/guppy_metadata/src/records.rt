@@ -7,11 +7,11 @@ ghost use Rattle.guppy_metadata.specs.Links.{AreLinks, AreLinksWith};
 ghost use Rattle.guppy_metadata.specs.Members.{present};
 ghost use Rattle.guppy_metadata.specs.Package.{ArePackages, ArePackagesWith};
 ghost use Rattle.guppy_metadata.specs.Records.{AreRecordsWith, IsMetadataFault, SaysNoRecords, SaysNoRecordsWith, IsUnresolved};
-ghost use Rattle.guppy_metadata.specs.Sink.{AreRead};
+ghost use Rattle.guppy_metadata.specs.Sink.{AreReadRecords};
 ghost use Rattle.guppy_metadata.specs.Workspace.{IsWorkspace};
 
 use crate::fault::MetadataFault;
-use crate::sink::{LinkSink, ReadRecords};
+use crate::sink::{LinkSink, PackageSink, ReadRecords};
 use crate::whole::{read_from, records_from};
 use guppy_data::{Details, Records};
 use std::alloc::Global;
@@ -86,16 +86,16 @@ pub fn records_with(alloc: Global, json: &str, details: Details) -> Result<Recor
     records_from(alloc, json, details)
 }
 
-/// The records with details or without, of which a sink may take the links while they are read: as [`records_with`], but
-/// takes no memory for links that the sink took.
-pub fn read_records<S: LinkSink>(
+/// The records with details or without, of which sinks may take details of packages, and links, while they are read: as
+/// [`records_with`], but takes no memory for what the sinks took.
+pub fn read_records<P: PackageSink, S: LinkSink>(
     alloc: Global,
     json: &str,
     details: Details,
-) -> Result<ReadRecords<S>, MetadataFault>
-    ensures said { IfOk result (λ r. (links : List LinkRecord) × AreRead S.took r.links links
-        × IsSomeAnd (document json.now) (λ d. AreRecordsWith details d r.packages.items links r.workspace)) }
+) -> Result<ReadRecords<P, S>, MetadataFault>
+    ensures said { IfOk result
+        (λ r. IsSomeAnd (document json.now) (λ d. AreReadRecords P.took S.took details d r)) }
     ensures refused { IfErr result (λ fault. ¬ IsOutOfMemory fault → IsMetadataFault details json.now fault) }
 {
-    read_from::<S>(alloc, json, details)
+    read_from::<P, S>(alloc, json, details)
 }

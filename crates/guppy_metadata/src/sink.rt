@@ -1,7 +1,9 @@
-//! What takes links while they are read.
-ghost use Rattle.std.specs.Prelude.{◌≡◌, ◌++◌, [], List, IfOk, OnOk};
+//! What takes links, and details of packages, while they are read.
+ghost use Rattle.std.specs.Prelude.{◌≡◌, ◌++◌, ◌∷◌, [], List, IfOk, OnOk};
 ghost use Rattle.guppy_data.specs.declared.records.LinkRecord.{LinkRecord};
+ghost use Rattle.guppy_data.specs.declared.records.PackageRecord.{PackageRecord};
 ghost use Rattle.guppy_metadata.specs.Buffer.{links_in};
+ghost use Rattle.guppy_metadata.specs.Sink.{AreReadPackages, IsShort};
 
 use crate::link_buffer::LinkBuffer;
 use guppy_data::{LinkRecord, PackageRecord, Records, WorkspaceRecord};
@@ -26,7 +28,24 @@ pub trait LinkSink: Drop {
             × (links_in links.old ≡ more ++ links_in links.new)) };
 }
 
-/// A sink that leaves all links.
+/// What takes the details of packages while they are read, in the packages' order, so that not all need stand in memory
+/// at once.
+pub trait PackageSink: Drop {
+    /// Whether it was shown the first of these records, in their order, and left the second of them.
+    ghost took: { Self → List PackageRecord → List PackageRecord → Type 0 };
+
+    /// A sink that was shown none.
+    fn new(alloc: Global) -> Self
+        ensures { took result [] [] };
+
+    /// Takes details of the package, or leaves them.
+    fn take(&mut self, package: &mut PackageRecord) -> Result<(), AllocError>
+        ensures took { OnOk result ((whole left : List PackageRecord) → took self.old whole left
+            → took self.new (whole ++ «package».old ∷ []) (left ++ «package».new ∷ [])) }
+        ensures short { OnOk result (IsShort «package».old «package».new) };
+}
+
+/// A sink that leaves all links, and all details.
 #[derive(Drop)]
 pub struct NoSink;
 
@@ -48,6 +67,29 @@ impl LinkSink for NoSink {
     }
 }
 
+impl PackageSink for NoSink {
+    ghost use Rattle.std.specs.Prelude.{◌≡◌};
+
+    ghost took = { λ _ whole left. whole ≡ left };
+
+    fn new(_alloc: Global) -> Self {
+        NoSink
+    }
+
+    fn take(&mut self, _package: &mut PackageRecord) -> Result<(), AllocError> {
+        Ok(())
+    }
+}
+
+/// Packages that were read.
+#[derive(Drop)]
+pub struct ReadPackages<P: PackageSink> {
+    /// What took details of them.
+    pub sink: P,
+    /// What it left.
+    pub left: Vec<PackageRecord>,
+}
+
 /// Links that were read.
 #[derive(Drop)]
 pub struct ReadLinks<S: LinkSink> {
@@ -59,22 +101,39 @@ pub struct ReadLinks<S: LinkSink> {
 
 /// Records that were read.
 #[derive(Drop)]
-pub struct ReadRecords<S: LinkSink> {
+pub struct ReadRecords<P: PackageSink, S: LinkSink> {
     /// The packages.
-    pub packages: Vec<PackageRecord>,
+    pub packages: ReadPackages<P>,
     /// The links.
     pub links: ReadLinks<S>,
     /// The workspace.
     pub workspace: WorkspaceRecord,
 }
 
-impl<S: LinkSink> ReadRecords<S> {
-    ghost use Rattle.std.specs.Prelude.{◌≡◌, IfOk};
-    ghost use Rattle.guppy_metadata.specs.Sink.{AreRead};
+// These packages, of which a sink is shown each.
+fn shown<P: PackageSink>(
+    alloc: Global,
+    packages: Vec<PackageRecord>,
+) -> Result<ReadPackages<P>, AllocError>
+    ensures { IfOk result (λ read. AreReadPackages P.took read packages.items) }
+{
+    let mut sink = P::new(alloc);
+    let mut left = Vec::with_capacity(alloc, packages.len())?;
+    for package in packages {
+        let mut package = package;
+        sink.take(&mut package)?;
+        left.push(package)?;
+    }
+    Ok(ReadPackages { sink, left })
+}
 
-    // These records, of which a sink took no links.
+impl<P: PackageSink, S: LinkSink> ReadRecords<P, S> {
+    ghost use Rattle.std.specs.Prelude.{◌≡◌, IfOk};
+    ghost use Rattle.guppy_metadata.specs.Sink.{AreRead, AreReadPackages};
+
+    // These records, of which one sink is shown the packages, and the other took no links.
     pub(crate) fn left(alloc: Global, records: Records) -> Result<Self, AllocError>
-        ensures packages { IfOk result (λ r. r.packages.items ≡ records.packages.items) }
+        ensures packages { IfOk result (λ r. AreReadPackages P.took r.packages records.packages.items) }
         ensures links { IfOk result (λ r. AreRead S.took r.links records.links.items) }
         ensures workspace { IfOk result (λ r. r.workspace ≡ records.workspace) }
     {
@@ -85,7 +144,7 @@ impl<S: LinkSink> ReadRecords<S> {
             workspace,
         } = records;
         Ok(ReadRecords {
-            packages,
+            packages: shown(alloc, packages)?,
             links: ReadLinks { sink, left: links },
             workspace,
         })

@@ -1,44 +1,62 @@
 //! The packages and the resolved nodes, read item by item, so that no value of the whole stands in memory.
-ghost use Rattle.std.specs.Prelude.{◌≡◌, List, [], Some, IfSome, OnSome, IsSomeAnd, codes};
+ghost use Rattle.std.specs.Prelude.{◌≡◌, ◌++◌, ◌∷◌, List, [], Some, IfSome, OnSome, IsSomeAnd, codes};
 ghost use Rattle.std.specs.List.{AllZip};
 ghost use Rattle.json.specs.Json.{Json, max_depth, value};
 ghost use Rattle.guppy_data.specs.declared.records.LinkRecord.{LinkRecord};
+ghost use Rattle.guppy_data.specs.declared.records.PackageRecord.{PackageRecord};
 ghost use Rattle.json.specs.Find.{get};
+ghost use Rattle.guppy_metadata.specs.declared.types.Package.{Package};
 ghost use Rattle.guppy_metadata.specs.Buffer.{links_in};
 ghost use Rattle.guppy_metadata.specs.Links.{AreLinksOfList};
 ghost use Rattle.guppy_metadata.specs.Members.{IsListOf};
 ghost use Rattle.guppy_metadata.specs.Package.{IsParsedPackage, IsSlimPackage, ArePositions};
 ghost use Rattle.guppy_metadata.specs.Sink.{AreRead};
-ghost use Rattle.guppy_metadata.specs.Told.{Tells, IsWith};
+ghost use Rattle.guppy_metadata.specs.Told.{AreShown, IsShortPackage, Tells, IsWith};
 
 use crate::link_buffer::LinkBuffer;
 use crate::node::read_node;
 use crate::package::positions_of;
 use crate::parts::read_package;
-use crate::sink::{LinkSink, ReadLinks};
-use crate::types::{Package, Told};
+use crate::sink::{LinkSink, PackageSink, ReadLinks};
+use crate::types::{Package, Shown, Told};
 use guppy_data::Details;
 use indexmap::IndexMap;
 use json::{MAX_DEPTH, Reader, Token, Value};
 use std::alloc::Global;
 
-// The packages that the list that comes next tells, with details or without.
-fn read_packages<'a>(
+// Shows the sink the last package.
+fn show_last<P: PackageSink>(shown: &mut Shown<'_, P>) -> Option<()>
+    ensures { OnSome result ((before : List Package) (p : Package) → shown.old.packages.items ≡ before ++ p ∷ []
+        → (q : Package) × (shown.new.packages.items ≡ before ++ q ∷ []) × IsShortPackage p q
+        × ((whole left : List PackageRecord) → P.took shown.old.sink whole left
+        → P.took shown.new.sink (whole ++ p.record ∷ []) (left ++ q.record ∷ []))) }
+{
+    let last = shown.packages.last_mut()?;
+    shown.sink.take(&mut last.record).ok()
+}
+
+// The packages that the list that comes next tells, with details or without, each of which a sink is shown.
+fn read_packages<'a, P: PackageSink>(
     alloc: Global,
     reader: &mut Reader<'a>,
     details: Details,
-) -> Option<Vec<Package<'a>>>
-    ensures { IfSome result (λ packages. (told : Json)
-        × (value 127 reader.old ≡ Some (told, reader.new)) × IsListOf (IsParsedPackage details) told packages.items) }
+) -> Option<Shown<'a, P>>
+    ensures { IfSome result (λ shown. (told : Json) × (value 127 reader.old ≡ Some (told, reader.new))
+        × (whole : List Package) × IsListOf (IsParsedPackage details) told whole
+        × AreShown P.took shown.sink whole shown.packages.items) }
 {
     let Some(Token::BeginArray) = reader.next() else {
         return None;
     };
-    let mut packages = Vec::new(alloc);
+    let mut shown = Shown {
+        sink: P::new(alloc),
+        packages: Vec::new(alloc),
+    };
     while !reader.take_end_array() {
-        read_package(&mut packages, alloc, reader, details)?;
+        read_package(&mut shown.packages, alloc, reader, details)?;
+        show_last(&mut shown)?;
     }
-    Some(packages)
+    Some(shown)
 }
 
 // How many dependencies the packages declare.
@@ -125,28 +143,29 @@ fn read_resolve<S: LinkSink>(
 
 // The links, between the packages, of the nodes of the object that comes next. Lets go what the packages of these
 // declare.
-fn read_links<'a, S: LinkSink>(
-    so_far: &mut Told<'a, S>,
+fn read_links<'a, P: PackageSink, S: LinkSink>(
+    so_far: &mut Told<'a, P, S>,
     alloc: Global,
     reader: &mut Reader<'a>,
 ) -> Option<ReadLinks<S>>
     ensures links { IfSome result (λ read. (told : Json)
         × (value 127 reader.old ≡ Some (told, reader.new))
         × (links : List LinkRecord) × AreRead S.took read links
-        × IsSomeAnd so_far.old.packages (λ packages. IsSomeAnd (get (codes "nodes") told)
-        (λ nodes. AreLinksOfList packages.items nodes links))) }
-    ensures left { OnSome result (IsSomeAnd so_far.old.packages (λ packages.
-        IsSomeAnd so_far.new.packages (λ left. AllZip IsSlimPackage packages.items left.items))) }
+        × IsSomeAnd so_far.old.packages (λ shown. IsSomeAnd (get (codes "nodes") told)
+        (λ nodes. AreLinksOfList shown.packages.items nodes links))) }
+    ensures left { OnSome result (IsSomeAnd so_far.old.packages (λ shown.
+        IsSomeAnd so_far.new.packages (λ left. (left.sink ≡ shown.sink)
+        × AllZip IsSlimPackage shown.packages.items left.packages.items))) }
     ensures others { so_far.new.others ≡ so_far.old.others }
 {
-    let packages = so_far.packages.as_mut()?.as_mut_slice();
+    let packages = so_far.packages.as_mut()?.packages.as_mut_slice();
     let positions = positions_of(alloc, packages).ok()?;
     read_resolve(alloc, reader, packages, &positions)
 }
 
 // Reads the member of this name, whose value comes next.
-fn read_member<'a, S: LinkSink>(
-    so_far: &mut Told<'a, S>,
+fn read_member<'a, P: PackageSink, S: LinkSink>(
+    so_far: &mut Told<'a, P, S>,
     alloc: Global,
     reader: &mut Reader<'a>,
     name: &'a str,
@@ -154,7 +173,7 @@ fn read_member<'a, S: LinkSink>(
 ) -> Option<()>
     ensures { OnSome result ((told : Json) × (value 127 reader.old ≡ Some (told, reader.new))
         × ((d e : Json) → IsWith name.now told d e
-        → Tells S.took details d so_far.old → Tells S.took details e so_far.new)) }
+        → Tells P.took S.took details d so_far.old → Tells P.took S.took details e so_far.new)) }
 {
     if name == "packages" {
         if so_far.links.is_some() {
@@ -172,13 +191,13 @@ fn read_member<'a, S: LinkSink>(
 
 /// What the object that comes next tells, with details or without. There is none where its packages don't stand
 /// before what is resolved, as Cargo prints them, and where something is wrong: then the whole is to be read.
-pub(crate) fn told_in<'a, S: LinkSink>(
+pub(crate) fn told_in<'a, P: PackageSink, S: LinkSink>(
     alloc: Global,
     reader: &mut Reader<'a>,
     details: Details,
-) -> Option<Told<'a, S>>
+) -> Option<Told<'a, P, S>>
     ensures { IfSome result (λ told. (d : Json)
-        × (value max_depth reader.old ≡ Some (d, reader.new)) × Tells S.took details d told) }
+        × (value max_depth reader.old ≡ Some (d, reader.new)) × Tells P.took S.took details d told) }
 {
     let Some(Token::BeginObject) = reader.next() else {
         return None;

@@ -2,7 +2,7 @@
 ghost use Rattle.std.specs.Prelude.{◌≡◌};
 ghost use Rattle.guppy_metadata.specs.Key.{name_key};
 
-use crate::sink::{LinkSink, ReadLinks};
+use crate::sink::{LinkSink, PackageSink, ReadLinks};
 use guppy_data::{DependencyKind, PackageRecord};
 use json::Value;
 use semver::{Version, VersionReq};
@@ -119,11 +119,18 @@ pub(crate) struct Parts<'a> {
     pub(crate) others: Vec<(&'a str, Value<'a>)>,
 }
 
+/// Packages that were read, each of which a sink was shown.
+#[derive(Drop)]
+pub(crate) struct Shown<'a, P: PackageSink> {
+    pub(crate) sink: P,
+    pub(crate) packages: Vec<Package<'a>>,
+}
+
 /// What the object of the whole JSON tells.
 #[derive(Drop)]
-pub(crate) struct Told<'a, S: LinkSink> {
+pub(crate) struct Told<'a, P: PackageSink, S: LinkSink> {
     /// The packages; without what they declare, where the links were read.
-    pub(crate) packages: Option<Vec<Package<'a>>>,
+    pub(crate) packages: Option<Shown<'a, P>>,
     /// The links of what is resolved.
     pub(crate) links: Option<ReadLinks<S>>,
     /// All other members.

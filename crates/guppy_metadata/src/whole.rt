@@ -10,14 +10,14 @@ ghost use Rattle.guppy_metadata.specs.Links.{AreLinksOfAll, nodes_in};
 ghost use Rattle.guppy_metadata.specs.Members.{data_of, present};
 ghost use Rattle.guppy_metadata.specs.Package.{are_known};
 ghost use Rattle.guppy_metadata.specs.Records.{AreRecordsWith, SaysNoRecordsWith, IsUnresolved};
-ghost use Rattle.guppy_metadata.specs.Sink.{AreRead};
+ghost use Rattle.guppy_metadata.specs.Sink.{AreReadRecords};
 
 use crate::by_item::records_by_item;
 use crate::fault::{MetadataFault, Misfit};
 use crate::link::{Packages, check_members, links_of};
 use crate::object::Object;
 use crate::package::{package_records, packages_of, positions_of};
-use crate::sink::{LinkSink, NoSink, ReadRecords};
+use crate::sink::{LinkSink, NoSink, PackageSink, ReadRecords};
 use crate::types::Package;
 use crate::workspace::{member_ids, workspace_record};
 use guppy_data::{Details, LinkRecord, Records};
@@ -136,15 +136,15 @@ fn whole_records(
     Ok(records_in(metadata, details)?)
 }
 
-/// The records that the text says, with details or without, of which a sink may take links.
-pub(crate) fn read_from<S: LinkSink>(
+/// The records that the text says, with details or without, of which sinks may take details of packages, and links.
+pub(crate) fn read_from<P: PackageSink, S: LinkSink>(
     alloc: Global,
     json: &str,
     details: Details,
-) -> Result<ReadRecords<S>, MetadataFault>
+) -> Result<ReadRecords<P, S>, MetadataFault>
     ensures json { OnOk result (IsSome (document json.now)) }
-    ensures records { IfOk result (λ r. (links : List LinkRecord) × AreRead S.took r.links links
-        × IsSomeAnd (document json.now) (λ d. AreRecordsWith details d r.packages.items links r.workspace)) }
+    ensures records { IfOk result
+        (λ r. IsSomeAnd (document json.now) (λ d. AreReadRecords P.took S.took details d r)) }
     ensures no_json { IfErr result (λ fault. IsNotJson fault → document json.now ≡ None) }
     ensures not_resolved { IfErr result (λ fault. IsNotResolved fault
         → IsSomeAnd (document json.now) (λ d. present (codes "resolve") d ≡ None)) }
@@ -155,7 +155,7 @@ pub(crate) fn read_from<S: LinkSink>(
     ensures refused { IfErr result (λ fault. ¬ IsOutOfMemory fault → SaysNoRecordsWith details json.now) }
 {
     let mut scratch = Scratch::new(alloc);
-    if let Some(records) = records_by_item::<S>(alloc, json, &mut scratch, details) {
+    if let Some(records) = records_by_item::<P, S>(alloc, json, &mut scratch, details) {
         return Ok(records);
     }
     match whole_records(alloc, json, &mut scratch, details) {
@@ -186,9 +186,9 @@ pub(crate) fn records_from(
         packages,
         links,
         workspace,
-    } = read_from::<NoSink>(alloc, json, details)?;
+    } = read_from::<NoSink, NoSink>(alloc, json, details)?;
     Ok(Records {
-        packages,
+        packages: packages.left,
         links: links.left,
         workspace,
     })

@@ -1,1 +1,2 @@
+pub mod AllDetails
 pub mod NoFeatures

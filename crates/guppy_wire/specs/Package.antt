@@ -59,6 +59,7 @@ target_text r = target_id_text r.id ++ target_kind_text r.kind ++ optional strin
     ++ listed string_field r.required_features.items ++ field r.path ++ string_field r.edition
     ++ yes_or_no r.doc_by_default ++ yes_or_no r.doctest_by_default ++ yes_or_no r.test_by_default
 
+-- what else is told of a package, but for its free table
 abbrev pub package_details : PackageRecord → List ℕ
 package_details r = listed string_field r.authors.items ++ optional field r.license_file
     ++ listed string_field r.categories.items ++ listed string_field r.keywords.items
@@ -69,8 +70,8 @@ package_details r = listed string_field r.authors.items ++ optional field r.lice
     ++ listed string_field r.optional_deps.keys
     ++ listed target_text r.build_targets.items
 
+-- what a reader asks for first
 abbrev pub package_text : PackageRecord → List ℕ
 package_text r = field r.id ++ string_field r.name ++ version_field r.version
     ++ source_text r.source ++ field r.manifest_path ++ string_field r.edition
     ++ optional string_field r.description ++ optional string_field r.license ++ optional string_field r.repository
-    ++ field (package_details r)

@@ -3,7 +3,7 @@ ghost use Rattle.std.specs.Prelude.{◌≡◌, ◌++◌, ◌∷◌, [], OnOk, st
 ghost use Rattle.guppy_wire.specs.Parts.{listed, string_field};
 ghost use Rattle.guppy_wire.specs.Package.{feature_dep_text, named_feature_text, package_details, package_text, publish_text, source_text, target_id_text, target_kind_text, target_text};
 
-use crate::parts::{Tell, push_count, push_field, push_flag, push_list, push_optional};
+use crate::parts::{Tell, push_count, push_flag, push_list, push_optional};
 use guppy_data::{
     BuildTargetKindRecord, BuildTargetRecord, NamedFeatureDep, OwnedBuildTargetId,
     PackagePublishRecord, PackageRecord, PackageSourceRecord,
@@ -136,8 +136,12 @@ impl Tell for BuildTargetRecord {
     }
 }
 
-// Adds where the package and what is written of it can be found.
-fn push_details(alloc: Global, text: &mut String, package: &PackageRecord) -> Result<(), AllocError>
+/// Adds what isn't among the first that a reader asks for of a package, but for its free table.
+pub(crate) fn push_details(
+    alloc: Global,
+    text: &mut String,
+    package: &PackageRecord,
+) -> Result<(), AllocError>
     ensures { OnOk result (string_bytes text.new
         ≡ string_bytes text.old ++ package_details «package».now) }
 {
@@ -161,8 +165,6 @@ impl Tell for PackageRecord {
     ghost told = { package_text };
 
     fn tell(&self, alloc: Global, text: &mut String) -> Result<(), AllocError> {
-        let mut details = String::with_capacity(alloc, 1 << 9)?;
-        push_details(alloc, &mut details, self)?;
         self.id.tell(alloc, text)?;
         self.name.tell(alloc, text)?;
         self.version.tell(alloc, text)?;
@@ -171,7 +173,6 @@ impl Tell for PackageRecord {
         self.edition.tell(alloc, text)?;
         push_optional(alloc, text, &self.description)?;
         push_optional(alloc, text, &self.license)?;
-        push_optional(alloc, text, &self.repository)?;
-        push_field(text, details.as_str())
+        push_optional(alloc, text, &self.repository)
     }
 }

@@ -7,7 +7,7 @@ ghost use Rattle.std.specs.Prelude.{◌≡◌, ◌≤◌, ◌+◌, ◌++◌, len
 pub struct RecordsText {
     pub(crate) front: String,
     pub(crate) links: String,
-    pub(crate) back: String,
+    pub(crate) details: String,
 }
 
 // Writes a text behind the first of the bytes.
@@ -29,7 +29,7 @@ impl RecordsText {
         ensures none { result ≡ None → 2 ^ 64 ≤ length (text_in self.now) }
     {
         let first = self.front.len().checked_add(self.links.len())?;
-        first.checked_add(self.back.len())
+        first.checked_add(self.details.len())
     }
 
     /// Writes the text to the front of the bytes. Time linear in it.
@@ -39,6 +39,10 @@ impl RecordsText {
     {
         write_at(out, 0, self.front.as_str());
         write_at(out, self.front.len(), self.links.as_str());
-        write_at(out, self.front.len() + self.links.len(), self.back.as_str());
+        write_at(
+            out,
+            self.front.len() + self.links.len(),
+            self.details.as_str(),
+        );
     }
 }

@@ -21,8 +21,8 @@ pub(super) struct Decoded {
     // By position, in the order of the JSON.
     pub(super) default_members: Vec<usize>,
     table: Later<JsonValue>,
-    // Where those of packages begin in the text.
-    pub(super) tables: usize,
+    // Where the details of packages begin in the text.
+    pub(super) details: usize,
     pub(super) packages: Vec<Package>,
     positions: Positions,
     pub(super) ends: Vec<Ends>,
@@ -80,7 +80,6 @@ impl Parts<'_> {
             description: self.optional(),
             license: self.optional(),
             repository: self.optional(),
-            details: self.field(),
         })
     }
 
@@ -112,8 +111,8 @@ impl Parts<'_> {
         }
     }
 
-    /// Passes over a package, and tells where its details stand.
-    pub(super) fn package_in_short(&mut self) -> Span {
+    /// Passes over a package.
+    pub(super) fn pass_package(&mut self) {
         // The ID, the name and the version.
         (0..3).for_each(|_| self.pass());
         self.source();
@@ -121,7 +120,6 @@ impl Parts<'_> {
         (0..2).for_each(|_| self.pass());
         // The description, the license and the repository.
         (0..3).for_each(|_| self.pass_optional());
-        self.field()
     }
 
     /// Passes over a link, and tells where its details stand.
@@ -180,18 +178,19 @@ impl Decoded {
     pub(super) fn of(text: String) -> Result<Self, Error> {
         let mut parts = Parts::at(&text, 0);
         let workspace = parts.workspace();
+        let table = Later::of(parts.field());
         let packages = parts.packages()?;
         let positions = positions(&packages)?;
         let (ends, links) = parts.links(&positions)?;
-        let table = parts.field();
+        let details = parts.place();
         let defaults = workspace.default_members.iter();
         let defaults =
             defaults.map(|id| Ok(position(&positions, id.of(&text), "default member")? as usize));
         Ok(Decoded {
             default_members: defaults.collect::<Result<_, Error>>()?,
             workspace,
-            table: Later::of(table),
-            tables: table.end(),
+            table,
+            details,
             firm: links.iter().map(|link| !link.is_dev_only()).collect(),
             packages,
             positions,

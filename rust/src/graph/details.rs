@@ -54,10 +54,10 @@ impl Details {
         });
         let mut parts = Parts::at(&text, 0);
         parts.workspace();
-        let packages = parts.list(|parts| Later::of(parts.package_in_short()));
-        let links = parts.list(|parts| Later::of(parts.link_in_short()));
         let _table_of_workspace = parts.field();
-        let tables = parts.list(|parts| Later::of(parts.field()));
+        let count = parts.pass_list(Parts::pass_package);
+        let links = parts.list(|parts| Later::of(parts.link_in_short()));
+        let (packages, tables) = parts.details_of(count);
         Details {
             packages,
             links,
@@ -69,11 +69,10 @@ impl Details {
     /// Those that the text has of which the rest was decoded.
     pub(super) fn within(decoded: &Decoded) -> Self {
         let text = Arc::clone(&decoded.text);
-        let packages = decoded.packages.iter();
-        let packages = packages.map(|package| Later::of(package.details)).collect();
         let links = decoded.links.iter();
         let links = links.map(|link| Later::of(link.version_req.part)).collect();
-        let tables = Parts::at(&text, decoded.tables).list(|parts| Later::of(parts.field()));
+        let mut parts = Parts::at(&text, decoded.details);
+        let (packages, tables) = parts.details_of(decoded.packages.len());
         Details {
             packages,
             links,
@@ -242,6 +241,12 @@ impl<'t> Parts<'t> {
 }
 
 impl Parts<'_> {
+    // Where the details of so many packages stand, and their free tables.
+    fn details_of(&mut self, count: usize) -> (Vec<Later<PackageDetails>>, Vec<Later<JsonValue>>) {
+        let one = |_| (Later::of(self.field()), Later::of(self.field()));
+        (0..count).map(one).unzip()
+    }
+
     fn texts(&mut self) -> Vec<String> {
         self.list(|parts| parts.text().to_owned())
     }

@@ -21,7 +21,6 @@ pub(super) struct Package {
     pub(super) description: Option<Span>,
     pub(super) license: Option<Span>,
     pub(super) repository: Option<Span>,
-    pub(super) details: Span,
 }
 
 impl Package {

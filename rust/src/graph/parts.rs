@@ -114,10 +114,11 @@ impl<'t> Parts<'t> {
         Platforms::Specs(self.list(|parts| TargetSpec::as_written(parts.text())))
     }
 
-    /// Passes over a list, each item of which the function passes over.
-    pub(super) fn pass_list(&mut self, pass: impl Fn(&mut Self)) {
+    /// Passes over a list, each item of which the function passes over, and tells how many there are.
+    pub(super) fn pass_list(&mut self, pass: impl Fn(&mut Self)) -> usize {
         let count = self.number(b';');
         (0..count).for_each(|_| pass(self));
+        count
     }
 
     /// Passes over a text.
